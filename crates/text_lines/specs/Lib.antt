@@ -1,0 +1,5 @@
+pub mod Units
+pub mod Lines
+pub mod Positions
+pub mod Walked
+pub mod Starts

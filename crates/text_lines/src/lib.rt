@@ -1,0 +1,13 @@
+// Positions in a text as LSP 3.17 counts them, in units of UTF-8, UTF-16 and UTF-32, and edits of a text between them.
+#![tactic(auto)]
+
+mod chars;
+mod encoding;
+mod pos;
+mod table;
+mod walk;
+
+pub use encoding::Encoding;
+pub use pos::Pos;
+pub use table::LineTable;
+pub use walk::Walk;
