@@ -10,7 +10,7 @@ use Rattle.std.specs.List.{count_by}
 use Rattle.std.specs.List.Sorted.{IsPartitionPoint}
 use Rattle.std.specs.Str.{IsUtf8, chars}
 use Rattle.text_lines.proofs.Fronts.{front_at}
-use Rattle.text_lines.proofs.LineFronts.{length_encodes}
+use Rattle.text_lines.proofs.Bytes.{bytes_of}
 use Rattle.text_lines.proofs.Starts.{later_starts, line_starts_later}
 use Rattle.text_lines.specs.Lines.{Lines, Last, Ended, lines, is_line_end}
 use Rattle.text_lines.specs.Positions.{line_starts, starts_after, pos_in, pos_at}
@@ -110,9 +110,6 @@ few_later at [] = omega arith
 few_later at (c ∷ rest) =
     let few = few_step (at + len_utf8 c) (units Utf8 rest) rest (is_line_end c rest) (few_later (at + len_utf8 c) rest) in
     omega (arith, few, len_utf8_bounds c)
-
-bytes_of : (text : List ℕ) → IsUtf8 text → units Utf8 (chars text) ≡ length text
-bytes_of text utf8 = sym (length_encodes (chars text)) ∙ ap length (encodes-chars text utf8)
 
 pub are_starts : (text : List ℕ) → IsUtf8 text → length text ≤ 4290772992 → AreStarts (line_starts text)
 are_starts text utf8 short = subst AreStarts (sym (line_starts_later text)) (record {

@@ -1,5 +1,8 @@
+pub mod Bytes
 pub mod Starts
 pub mod Walked
 pub mod Fronts
 pub mod LineFronts
 pub mod Counts
+pub mod Sought
+pub mod Cuts

@@ -7,32 +7,25 @@ use Rattle.std.proofs.lemmas.List.{get_or_default}
 use lib.Utf8.{scalars, scalar, encodes, encode}
 use Rattle.std.specs.Char.{len_utf8}
 use Rattle.std.specs.Str.{IsUtf8, IsCharBoundary, chars}
+use Rattle.text_lines.proofs.Bytes.{length_encodes, scalars_behind}
 use Rattle.text_lines.proofs.Fronts.{IsFront, front_at, same_walked}
+use Rattle.text_lines.proofs.Sought.{sought_here, offset_of_sought}
 use Rattle.text_lines.proofs.Starts.{later_starts, line_starts_later}
 use Rattle.text_lines.proofs.Walked.{pos_at_walked}
-use Rattle.text_lines.specs.Positions.{line_starts}
-use Rattle.text_lines.specs.Units.{units}
-use Rattle.text_lines.specs.Walked.{walked, pos_from, IsPlaceIn}
+use Rattle.text_lines.specs.Positions.{line_starts, offset_of}
+use Rattle.text_lines.specs.Lines.{content}
+use Rattle.text_lines.specs.Units.{units, fitting}
+use Rattle.text_lines.specs.Walked.{walked, sought, pos_from, IsPlaceIn}
 use Rattle.text_lines.specs.declared.encoding.Encoding.{Encoding}
 use Rattle.text_lines.specs.declared.encoding.Encoding.TheVariants.{Utf8}
 use Rattle.text_lines.specs.declared.walk.Place.{Place}
-
-pub length_encodes : (cs : List ℕ) → length (encodes cs) ≡ units Utf8 cs
-length_encodes [] = refl
-length_encodes (c ∷ rest) = length-append (encode c) (encodes rest) ∙ ap (λ n. n + length (encodes rest)) (length-encode c) ∙ ap (λ n. len_utf8 c + n) (length_encodes rest)
-
-and_second : (a b : Bool) → (a && b) ≡ true → b ≡ true
-and_second true b h = h
-and_second false b h = cc
-
-pub scalars_behind : (xs ys : List ℕ) → scalars (xs ++ ys) ≡ true → scalars ys ≡ true
-scalars_behind [] ys h = h
-scalars_behind (x ∷ xs) ys h = scalars_behind xs ys (and_second (scalar x) _ h)
 
 -- line i of a text begins at the byte s
 pub record IsLineFront (text : List ℕ) (i s : ℕ) : Type 0 where
   pub boundary : IsCharBoundary text s
   pub place : (enc : Encoding) (p : Place) → p.rest.now ≡ drop s text → p.at ≡ s → p.line ≡ i → p.character ≡ 0 → IsPlaceIn text enc p
+  pub seeks : (enc : Encoding) (u : ℕ) (rest : List ℕ) → rest ≡ drop s text
+      → s + units Utf8 (fitting enc u (content (chars rest))) ≡ offset_of text (record { line = i; character = u }) enc
 
 told : (enc : Encoding) (p : Place) (i s k : ℕ) (after behind : List ℕ) → chars after ≡ behind
     → p.rest.now ≡ after → p.at ≡ s → p.line ≡ i → p.character ≡ 0 → pos_from enc p k ≡ walked enc i 0 (k - s) behind
@@ -52,10 +45,23 @@ placed text enc p i s behind short rises within reads tells rest at line charact
   tells = λ k h. told enc p i s k (drop s text) behind reads rest at line character ∙ tells k (omega arith) ∙ pos_at_walked text k enc;
 }
 
+seek : (text : List ℕ) (enc : Encoding) (u i s : ℕ) (rest behind : List ℕ) → chars rest ≡ behind → sought enc i u (chars text) ≡ s + sought enc 0 u behind
+    → s + units Utf8 (fitting enc u (content (chars rest))) ≡ offset_of text (record { line = i; character = u }) enc
+seek text enc u i s rest behind reads found =
+    ap (λ cs. s + units Utf8 (fitting enc u (content cs))) reads ∙ ap (λ n. s + n) (sym (sought_here enc u behind))
+        ∙ sym found ∙ offset_of_sought text (record { line = i; character = u }) enc
+
+sought_from : {cs : List ℕ} (enc : Encoding) (u j s : ℕ) (f : IsFront cs 0 j s) → sought enc (suc j) u cs ≡ s + sought enc 0 u f.behind
+sought_from {cs} enc u j s f =
+    let same : sought enc (suc j) u cs ≡ sought enc (j + 1) u cs = ap (λ n. sought enc n u cs) (omega arith) in
+    let found = f.seeks enc u in
+    omega (arith, same, found, f.bytes)
+
 first_front : (text : List ℕ) → IsUtf8 text → length text ≤ 4290772992 → IsLineFront text 0 0
 first_front text utf8 short = record {
   boundary = IsCharBoundary-start text utf8;
   place = λ enc p. placed text enc p 0 0 (chars text) short (omega arith) (omega arith) refl (λ k h. ap (λ m. walked enc 0 0 m (chars text)) (sub-zero k));
+  seeks = λ enc u rest e. seek text enc u 0 0 rest (chars text) (ap chars e) (sym (zero-add (sought enc 0 u (chars text))));
 }
 
 spelled : (text : List ℕ) (j s : ℕ) → IsUtf8 text → (f : IsFront (chars text) 0 j s) → text ≡ encodes f.before ++ encodes f.behind
@@ -81,6 +87,7 @@ later_front text j s utf8 short f =
       place = λ enc p. placed text enc p (suc j) s f.behind short (omega (arith, f.rises, f.bytes)) (omega (arith, ap length spell, whole, bytes))
           (ap chars after ∙ chars-encodes f.behind scalar_behind)
           (λ k h. same_walked enc _ _ _ _ f.behind (omega arith) (omega (arith, f.bytes)) ∙ sym (f.tells enc 0 0 k (omega (arith, f.bytes))));
+      seeks = λ enc u rest e. seek text enc u (suc j) s rest f.behind (ap chars (e ∙ after) ∙ chars-encodes f.behind scalar_behind) (sought_from enc u j s f);
     }
 
 by_line : (text : List ℕ) (i : ℕ) → IsUtf8 text → length text ≤ 4290772992 → i < length (0 ∷ later_starts 0 (chars text))

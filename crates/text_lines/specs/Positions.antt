@@ -1,5 +1,5 @@
 -- The position of a byte of a text, and the byte of a position (LSP 3.17, Position).
-use Rattle.std.specs.Prelude.{ℕ, ◌+◌, ◌-◌, nat_lt, ◌==◌, cond, List, [], ◌∷◌}
+use Rattle.std.specs.Prelude.{◌≡◌, ◌++◌, Option, Some, None, ℕ, ◌+◌, ◌-◌, nat_lt, ◌==◌, cond, List, [], ◌∷◌}
 use Rattle.std.specs.Str.{chars}
 use Rattle.text_lines.specs.declared.encoding.Encoding.{Encoding}
 use Rattle.text_lines.specs.declared.encoding.Encoding.TheVariants.{Utf8}
@@ -41,3 +41,17 @@ starts_after at (Ended line more) = (at + units Utf8 line) ∷ starts_after (at 
 -- the bytes at which the lines of a text begin
 unfoldable pub line_starts : List ℕ → List ℕ
 line_starts text = 0 ∷ starts_after 0 (lines (chars text))
+
+-- the n-th of these lines, counted from 0
+abbrev pub line_at : Lines → ℕ → Option (List ℕ)
+line_at (Last line) n = cond (n == 0) (Some line) None
+line_at (Ended line more) n = cond (n == 0) (Some line) (line_at more (n - 1))
+
+-- a position that is a place of the text: its line's end before the end mark, or the front of a code point before that
+pub record IsPlace (text : List ℕ) (pos : Pos) (enc : Encoding) : Type 0 where
+  pub line : List ℕ
+  pub before : List ℕ
+  pub behind : List ℕ
+  pub found : line_at (lines (chars text)) pos.line ≡ Some line
+  pub parts : content line ≡ before ++ behind
+  pub counted : units enc before ≡ pos.character

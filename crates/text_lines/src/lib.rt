@@ -4,6 +4,7 @@
 mod chars;
 mod encoding;
 mod pos;
+mod seek;
 mod table;
 mod walk;
 

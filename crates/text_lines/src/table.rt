@@ -1,11 +1,16 @@
 // A table of the places at which the lines of a text begin.
-ghost use Rattle.std.specs.Prelude.{◌≡◌, ℕ, ◌≤◌, ◌<◌, List, length, drop, slice_index, nat_le, count_by, IfOk};
-ghost use Rattle.text_lines.specs.Positions.{line_starts, pos_at};
+ghost use Rattle.std.specs.Prelude.{◌≡◌, ℕ, ◌+◌, ◌≤◌, ◌<◌, List, length, drop, slice_index, nat_le, count_by, IfOk};
+ghost use Rattle.std.specs.Str.{chars, IsCharBoundary};
+ghost use Rattle.text_lines.specs.Lines.{content};
+ghost use Rattle.text_lines.specs.Positions.{line_starts, offset_of, pos_at};
+ghost use Rattle.text_lines.specs.Units.{units, fitting};
+ghost use Rattle.text_lines.specs.declared.encoding.Encoding.TheVariants.{Utf8};
 ghost use Rattle.text_lines.specs.Walked.{IsPlaceIn};
 
 use crate::chars::{ends_line, split_first_char};
 use crate::encoding::Encoding;
 use crate::pos::Pos;
+use crate::seek::bytes_within;
 use crate::walk::Place;
 use std::alloc::{AllocError, Global};
 use std::marker::Model;
@@ -59,6 +64,22 @@ impl LineTable {
         later.partition_point(|start| *start <= offset) as u32
     }
 
+    /// The byte of a position in the text that the table is of. A place inside a code point means its front, a character past
+    /// the line's end the line's end before its mark, and a line past the last the end of the text. It costs a walk over one
+    /// line.
+    pub fn offset(&self, text: &str, pos: Pos, encoding: Encoding) -> u32
+        requires table { self.now ≡ line_starts text.now }
+        requires short { length text.now ≤ 4290772992 }
+        ensures value { result ≡ offset_of text.now pos encoding }
+        ensures boundary { IsCharBoundary text.now result }
+    {
+        if pos.line as usize >= self.starts.len() {
+            return text.len() as u32;
+        }
+        let front = self.front(text, pos.line);
+        front.at + bytes_within(front.rest, pos.character, encoding)
+    }
+
     /// The position of the byte `offset` of the text that the table is of. An offset inside a code point means the front of
     /// that code point. It costs a search in the table, and a walk over one line.
     pub fn pos(&self, text: &str, offset: u32, encoding: Encoding) -> Pos
@@ -82,6 +103,7 @@ impl LineTable {
         requires line { line < length self.now }
         ensures place { (encoding : Encoding) → IsPlaceIn text.now encoding result }
         ensures at { result.at ≡ slice_index self.now line }
+        ensures seeks { (character : ℕ) (encoding : Encoding) → result.at + units Utf8 (fitting encoding character (content (chars result.rest.now))) ≡ offset_of text.now (record { line = line; character = character }) encoding }
     {
         let at = self.starts[line as usize];
         let rest = text.split_at(at as usize).1;
