@@ -21,4 +21,3 @@ and_second false b h = cc
 pub scalars_behind : (xs ys : List ℕ) → scalars (xs ++ ys) ≡ true → scalars ys ≡ true
 scalars_behind [] ys h = h
 scalars_behind (x ∷ xs) ys h = scalars_behind xs ys (and_second (scalar x) _ h)
-

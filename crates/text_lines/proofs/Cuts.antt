@@ -1,5 +1,5 @@
 -- Each offset that a position gives is the front of a code point, or the end of the text.
-use Rattle.std.proofs.Common.{◌≡◌, ℕ, ◌+◌, ◌-◌, ◌≤◌, Bool, true, false, cond, nat_le, nat_eq, ◌||◌, length, List, [], ◌∷◌, ◌++◌, refl, ap, sym, subst, ◌∙◌, arith, length-append}
+use Rattle.std.proofs.Common.{◌≡◌, ℕ, ◌+◌, ◌-◌, Bool, true, false, cond, nat_le, nat_eq, ◌||◌, List, [], ◌∷◌, ◌++◌, refl, ap, sym, subst, ◌∙◌}
 use Rattle.std.proofs.lemmas.Str.{encodes-append, encodes-chars, scalars-chars, IsCharBoundary-at_seam}
 use lib.Utf8.{scalars, encodes}
 use Rattle.std.specs.Char.{len_utf8}
@@ -29,7 +29,7 @@ cut_past c s rest cut = record {
   before = c ∷ cut.before;
   behind = cut.behind;
   split = ap (λ cs. c ∷ cs) cut.split;
-  bytes = ap (λ n. len_utf8 c + n) cut.bytes
+  bytes = ap (λ n. len_utf8 c + n) cut.bytes;
 }
 
 cut_some : (c : ℕ) (rest xs : List ℕ) (b : Bool) → IsCut rest (units Utf8 xs) → IsCut (c ∷ rest) (units Utf8 (cond b (c ∷ xs) []))
@@ -60,7 +60,7 @@ cut_boundary text s utf8 cut =
     let spell : text ≡ encodes cut.before ++ encodes cut.behind = sym (encodes-chars text utf8) ∙ ap encodes cut.split ∙ encodes-append cut.before cut.behind in
     let fits : scalars cut.behind ≡ true = scalars_behind cut.before cut.behind (ap scalars (sym cut.split) ∙ scalars-chars text utf8) in
     subst (λ n. IsCharBoundary text n) (length_encodes cut.before ∙ cut.bytes)
-        (IsCharBoundary-at_seam text (encodes cut.before) (encodes cut.behind) spell (cut.behind, (fits, refl)))
+    (IsCharBoundary-at_seam text (encodes cut.before) (encodes cut.behind) spell (cut.behind, (fits, refl)))
 
 pub offset_boundary : (text : List ℕ) (pos : Pos) (enc : Encoding) → IsUtf8 text → IsCharBoundary text (offset_of text pos enc)
 offset_boundary text pos enc utf8 =

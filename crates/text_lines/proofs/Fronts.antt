@@ -52,7 +52,7 @@ front_here c at rest e = record {
   bytes = omega arith;
   rises = omega (arith, len_utf8_bounds c);
   tells = λ enc n u k h. walked_ended enc n u k c rest e (omega arith) ∙ same_walked enc _ _ _ _ rest (omega arith) (omega arith);
-  seeks = λ enc u. let one = sought_ended enc 0 u c rest e in omega (arith, one)
+  seeks = λ enc u. let one = sought_ended enc 0 u c rest e in omega (arith, one);
 }
 
 front_ended : (c at j s : ℕ) (rest : List ℕ) → is_line_end c rest ≡ true → IsFront rest (at + len_utf8 c) j s → IsFront (c ∷ rest) at (suc j) s
@@ -69,7 +69,7 @@ front_ended c at j s rest e f = record {
       let one = sought_ended enc (suc j) u c rest e in
       let same : sought enc (suc j) u rest ≡ sought enc (j + 1) u rest = ap (λ n. sought enc n u rest) (omega arith) in
       let later = f.seeks enc u in
-      omega (arith, one, same, later)
+      omega (arith, one, same, later);
 }
 
 front_same : (c at j s : ℕ) (rest : List ℕ) → is_line_end c rest ≡ false → IsFront rest (at + len_utf8 c) j s → IsFront (c ∷ rest) at j s
@@ -85,7 +85,7 @@ front_same c at j s rest e f = record {
   seeks = λ enc u.
       let one = sought_same enc j u c rest e in
       let later = f.seeks enc u in
-      omega (arith, one, later)
+      omega (arith, one, later);
 }
 
 front_step : (c at j : ℕ) (rest : List ℕ) (b : Bool) → is_line_end c rest ≡ b

@@ -6,3 +6,4 @@ pub mod LineFronts
 pub mod Counts
 pub mod Sought
 pub mod Cuts
+pub mod Places

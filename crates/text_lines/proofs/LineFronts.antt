@@ -1,11 +1,10 @@
 -- The front of a line of a text, found by the table of starts.
-use Rattle.std.proofs.Common.{◌≡◌, ℕ, zero, suc, ◌+◌, ◌-◌, ◌≤◌, ◌<◌, Bool, true, false, get_or, length, drop, List, [], ◌∷◌, ◌++◌, ◌&&◌, refl, ap, sym, subst, ◌∙◌, arith, zero-add, length-append, length-drop}
+use Rattle.std.proofs.Common.{◌≡◌, ℕ, zero, suc, ◌+◌, ◌-◌, ◌≤◌, ◌<◌, true, get_or, length, drop, List, ◌∷◌, ◌++◌, refl, ap, sym, subst, ◌∙◌, arith, zero-add, length-append, length-drop}
 use Rattle.std.proofs.Math.Nat.{sub-zero}
 use Rattle.std.proofs.Math.Seq.{drop-append_seam}
-use Rattle.std.proofs.lemmas.Str.{chars-encodes, encodes-append, encodes-chars, scalars-chars, length-encode, IsCharBoundary-at_seam, IsCharBoundary-start}
+use Rattle.std.proofs.lemmas.Str.{chars-encodes, encodes-append, encodes-chars, scalars-chars, IsCharBoundary-at_seam, IsCharBoundary-start}
 use Rattle.std.proofs.lemmas.List.{get_or_default}
-use lib.Utf8.{scalars, scalar, encodes, encode}
-use Rattle.std.specs.Char.{len_utf8}
+use lib.Utf8.{scalars, encodes}
 use Rattle.std.specs.Str.{IsUtf8, IsCharBoundary, chars}
 use Rattle.text_lines.proofs.Bytes.{length_encodes, scalars_behind}
 use Rattle.text_lines.proofs.Fronts.{IsFront, front_at, same_walked}
@@ -49,7 +48,7 @@ seek : (text : List ℕ) (enc : Encoding) (u i s : ℕ) (rest behind : List ℕ)
     → s + units Utf8 (fitting enc u (content (chars rest))) ≡ offset_of text (record { line = i; character = u }) enc
 seek text enc u i s rest behind reads found =
     ap (λ cs. s + units Utf8 (fitting enc u (content cs))) reads ∙ ap (λ n. s + n) (sym (sought_here enc u behind))
-        ∙ sym found ∙ offset_of_sought text (record { line = i; character = u }) enc
+    ∙ sym found ∙ offset_of_sought text (record { line = i; character = u }) enc
 
 sought_from : {cs : List ℕ} (enc : Encoding) (u j s : ℕ) (f : IsFront cs 0 j s) → sought enc (suc j) u cs ≡ s + sought enc 0 u f.behind
 sought_from {cs} enc u j s f =

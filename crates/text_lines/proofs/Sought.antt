@@ -1,14 +1,13 @@
 -- The place of a position by one code point at a time.
-use Rattle.std.proofs.Common.{◌≡◌, ℕ, zero, suc, ◌+◌, ◌-◌, ◌≤◌, ◌<◌, Bool, true, false, cond, nat_le, nat_lt, nat_eq, ◌||◌, ◌&&◌, length, List, [], ◌∷◌, ◌++◌, refl, ap, sym, ◌∙◌, inl, inr, arith}
+use Rattle.std.proofs.Common.{◌≡◌, ℕ, ◌+◌, ◌-◌, ◌≤◌, ◌<◌, Bool, true, false, cond, nat_eq, ◌||◌, ◌&&◌, length, List, [], ◌∷◌, refl, ap, sym, ◌∙◌, arith}
 use Rattle.std.proofs.lemmas.Bool.Decides.{nat_tests}
-use Rattle.std.proofs.lemmas.Str.{len_utf8_bounds, encodes-chars}
 use Rattle.std.specs.Char.{len_utf8}
 use Rattle.std.specs.Str.{IsUtf8, chars}
 use Rattle.text_lines.proofs.Bytes.{bytes_of}
 use Rattle.text_lines.proofs.Starts.{later_starts, line_starts_later}
 use Rattle.text_lines.specs.Lines.{Lines, Last, Ended, lines, after_char, is_line_end, content}
 use Rattle.text_lines.specs.Positions.{offset_in, offset_of, line_starts}
-use Rattle.text_lines.specs.Units.{units, fitting, code_units}
+use Rattle.text_lines.specs.Units.{units, fitting}
 use Rattle.text_lines.specs.Walked.{sought}
 use Rattle.text_lines.specs.declared.encoding.Encoding.{Encoding}
 use Rattle.text_lines.specs.declared.encoding.Encoding.TheVariants.{Utf8}
@@ -18,7 +17,7 @@ abbrev first_line : Lines → List ℕ
 first_line (Last line) = line
 first_line (Ended line more) = line
 
-or_weaker : (a b d : Bool) → (a || (b && d)) ≡ true → (a || b) ≡ true
+pub or_weaker : (a b d : Bool) → (a || (b && d)) ≡ true → (a || b) ≡ true
 or_weaker true b d h = refl
 or_weaker false true d h = refl
 or_weaker false false d h = cc
@@ -100,7 +99,7 @@ sought_past : (enc : Encoding) (at n u : ℕ) (cs : List ℕ) → length (later_
 sought_past enc at n u [] h = refl
 sought_past enc at n u (c ∷ rest) h =
     sought_later enc n u c rest (grind (arith, nat_tests))
-        ∙ ap (λ m. len_utf8 c + m) (sought_past enc (at + len_utf8 c) (cond (is_line_end c rest) (n - 1) n) u rest (past_step (at + len_utf8 c) n rest (is_line_end c rest) h))
+    ∙ ap (λ m. len_utf8 c + m) (sought_past enc (at + len_utf8 c) (cond (is_line_end c rest) (n - 1) n) u rest (past_step (at + len_utf8 c) n rest (is_line_end c rest) h))
 
 pub offset_past : (text : List ℕ) (pos : Pos) (enc : Encoding) → IsUtf8 text → length (line_starts text) ≤ pos.line → length text ≡ offset_of text pos enc
 offset_past text pos enc utf8 h =

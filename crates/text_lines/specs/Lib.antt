@@ -3,3 +3,4 @@ pub mod Lines
 pub mod Positions
 pub mod Walked
 pub mod Starts
+pub mod Edits

@@ -27,7 +27,7 @@ abbrev pub sought : Encoding → ℕ → ℕ → List ℕ → ℕ
 sought enc n character [] = 0
 sought enc n character (c ∷ rest) =
     cond (n == 0) (units Utf8 (fitting enc character (content (c ∷ rest))))
-        (len_utf8 c + sought enc (cond (is_line_end c rest) (n - 1) n) character rest)
+    (len_utf8 c + sought enc (cond (is_line_end c rest) (n - 1) n) character rest)
 
 -- the position of the byte k of a text, told from a place in front of it
 abbrev pub pos_from : Encoding → Place → ℕ → Pos

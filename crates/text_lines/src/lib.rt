@@ -2,13 +2,19 @@
 #![tactic(auto)]
 
 mod chars;
+mod edit;
 mod encoding;
 mod pos;
 mod seek;
 mod table;
+#[cfg(test)]
+mod tests;
+#[cfg(test)]
+mod vectors;
 mod walk;
 
+pub use edit::{Change, ChangeText, EditError, apply};
 pub use encoding::Encoding;
-pub use pos::Pos;
+pub use pos::{Pos, places_read_back};
 pub use table::LineTable;
 pub use walk::Walk;

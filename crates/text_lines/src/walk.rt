@@ -99,6 +99,7 @@ impl<'a> Place<'a> {
 }
 
 /// A walk over a text, for positions that are asked in rising order: all together cost one pass over it.
+#[derive(Drop)]
 pub struct Walk<'a> {
     text: &'a str,
     encoding: Encoding,

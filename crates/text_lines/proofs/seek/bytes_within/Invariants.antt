@@ -11,7 +11,7 @@ abbrev pub invariant-loop-c : goal.invariant-loop-c
 invariant-loop-c l = record {
   text : shadow (IsText l.rest);
   fits : l.at + units Utf8 (fitting l.encoding l.left (content (chars l.rest))) ≡ units Utf8 (fitting l.encoding l.fn.character (content (chars l.fn.rest)));
-  bytes : l.at + length l.rest ≡ length l.fn.rest
+  bytes : l.at + length l.rest ≡ length l.fn.rest;
 }
 
 abbrev pub decreases-loop-c : goal.decreases-loop-c

@@ -10,7 +10,7 @@ abbrev pub invariant-loop-c : goal.invariant-loop-c
 invariant-loop-c l = record {
   text : shadow (IsText l.rest);
   seeks : (encoding : Encoding) (character : ℕ) → sought encoding l.line character (chars l.text) ≡ l.at + sought encoding l.left character (chars l.rest);
-  bytes : l.at + length l.rest ≡ length l.text
+  bytes : l.at + length l.rest ≡ length l.text;
 }
 
 abbrev pub decreases-loop-c : goal.decreases-loop-c

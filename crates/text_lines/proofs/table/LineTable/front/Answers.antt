@@ -27,7 +27,7 @@ pub returns-clause-seeks : goal.returns-clause-seeks
 returns-clause-seeks c character encoding =
     let within : c.args.line < length (line_starts c.args.text.now) = subst (λ starts. c.args.line < length starts) c.requires.table c.requires.line in
     let at : c.index-at.result.now ≡ get_or (line_starts c.args.text.now) c.args.line 0 =
-        start_read _ _ _ _ _ c.self.view_is c.requires.table c.requires.line c.index-at.ensures in
+    start_read _ _ _ _ _ c.self.view_is c.requires.table c.requires.line c.index-at.ensures in
     ap (λ s. s + units Utf8 (fitting encoding character (content (chars c.split_at.result.1.now)))) at
-        ∙ (line_front c.args.text.now c.args.line c.utf8.text c.requires.short within).seeks encoding character _
-            (c.split_at.ensures.back ∙ ap (λ s. drop s c.args.text.now) at)
+    ∙ (line_front c.args.text.now c.args.line c.utf8.text c.requires.short within).seeks encoding character _
+    (c.split_at.ensures.back ∙ ap (λ s. drop s c.args.text.now) at)

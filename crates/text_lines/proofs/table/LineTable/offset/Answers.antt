@@ -8,8 +8,8 @@ use Rattle.text_lines.proofs.table.LineTable.offset.Goals as goal
 pub returns-then-pos-len-clause-value : goal.returns-then-pos-len-clause-value
 returns-then-pos-len-clause-value c =
     let past : length (line_starts c.args.text.now) ≤ c.args.pos.line =
-        let size : length c.self.inside.starts.items ≡ vec_len c.self.inside.starts = search rules in
-        omega (arith, size, ap length (c.self.view_is ∙ c.requires.table)) in
+    let size : length c.self.inside.starts.items ≡ vec_len c.self.inside.starts = search rules in
+    omega (arith, size, ap length (c.self.view_is ∙ c.requires.table)) in
     offset_past c.args.text.now c.args.pos c.args.encoding c.utf8.text past
 
 pub bytes_within-requires : goal.bytes_within-requires
