@@ -94,10 +94,16 @@ by_line : (text : List ℕ) (i : ℕ) → IsUtf8 text → length text ≤ 429077
 by_line text zero utf8 short h = first_front text utf8 short
 by_line text (suc j) utf8 short h = later_front text j _ utf8 short (front_at 0 j (chars text) (omega arith))
 
-pub line_front : (text : List ℕ) (i : ℕ) → IsUtf8 text → length text ≤ 4290772992 → i < length (line_starts text) → IsLineFront text i (get_or (line_starts text) i 0)
+line_front : (text : List ℕ) (i : ℕ) → IsUtf8 text → length text ≤ 4290772992 → i < length (line_starts text) → IsLineFront text i (get_or (line_starts text) i 0)
 line_front text i utf8 short h = rw line_starts_later (by_line text i utf8 short (subst (λ starts. i < length starts) (line_starts_later text) h))
 
 -- what a read of the table gives
-pub start_read : (items now starts : List ℕ) (i s : ℕ) → items ≡ now → now ≡ starts → i < length now → s ≡ get_or items i s → s ≡ get_or starts i 0
+start_read : (items now starts : List ℕ) (i s : ℕ) → items ≡ now → now ≡ starts → i < length now → s ≡ get_or items i s → get_or starts i 0 ≡ s
 start_read items now starts i s seen e within read =
-    read ∙ ap (λ xs. get_or xs i s) (seen ∙ e) ∙ get_or_default starts i s 0 (subst (λ xs. i < length xs) e within)
+    sym (read ∙ ap (λ xs. get_or xs i s) (seen ∙ e) ∙ get_or_default starts i s 0 (subst (λ xs. i < length xs) e within))
+
+pub front_read : (text items now : List ℕ) (i s : ℕ) → IsUtf8 text → length text ≤ 4290772992
+    → items ≡ now → now ≡ line_starts text → i < length now → s ≡ get_or items i s → IsLineFront text i s
+front_read text items now i s utf8 short seen e within read =
+    subst (λ start. IsLineFront text i start) (start_read items now (line_starts text) i s seen e within read)
+    (line_front text i utf8 short (subst (λ xs. i < length xs) e within))

@@ -90,6 +90,16 @@ pub offset_of_sought : (text : List ℕ) (pos : Pos) (enc : Encoding) → sought
 unfolding offset_of
 offset_of_sought text pos enc = sym (offset_sought enc pos.line pos.character (chars text))
 
+-- what a walk to a line and one along it find
+pub found_on : (text : List ℕ) (pos : Pos) (enc : Encoding) (s bytes : ℕ) (behind : List ℕ)
+    → sought enc pos.line pos.character (chars text) ≡ s + sought enc 0 pos.character behind
+    → bytes ≡ units Utf8 (fitting enc pos.character (content behind)) → s + bytes ≡ offset_of text pos enc
+found_on text pos enc s bytes behind found e =
+    ap (λ n. s + n) (e ∙ sym (sought_here enc pos.character behind)) ∙ sym found ∙ offset_of_sought text pos enc
+
+pub same_sought : (enc : Encoding) (n m u : ℕ) (cs : List ℕ) → n ≡ m → sought enc n u cs ≡ sought enc m u cs
+same_sought enc n m u cs e = ap (λ k. sought enc k u cs) e
+
 -- a line past the last
 past_step : (at n : ℕ) (rest : List ℕ) (b : Bool) → length (cond b (at ∷ later_starts at rest) (later_starts at rest)) < n → length (later_starts at rest) < cond b (n - 1) n
 past_step at n rest true h = omega arith

@@ -4,10 +4,11 @@ ghost use Rattle.std.specs.List.{replace_range};
 ghost use Rattle.std.specs.Str.{IsCharBoundary};
 ghost use Rattle.std.specs.String.{string_bytes};
 ghost use Rattle.text_lines.specs.Edits.{edited, IsReversed};
+ghost use Rattle.text_lines.specs.Positions.{offset_of};
 
 use crate::encoding::Encoding;
 use crate::pos::Pos;
-use crate::seek::offset_in;
+use crate::seek::offsets_in;
 use std::marker::Model;
 
 /// The most bytes that a text may have after an edit.
@@ -63,6 +64,21 @@ pub enum EditError {
     NoMemory,
 }
 
+/// The bytes of a range's start and of its end, in one walk from the earlier line to the later one.
+fn ends_of(text: &str, start: Pos, end: Pos, encoding: Encoding) -> (u32, u32)
+    requires { length text.now ≤ 4290772992 }
+    ensures start { result.0 ≡ offset_of text.now start encoding }
+    ensures end { result.1 ≡ offset_of text.now end encoding }
+    ensures start_boundary { IsCharBoundary text.now result.0 }
+    ensures end_boundary { IsCharBoundary text.now result.1 }
+{
+    if start.line <= end.line {
+        return offsets_in(text, start, end, encoding);
+    }
+    let (end, start) = offsets_in(text, end, start, encoding);
+    (start, end)
+}
+
 /// The bytes that a change replaces: where they start, and where they end.
 fn range_of(text: &str, change: &Change, encoding: Encoding) -> (u32, u32)
     requires { length text.now ≤ 4290772992 }
@@ -72,15 +88,12 @@ fn range_of(text: &str, change: &Change, encoding: Encoding) -> (u32, u32)
     ensures end { IsCharBoundary text.now result.1 }
 {
     match change.range {
-        Some((start, end)) => (
-            offset_in(text, start, encoding),
-            offset_in(text, end, encoding),
-        ),
+        Some((start, end)) => ends_of(text, start, end, encoding),
         None => (0, text.len() as u32),
     }
 }
 
-/// Makes a change in a text. It costs a walk to each of the two positions, and one copy of what follows the start.
+/// Makes a change in a text. It costs one walk up to the range's end, and a copy of what follows it.
 pub fn apply(text: &mut String, change: &Change, encoding: Encoding) -> Result<(), EditError>
     requires { length (string_bytes text.old) ≤ 4290772992 }
     ensures ok { OnOk result (string_bytes text.new ≡ edited (string_bytes text.old) change.now encoding) }

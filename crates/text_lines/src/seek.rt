@@ -38,7 +38,7 @@ pub(crate) fn bytes_within(rest: &str, character: u32, encoding: Encoding) -> u3
 /// What follows the front of a line, or the end of a text that has no such line, with the bytes in front of it.
 fn nth_line(text: &str, line: u32) -> (u32, &str)
     requires { length text.now ≤ 4290772992 }
-    ensures seeks { (encoding : Encoding) (character : ℕ) → sought encoding line character (chars text.now) ≡ result.0 + sought encoding 0 character (chars result.1.now) }
+    ensures seeks { (encoding : Encoding) (more : ℕ) (character : ℕ) → sought encoding (line + more) character (chars text.now) ≡ result.0 + sought encoding more character (chars result.1.now) }
     ensures bytes { result.0 + length result.1.now ≡ length text.now }
 {
     let mut at: u32 = 0;
@@ -57,12 +57,18 @@ fn nth_line(text: &str, line: u32) -> (u32, &str)
     (at, rest)
 }
 
-/// The byte of a position in a text, sought from the front of the text.
-pub(crate) fn offset_in(text: &str, pos: Pos, encoding: Encoding) -> u32
-    requires { length text.now ≤ 4290772992 }
-    ensures value { result ≡ offset_of text.now pos encoding }
-    ensures boundary { IsCharBoundary text.now result }
+/// The bytes of two positions in a text, the second on the line of the first or on a later one, in one walk over the text.
+pub(crate) fn offsets_in(text: &str, first: Pos, second: Pos, encoding: Encoding) -> (u32, u32)
+    requires short { length text.now ≤ 4290772992 }
+    requires order { first.line ≤ second.line }
+    ensures first { result.0 ≡ offset_of text.now first encoding }
+    ensures second { result.1 ≡ offset_of text.now second encoding }
+    ensures first_boundary { IsCharBoundary text.now result.0 }
+    ensures second_boundary { IsCharBoundary text.now result.1 }
 {
-    let (at, rest) = nth_line(text, pos.line);
-    at + bytes_within(rest, pos.character, encoding)
+    let (at, rest) = nth_line(text, first.line);
+    let (more, behind) = nth_line(rest, second.line - first.line);
+    let first = at + bytes_within(rest, first.character, encoding);
+    let second = at + more + bytes_within(behind, second.character, encoding);
+    (first, second)
 }

@@ -1,5 +1,6 @@
 // A table of the places at which the lines of a text begin.
-ghost use Rattle.std.specs.Prelude.{◌≡◌, ℕ, ◌+◌, ◌≤◌, ◌<◌, List, length, drop, slice_index, nat_le, count_by, IfOk};
+ghost use Rattle.std.specs.Prelude.{◌≡◌, ℕ, ◌+◌, ◌≤◌, ◌<◌, List, length, drop, true, false, slice_index, nat_le, count_by, IfOk};
+ghost use Rattle.std.specs.List.Sorted.{IsNonDecreasing, IsPartitionPoint};
 ghost use Rattle.std.specs.Str.{chars, IsCharBoundary};
 ghost use Rattle.text_lines.specs.Lines.{content};
 ghost use Rattle.text_lines.specs.Positions.{line_starts, offset_of, pos_at};
@@ -60,8 +61,7 @@ impl LineTable {
         ensures begins { slice_index self.now result ≤ offset }
         ensures place { (text : List ℕ) (encoding : Encoding) → self.now ≡ line_starts text → result ≡ (pos_at text offset encoding).line }
     {
-        let later = self.starts.split_at(1).1;
-        later.partition_point(|start| *start <= offset) as u32
+        count_up_to(self.starts.split_at(1).1, offset) as u32
     }
 
     /// The byte of a position in the text that the table is of. A place inside a code point means its front, a character past
@@ -114,4 +114,13 @@ impl LineTable {
             character: 0,
         }
     }
+}
+
+/// How many of some offsets that stand in order are at most `offset`, by halving.
+fn count_up_to(starts: &[u32], offset: u32) -> usize
+    requires { IsNonDecreasing starts.now }
+    ensures within { result ≤ length starts.now }
+    ensures point { IsPartitionPoint (λ start. nat_le start offset ≡ true) (λ start. nat_le start offset ≡ false) starts.now result }
+{
+    starts.partition_point(|start| *start <= offset)
 }

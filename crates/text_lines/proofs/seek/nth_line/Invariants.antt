@@ -9,7 +9,7 @@ use Rattle.text_lines.proofs.seek.nth_line.Given as goal
 abbrev pub invariant-loop-c : goal.invariant-loop-c
 invariant-loop-c l = record {
   text : shadow (IsText l.rest);
-  seeks : (encoding : Encoding) (character : ℕ) → sought encoding l.line character (chars l.text) ≡ l.at + sought encoding l.left character (chars l.rest);
+  seeks : (encoding : Encoding) (more character : ℕ) → sought encoding (l.line + more) character (chars l.text) ≡ l.at + sought encoding (l.left + more) character (chars l.rest);
   bytes : l.at + length l.rest ≡ length l.text;
 }
 
