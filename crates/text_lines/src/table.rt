@@ -34,8 +34,8 @@ impl Model for LineTable {
 }
 
 impl LineTable {
-    #[tactic(auto, using(crate::proofs::Starts::line_starts_later))]
     /// The table of a text, made in one walk over it.
+    #[tactic(auto, using(crate::proofs::Starts::line_starts_later))]
     pub fn new(alloc: Global, text: &str) -> Result<LineTable, AllocError>
         requires { length text.now ≤ 4290772992 }
         ensures { IfOk result (λ table. table ≡ line_starts text.now) }
