@@ -4,3 +4,4 @@ pub mod Windows
 pub mod Laws
 pub mod Follow
 pub mod Answering
+pub mod Bounds

@@ -14,7 +14,7 @@ after_byte : (read : List ℕ) (line b : ℕ) (stated : Option ℕ) → Reads re
     ≡ header_from stated line (option_map_or (λ text. text ∷ lines_from [] more) (line_ended (drop line read) b) (lines_from (drop line read ++ b ∷ []) more))
 after_byte read line b stated r more = ap (λ t. header_from None 0 (lines t)) (append_assoc read (b ∷ []) more) ∙ r.goes_on (b ∷ more)
 
-ended_length : (so_far text : List ℕ) (b : ℕ) → line_ended so_far b ≡ Some text → length text + 1 ≡ length so_far
+pub ended_length : (so_far text : List ℕ) (b : ℕ) → line_ended so_far b ≡ Some text → length text + 1 ≡ length so_far
 unfolding line_ended
 ended_length [] text b e =
     elim (b == 10) as (λ (t : Bool). cond (t && false) (Some []) None ≡ Some text → length text + 1 ≡ 0) [ true ↦ λ h. cc | false ↦ λ h. cc ] e
