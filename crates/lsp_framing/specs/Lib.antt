@@ -1,0 +1,5 @@
+pub mod Lines
+pub mod Frames
+pub mod Standing
+pub mod Known
+pub mod Kinds
