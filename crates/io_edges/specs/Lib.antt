@@ -1,2 +1,3 @@
+pub mod Memory
 pub mod Store
 pub mod Wire

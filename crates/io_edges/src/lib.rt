@@ -4,6 +4,11 @@
 
 mod bytes;
 mod ends;
+mod mem_sink;
+mod mem_wire;
+mod pieces;
 
 pub use bytes::{FileBytes, PathText};
 pub use ends::{Failed, Found, Listed, Mark, Sink, Store, StoreFail, Wire};
+pub use mem_sink::MemSink;
+pub use mem_wire::MemWire;
