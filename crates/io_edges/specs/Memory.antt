@@ -1,5 +1,5 @@
 -- The ends in memory: what each holds, and what a call of it gives and leaves.
-use Rattle.std.specs.Prelude.{if◌then◌else◌, ◌+◌, ◌-◌, ◌==◌, ◌||◌, ℕ, Bool, List, [], ◌∷◌, ◌++◌, length, take, drop, min}
+use Rattle.std.specs.Prelude.{if◌then◌else◌, ◌+◌, ◌-◌, ◌==◌, ◌||◌, ℕ, Bool, List, [], ◌∷◌, ◌++◌, length, drop, min}
 use Rattle.std.specs.List.{list_any, concat}
 use Rattle.io_edges.specs.Wire.{Traffic, mark_of}
 use Rattle.io_edges.specs.declared.ends.Mark.{Mark}

@@ -7,8 +7,10 @@ mod ends;
 mod mem_sink;
 mod mem_wire;
 mod pieces;
+mod std_ends;
 
 pub use bytes::{FileBytes, PathText};
 pub use ends::{Failed, Found, Listed, Mark, Sink, Store, StoreFail, Wire};
 pub use mem_sink::MemSink;
 pub use mem_wire::MemWire;
+pub use std_ends::{StdWire, StderrSink};

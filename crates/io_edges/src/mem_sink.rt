@@ -26,13 +26,9 @@ impl Model for MemSink {
 
     ghost Value = { MemorySink };
 
-    ghost view = {
-        λ s. record { written = s.bytes.items; most = s.most; failing = s.failing.items; calls = s.calls; faults = s.faults }
-    };
+    ghost view = { λ s. record { written = s.bytes.items; most = s.most; failing = s.failing.items; calls = s.calls; faults = s.faults } };
 
-    ghost invariant = {
-        λ s. (1 ≤ s.most) × (length s.bytes.items ≤ 4194304) × (4194304 ≤ vec_capacity s.bytes)
-    };
+    ghost invariant = { λ s. (1 ≤ s.most) × (length s.bytes.items ≤ 4194304) × (4194304 ≤ vec_capacity s.bytes) };
 }
 
 impl MemSink {
@@ -43,7 +39,13 @@ impl MemSink {
         ensures { IfOk result (λ s. s ≡ record { written = []; most = most; failing = failing.items; calls = 0; faults = 0 }) }
     {
         let bytes = Vec::with_capacity(alloc, SINK_ROOM)?;
-        Ok(MemSink { bytes, most, failing, calls: 0, faults: 0 })
+        Ok(MemSink {
+            bytes,
+            most,
+            failing,
+            calls: 0,
+            faults: 0,
+        })
     }
 
     /// The bytes written so far.

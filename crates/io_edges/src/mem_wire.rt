@@ -3,12 +3,21 @@ ghost use Rattle.std.specs.Prelude.{◌≡◌, ℕ, ◌+◌, ◌<◌, ◌≤◌,
 ghost use Rattle.std.specs.List.{concat};
 ghost use Rattle.io_edges.specs.Wire.{after_read, after_write};
 ghost use Rattle.io_edges.specs.Memory.{
-    MemoryWire, traffic, read_fails, read_takes, wire_read, wire_failed, write_fails, write_takes, sink_wrote, sink_failed,
+  MemoryWire,
+  traffic,
+  read_fails,
+  read_takes,
+  wire_read,
+  wire_failed,
+  write_fails,
+  write_takes,
+  sink_wrote,
+  sink_failed,
 };
 
 use crate::ends::{Failed, Mark, Sink, Wire};
 use crate::mem_sink::MemSink;
-use crate::pieces::{count_bytes, Pieces};
+use crate::pieces::{Pieces, count_bytes};
 use std::alloc::{AllocError, Global};
 use std::marker::Model;
 
@@ -32,43 +41,50 @@ impl Model for MemWire {
 
     ghost Value = { MemoryWire };
 
-    ghost view = {
-        λ w. record {
-            pieces = w.pieces;
-            taken = w.taken;
-            marks = w.marks.items;
-            failing = w.failing.items;
-            reads = w.reads;
-            faults = w.faults;
-            sink = w.sink;
-        }
-    };
+    ghost view = { λ w. record {
+      pieces = w.pieces;
+      taken = w.taken;
+      marks = w.marks.items;
+      failing = w.failing.items;
+      reads = w.reads;
+      faults = w.faults;
+      sink = w.sink;
+    } };
 
-    ghost invariant = {
-        λ w. (w.taken + length (concat w.pieces) ≤ 2 ^ 32) × (length w.marks.items + length (concat w.pieces) ≤ vec_capacity w.marks)
-    };
+    ghost invariant = { λ w. (w.taken + length (concat w.pieces) ≤ 2 ^ 32) × (length w.marks.items + length (concat w.pieces) ≤ vec_capacity w.marks) };
 }
 
 impl MemWire {
     /// A wire that gives these pieces, at most one per read, empty ones passed over, and that fails at the reads with
     /// the numbers in `failing`; the first read has the number 1. It takes the room for its marks as it is made.
-    pub fn new(alloc: Global, pieces: Vec<Vec<u8>>, failing: Vec<u64>, sink: MemSink) -> Result<MemWire, AllocError>
+    pub fn new(
+        alloc: Global,
+        pieces: Vec<Vec<u8>>,
+        failing: Vec<u64>,
+        sink: MemSink,
+    ) -> Result<MemWire, AllocError>
         requires { length (concat (map (λ p. p.items) pieces.items)) ≤ 2 ^ 32 }
-        ensures {
-            IfOk result (λ w. w ≡ record {
-                pieces = map (λ p. p.items) pieces.items;
-                taken = 0;
-                marks = [];
-                failing = failing.items;
-                reads = 0;
-                faults = 0;
-                sink = sink;
-            })
-        }
+        ensures { IfOk result (λ w. w ≡ record {
+          pieces = map (λ p. p.items) pieces.items;
+          taken = 0;
+          marks = [];
+          failing = failing.items;
+          reads = 0;
+          faults = 0;
+          sink = sink;
+        }) }
     {
         let marks = Vec::with_capacity(alloc, count_bytes(&pieces))?;
         let pieces = Pieces::new(pieces);
-        Ok(MemWire { pieces, taken: 0, marks, failing, reads: 0, faults: 0, sink })
+        Ok(MemWire {
+            pieces,
+            taken: 0,
+            marks,
+            failing,
+            reads: 0,
+            faults: 0,
+            sink,
+        })
     }
 
     /// The sink that it writes to.
@@ -107,7 +123,10 @@ impl Wire for MemWire {
             self.faults += 1;
             return Err(Failed);
         }
-        let mark = Mark { taken: self.taken, written: self.sink.written().len() as u64 };
+        let mark = Mark {
+            taken: self.taken,
+            written: self.sink.written().len() as u64,
+        };
         let count = self.pieces.take(into);
         if count == 0 {
             return Ok(0);
@@ -129,10 +148,8 @@ impl Wire for MemWire {
         ensures other_side { self.new.faults ≡ self.old.faults }
         ensures fails { is_err result ≡ write_fails self.old.sink }
         ensures takes { IfOk result (λ n. n ≡ write_takes self.old.sink (length bytes.now)) }
-        ensures after {
-            MatchResult result (λ n. self.new ≡ record self.old { sink = sink_wrote self.old.sink (take n bytes.now) })
-                (λ _. self.new ≡ record self.old { sink = sink_failed self.old.sink })
-        }
+        ensures after { MatchResult result (λ n. self.new ≡ record self.old { sink = sink_wrote self.old.sink (take n bytes.now) })
+            (λ _. self.new ≡ record self.old { sink = sink_failed self.old.sink }) }
     {
         self.sink.write(bytes)
     }

@@ -29,7 +29,11 @@ impl Pieces {
     pub fn new(pieces: Vec<Vec<u8>>) -> Pieces
         ensures { result ≡ map (λ p. p.items) pieces.items }
     {
-        Pieces { pieces, next: 0, at: 0 }
+        Pieces {
+            pieces,
+            next: 0,
+            at: 0,
+        }
     }
 
     /// Goes to the first piece that has bytes left.

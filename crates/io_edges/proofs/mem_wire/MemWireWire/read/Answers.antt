@@ -1,6 +1,5 @@
-use Rattle.std.proofs.Common.{rules, arith, refl, ◌≡◌, ◌∙◌, ap, sym, ℕ, ◌+◌, ◌<◌, ◌≤◌, ◌^◌, [], ◌++◌, ◌∷◌, length, take, drop, true, is_ok, length-drop, length-append, length-take}
+use Rattle.std.proofs.Common.{arith, refl, ◌∙◌, ap, sym, length, take, drop, length-drop, length-take}
 use Rattle.std.specs.List.{concat}
-use Rattle.io_edges.specs.Memory.{next_piece, traffic}
 use Rattle.io_edges.specs.contracts.mem_wire.MemWire.{the_view}
 use Rattle.io_edges.proofs.PieceLemmas.{taking_drops, next_is_front, next_within, none_at_end}
 use Rattle.io_edges.proofs.WireLemmas.{told_after, held_after}
@@ -35,10 +34,10 @@ pub returns-clause-taken : goal.returns-clause-taken
 returns-clause-taken c =
     let d = ap concat c.take-count.ensures.left ∙ taking_drops c.take-count.result c.self.inside.pieces (omega arith) in
     rw (← c.self.view_is)
-        (told_after (take c.take-count.result c.take-count.new.into) c.take-count.result c.self.inside.taken (concat c.self.inside.pieces) (concat c.take-count.new.self)
-            c.self.inside.sink.written c.self.inside.marks.items c.push_reserved.new.self.items
-            (record { taken = c.self.inside.taken; written = length c.written.result.now })
-            (omega (arith, length-take c.take-count.result c.take-count.new.into)) (omega arith) d (ap (λ k. record { taken = c.self.inside.taken; written = k }) (ap length c.written.ensures.written)) c.push_reserved.ensures.items)
+    (told_after (take c.take-count.result c.take-count.new.into) c.take-count.result c.self.inside.taken (concat c.self.inside.pieces) (concat c.take-count.new.self)
+    c.self.inside.sink.written c.self.inside.marks.items c.push_reserved.new.self.items
+    (record { taken = c.self.inside.taken; written = length c.written.result.now })
+    (omega (arith, length-take c.take-count.result c.take-count.new.into)) (omega arith) d (ap (λ k. record { taken = c.self.inside.taken; written = k }) (ap length c.written.ensures.written)) c.push_reserved.ensures.items)
 
 pub returns-clause-front : goal.returns-clause-front
 returns-clause-front c = rw (← c.self.view_is) (next_is_front c.take-count.result c.self.inside.pieces (omega arith) ∙ sym c.take-count.ensures.front)
@@ -46,6 +45,6 @@ returns-clause-front c = rw (← c.self.view_is) (next_is_front c.take-count.res
 pub returns-clause-after : goal.returns-clause-after
 returns-clause-after c = rw (← c.self.view_is)
     (held_after (the_view c.self.inside) c.take-count.result c.take-count.new.self c.saturating_add-self-inside.result
-        (record { taken = c.self.inside.taken; written = length c.written.result.now }) c.push_reserved.new.self.items (omega arith)
-        c.take-count.ensures.left c.saturating_add-self-inside.ensures
-        (ap (λ k. record { taken = c.self.inside.taken; written = k }) (ap length c.written.ensures.written)) c.push_reserved.ensures.items)
+    (record { taken = c.self.inside.taken; written = length c.written.result.now }) c.push_reserved.new.self.items (omega arith)
+    c.take-count.ensures.left c.saturating_add-self-inside.ensures
+    (ap (λ k. record { taken = c.self.inside.taken; written = k }) (ap length c.written.ensures.written)) c.push_reserved.ensures.items)

@@ -1,5 +1,4 @@
-use Rattle.std.proofs.Common.{◌≡◌, ◌∙◌, sym, rules, arith}
-use Rattle.std.proofs.lemmas.Grind.{common_steps}
+use Rattle.std.proofs.Common.{◌∙◌, sym, rules, arith}
 use Rattle.io_edges.proofs.PieceLemmas.{goes_past, stays_here}
 use Rattle.io_edges.proofs.pieces.Pieces.skip_empty.Goals as goal
 

@@ -1,5 +1,4 @@
-use Rattle.std.proofs.Common.{◌≡◌, ◌∙◌, take, length-take, ◌+◌, ◌<◌, ◌≤◌, ◌∷◌, length, drop, map, sym, ap, rules, arith}
-use Rattle.std.proofs.lemmas.Grind.{common_steps}
+use Rattle.std.proofs.Common.{◌≡◌, ◌∙◌, take, length-take, ◌+◌, ◌<◌, ◌∷◌, length, drop, map, sym, ap, rules, arith}
 use Rattle.io_edges.specs.Memory.{next_piece}
 use Rattle.io_edges.proofs.PieceLemmas.{finds, at_piece, take_copied, within_head, head_within}
 use Rattle.io_edges.proofs.pieces.Pieces.take.Goals as goal
@@ -35,4 +34,4 @@ returns-clause-front c =
     let b = c.split_at.ensures.back ∙ sym f in
     let a = c.copy_from_slice.ensures.after in
     take_copied c.min-count.result c.copy_from_slice.new.self (drop c.min-count.result c.args.into.now) (next_piece c.args.self.now)
-        (omega (arith, length-take c.min-count.result c.args.into.now)) (a ∙ ap (λ t. take c.min-count.result t) b)
+    (omega (arith, length-take c.min-count.result c.args.into.now)) (a ∙ ap (λ t. take c.min-count.result t) b)
