@@ -1,3 +1,5 @@
+pub mod Files
+pub mod Made
 pub mod Memory
 pub mod Outside
 pub mod Store

@@ -5,12 +5,15 @@
 mod bytes;
 mod ends;
 mod mem_sink;
+mod mem_store;
 mod mem_wire;
 mod pieces;
 mod std_ends;
+mod store_fail;
 
 pub use bytes::{FileBytes, PathText};
 pub use ends::{Failed, Found, Listed, Mark, Sink, Store, StoreFail, Wire};
 pub use mem_sink::MemSink;
+pub use mem_store::MemStore;
 pub use mem_wire::MemWire;
 pub use std_ends::{StdWire, StderrSink};

@@ -1,0 +1,39 @@
+-- Questions to a list of files, asked of the list that shows them.
+use Rattle.std.proofs.Common.{◌≡◌, ◌∙◌, ◌||◌, ◌++◌, ℕ, cond, Bool, true, false, List, [], ◌∷◌, Option, Some, None, option_map, map, reverse, refl, sym, ap}
+use mathlib.Core.List.{reverse_aux}
+use Rattle.std.specs.List.{find, list_any}
+use Rattle.std.specs.Str.{bytes_eq}
+use Rattle.io_edges.specs.Files.{bytes_at, has_path}
+
+any_shown : {A B : Type 0} (f : A → B) (p : B → Bool) (xs : List A) → list_any p (map f xs) ≡ list_any (λ x. p (f x)) xs
+any_shown f p [] = refl
+any_shown f p (x ∷ xs) = ap (λ b. p (f x) || b) (any_shown f p xs)
+
+find_case : {A B : Type 0} (f : A → B) (b : Bool) (x : A) (o : Option B) (q : Option A) → o ≡ option_map f q → cond b (Some (f x)) o ≡ option_map f (cond b (Some x) q)
+find_case f true x o q e = refl
+find_case f false x o q e = e
+
+find_shown : {A B : Type 0} (f : A → B) (p : B → Bool) (xs : List A) → find p (map f xs) ≡ option_map f (find (λ x. p (f x)) xs)
+find_shown f p [] = refl
+find_shown f p (x ∷ xs) = find_case f (p (f x)) x (find p (map f xs)) (find (λ x. p (f x)) xs) (find_shown f p xs)
+
+reverse_onto : {A B : Type 0} (f : A → B) (xs ys : List A) → reverse_aux (map f xs) (map f ys) ≡ map f (reverse_aux xs ys)
+reverse_onto f [] ys = refl
+reverse_onto f (x ∷ xs) ys = reverse_onto f xs (x ∷ ys)
+
+reverse_shown : {A B : Type 0} (f : A → B) (xs : List A) → reverse (map f xs) ≡ map f (reverse xs)
+reverse_shown f xs = reverse_onto f xs []
+
+second : {A : Type 0} (f : A → List ℕ × List ℕ) (o : Option A) → option_map (λ b. b.1) (option_map f o) ≡ option_map (λ x. (f x).1) o
+second f None = refl
+second f (Some x) = refl
+
+-- whether a file has a path
+pub has_shown : {A : Type 0} (f : A → List ℕ × List ℕ) (path : List ℕ) (xs : List A) → has_path (map f xs) path ≡ list_any (λ x. bytes_eq (f x).0 path) xs
+has_shown f path xs = any_shown f (λ b. bytes_eq b.0 path) xs
+
+-- the bytes of the last file with a path
+pub bytes_shown : {A : Type 0} (f : A → List ℕ × List ℕ) (path : List ℕ) (xs : List A)
+    → bytes_at (map f xs) path ≡ option_map (λ x. (f x).1) (find (λ x. bytes_eq (f x).0 path) (reverse xs))
+bytes_shown f path xs = ap (λ l. option_map (λ b. b.1) (find (λ b. bytes_eq b.0 path) l)) (reverse_shown f xs)
+    ∙ (ap (option_map (λ b. b.1)) (find_shown f (λ b. bytes_eq b.0 path) (reverse xs)) ∙ second f (find (λ x. bytes_eq (f x).0 path) (reverse xs)))
