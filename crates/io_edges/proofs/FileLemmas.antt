@@ -1,9 +1,11 @@
 -- Questions to a list of files, asked of the list that shows them.
-use Rattle.std.proofs.Common.{◌≡◌, ◌∙◌, ◌||◌, ◌++◌, ℕ, cond, Bool, true, false, List, [], ◌∷◌, Option, Some, None, option_map, map, reverse, refl, sym, ap}
+use Rattle.std.proofs.Common.{◌≡◌, ◌∙◌, ◌≤◌, nat_lt, length, take, length-take, IfSome, arith, ◌||◌, ◌++◌, ℕ, cond, Bool, true, false, List, [], ◌∷◌, Option, Some, None, option_map, map, reverse, refl, sym, ap}
 use mathlib.Core.List.{reverse_aux}
 use Rattle.std.specs.List.{find, list_any}
 use Rattle.std.specs.Str.{bytes_eq}
-use Rattle.io_edges.specs.Files.{bytes_at, has_path}
+use Rattle.std.proofs.lemmas.List.{take_all}
+use Rattle.io_edges.specs.declared.ends.Found.TheVariants.{Bytes}
+use Rattle.io_edges.specs.Files.{bytes_at, has_path, found_in}
 
 any_shown : {A B : Type 0} (f : A → B) (p : B → Bool) (xs : List A) → list_any p (map f xs) ≡ list_any (λ x. p (f x)) xs
 any_shown f p [] = refl
@@ -37,3 +39,14 @@ pub bytes_shown : {A : Type 0} (f : A → List ℕ × List ℕ) (path : List ℕ
     → bytes_at (map f xs) path ≡ option_map (λ x. (f x).1) (find (λ x. bytes_eq (f x).0 path) (reverse xs))
 bytes_shown f path xs = ap (λ l. option_map (λ b. b.1) (find (λ b. bytes_eq b.0 path) l)) (reverse_shown f xs)
     ∙ (ap (option_map (λ b. b.1)) (find_shown f (λ b. bytes_eq b.0 path) (reverse xs)) ∙ second f (find (λ x. bytes_eq (f x).0 path) (reverse xs)))
+
+-- a file of which no more than its first 4,194,305 bytes are read, where these are fewer
+pub read_whole : (known : Option (List ℕ)) (limit : ℕ) (old bytes : List ℕ) → limit ≡ 4194305 → old ≡ []
+    → IfSome (option_map (take limit) known) (λ xs. bytes ≡ old ++ xs) → length bytes ≤ 4194304 → IfSome known (λ all. Bytes bytes ≡ found_in (Some all))
+read_whole None limit old bytes l o e w = tt
+read_whole (Some xs) limit old bytes l o e w =
+    let f : bytes ≡ take limit xs = rw o at e in
+    let m : length xs ≤ 4194304 = omega (arith, length-take limit xs, ap length f) in
+    let same : bytes ≡ xs = f ∙ take_all limit xs (omega arith) in
+    let small : nat_lt 4194304 (length xs) ≡ false = grind arith in
+    rw (small, same) refl

@@ -3,6 +3,7 @@
 #![tactic(auto)]
 
 mod bytes;
+mod dir_store;
 mod ends;
 mod mem_sink;
 mod mem_store;
@@ -12,6 +13,7 @@ mod std_ends;
 mod store_fail;
 
 pub use bytes::{FileBytes, PathText};
+pub use dir_store::DirStore;
 pub use ends::{Failed, Found, Listed, Mark, Sink, Store, StoreFail, Wire};
 pub use mem_sink::MemSink;
 pub use mem_store::MemStore;
