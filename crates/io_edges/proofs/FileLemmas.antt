@@ -1,5 +1,5 @@
 -- Questions to a list of files, asked of the list that shows them.
-use Rattle.std.proofs.Common.{◌≡◌, ◌∙◌, ◌≤◌, nat_lt, length, take, length-take, IfSome, arith, ◌||◌, ◌++◌, ℕ, cond, Bool, true, false, List, [], ◌∷◌, Option, Some, None, option_map, map, reverse, refl, sym, ap}
+use Rattle.std.proofs.Common.{◌≡◌, ◌∙◌, ◌≤◌, nat_lt, length, take, length-take, IfSome, arith, ◌||◌, ◌++◌, ℕ, cond, Bool, true, false, List, [], ◌∷◌, Option, Some, None, option_map, map, reverse, refl, ap}
 use mathlib.Core.List.{reverse_aux}
 use Rattle.std.specs.List.{find, list_any}
 use Rattle.std.specs.Str.{bytes_eq}

@@ -1,5 +1,5 @@
 -- The store in memory: its files, and what it answers.
-use Rattle.std.specs.Prelude.{◌≡◌, ◌+◌, ◌<◌, ◌==◌, ◌&&◌, ◌||◌, if◌then◌else◌, not, nat_lt, nat_eq, Bool, true, false, ℕ, Option, Some, None, List, [], ◌∷◌, ◌++◌, length, drop, map, option_map, reverse}
+use Rattle.std.specs.Prelude.{◌≡◌, ◌+◌, ◌==◌, ◌&&◌, ◌||◌, if◌then◌else◌, not, nat_lt, nat_eq, Bool, true, false, ℕ, Option, Some, None, List, [], ◌∷◌, ◌++◌, length, drop, map, option_map, reverse}
 use Rattle.std.specs.List.{find, list_any, starts_with}
 use Rattle.std.specs.Str.{bytes_eq}
 use Rattle.io_edges.specs.Memory.{next_number, is_listed}

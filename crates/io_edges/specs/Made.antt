@@ -1,5 +1,4 @@
 -- The calls that a store in memory keeps, as calls of a store.
-use Rattle.std.specs.Prelude.{ℕ, List}
 use Rattle.io_edges.specs.Store.{Call, ListCall, ReadCall}
 use Rattle.io_edges.specs.declared.mem_store.Made.{Made}
 use Rattle.io_edges.specs.declared.mem_store.Made.TheVariants.{List as ListMade, Read as ReadMade}

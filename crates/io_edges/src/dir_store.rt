@@ -6,11 +6,10 @@ ghost use Rattle.io_edges.specs.Outside.{refused_faults};
 use crate::bytes::{FileBytes, PathText};
 use crate::ends::{Found, Listed, Store, StoreFail};
 use std::alloc::Global;
-use std::fs;
 use std::fs::DirEntry;
-use std::io;
 use std::io::{ErrorKind, Read};
 use std::marker::Model;
+use std::{fs, io};
 
 /// The most bytes that a file may have to be given.
 const MOST_BYTES: usize = 4_194_304;
@@ -157,7 +156,12 @@ fn list_folder(
 }
 
 /// Adds an entry of a folder where it belongs; one that has gone by now, and one of another kind, is passed over.
-fn add_entry(alloc: Global, entry: &DirEntry, found: &mut Vec<Listed>, folders: &mut Vec<String>) -> io::Result<()> {
+fn add_entry(
+    alloc: Global,
+    entry: &DirEntry,
+    found: &mut Vec<Listed>,
+    folders: &mut Vec<String>,
+) -> io::Result<()> {
     let kind = match entry.file_type() {
         Ok(kind) => kind,
         Err(error) if is_missing(error.kind()) => return Ok(()),

@@ -71,6 +71,7 @@ impl Sink for MemSink {
         ensures appended { IfOk result (λ n. self.new.written ≡ self.old.written ++ take n bytes.now) }
         ensures failed { OnErr result (self.new.written ≡ self.old.written) }
         ensures counted { MatchResult result (λ _. self.new.faults ≡ self.old.faults) (λ _. self.old.faults < self.new.faults) }
+        ensures once { self.new.faults ≤ self.old.faults + 1 }
         ensures fails { is_err result ≡ write_fails self.old }
         ensures taken { IfOk result (λ n. n ≡ write_takes self.old (length bytes.now)) }
         ensures after { MatchResult result (λ n. self.new ≡ sink_wrote self.old (take n bytes.now)) (λ _. self.new ≡ sink_failed self.old) }

@@ -5,7 +5,18 @@ ghost use Rattle.std.specs.Str.{bytes_eq};
 ghost use Rattle.std.specs.List.{list_any, find};
 ghost use Rattle.io_edges.specs.Store.{Entry, Lists, Reads, after_answer, IsCounted};
 ghost use Rattle.io_edges.specs.Files.{
-    MemoryStore, answers_of, bytes_at, found_at, has_path, is_under, listed, store_fails, store_listed, store_read, is_fault, IsRefused,
+  MemoryStore,
+  answers_of,
+  bytes_at,
+  found_at,
+  has_path,
+  is_under,
+  listed,
+  store_fails,
+  store_listed,
+  store_read,
+  is_fault,
+  IsRefused,
 };
 
 use crate::bytes::{FileBytes, PathText};
@@ -41,32 +52,34 @@ impl Model for MemStore {
 
     ghost Value = { MemoryStore };
 
-    ghost view = {
-        λ s. record {
-            files = map (λ f. (string_bytes f.0, f.1.items)) s.files.items;
-            failing = s.failing.items;
-            calls = map made_call s.calls.items;
-            reads = s.reads;
-            faults = s.faults;
-        }
-    };
+    ghost view = { λ s. record {
+      files = map (λ f. (string_bytes f.0, f.1.items)) s.files.items;
+      failing = s.failing.items;
+      calls = map made_call s.calls.items;
+      reads = s.reads;
+      faults = s.faults;
+    } };
 }
 
 impl MemStore {
     /// A store with these files, each a path and its bytes; of two with one path the last counts. It fails at the reads
     /// with the numbers in `failing`; the first read has the number 1.
     pub fn new(alloc: Global, files: Vec<(String, Vec<u8>)>, failing: Vec<u64>) -> MemStore
-        ensures {
-            result ≡ record {
-                files = map (λ f. (string_bytes f.0, f.1.items)) files.items;
-                failing = failing.items;
-                calls = [];
-                reads = 0;
-                faults = 0;
-            }
-        }
+        ensures { result ≡ record {
+          files = map (λ f. (string_bytes f.0, f.1.items)) files.items;
+          failing = failing.items;
+          calls = [];
+          reads = 0;
+          faults = 0;
+        } }
     {
-        MemStore { files, failing, calls: Vec::new(alloc), reads: 0, faults: 0 }
+        MemStore {
+            files,
+            failing,
+            calls: Vec::new(alloc),
+            reads: 0,
+            faults: 0,
+        }
     }
 
     /// Answers a read that doesn't fail.
@@ -112,6 +125,7 @@ impl Store for MemStore {
         ensures found { IfOk result (λ found. answers_of self.new ≡ after_answer (Reads path.now found) (answers_of self.old)) }
         ensures failed { OnErr result (answers_of self.new ≡ answers_of self.old) }
         ensures counted { MatchResult result (λ _. self.new.faults ≡ self.old.faults) (λ e. IsCounted e self.old.faults self.new.faults) }
+        ensures once { self.new.faults ≤ self.old.faults + 1 }
         ensures fails { MatchResult result (λ _. store_fails self.old ≡ false) (λ e. store_fails self.old ≡ is_fault e) }
         ensures gives { IfOk result (λ found. found ≡ found_at self.old.files path.now) }
         ensures after { IfOk result (λ _. self.new ≡ store_read self.old path.now) }
@@ -187,7 +201,11 @@ fn is_listed(root: &str, path: &str, behind: &[(String, Vec<u8>)]) -> bool
 }
 
 /// The paths of the files under a root, each once.
-fn list_files(alloc: Global, files: &[(String, Vec<u8>)], root: &str) -> Result<Vec<Listed>, AllocError>
+fn list_files(
+    alloc: Global,
+    files: &[(String, Vec<u8>)],
+    root: &str,
+) -> Result<Vec<Listed>, AllocError>
     ensures { IfOk result (λ found. found.items ≡ listed (map (λ f. (string_bytes f.0, f.1.items)) files.now) root.now) }
 {
     let mut found = Vec::new(alloc);

@@ -1,5 +1,5 @@
 // The wire in memory.
-ghost use Rattle.std.specs.Prelude.{◌≡◌, ℕ, ◌+◌, ◌<◌, ◌≤◌, ◌^◌, Some, [], ◌++◌, length, take, map, is_err, option_map, IfOk, OnErr, IfSome, MatchResult};
+ghost use Rattle.std.specs.Prelude.{◌≡◌, ℕ, ◌+◌, ◌<◌, ◌≤◌, ◌^◌, Some, [], ◌++◌, length, take, map, is_err, IsTrue, ◌↔◌, option_map, IfOk, OnErr, IfSome, MatchResult};
 ghost use Rattle.std.specs.List.{concat};
 ghost use Rattle.io_edges.specs.Wire.{after_read, after_write};
 ghost use Rattle.io_edges.specs.Memory.{
@@ -17,7 +17,7 @@ ghost use Rattle.io_edges.specs.Memory.{
 
 use crate::ends::{Failed, Mark, Sink, Wire};
 use crate::mem_sink::MemSink;
-use crate::pieces::{Pieces, count_bytes};
+use crate::pieces::{Pieces, count_bytes, fit};
 use std::alloc::{AllocError, Global};
 use std::marker::Model;
 
@@ -55,6 +55,13 @@ impl Model for MemWire {
 }
 
 impl MemWire {
+    /// Whether a wire may have these pieces: together they have at most 2^32 bytes.
+    pub fn fits(pieces: &[Vec<u8>]) -> bool
+        ensures { IsTrue result ↔ (length (concat (map (λ p. p.items) pieces.now)) ≤ 2 ^ 32) }
+    {
+        fit(pieces)
+    }
+
     /// A wire that gives these pieces, at most one per read, empty ones passed over, and that fails at the reads with
     /// the numbers in `failing`; the first read has the number 1. It takes the room for its marks as it is made.
     pub fn new(
@@ -114,6 +121,7 @@ impl Wire for MemWire {
         ensures failed { OnErr result (traffic self.new ≡ traffic self.old) }
         ensures counted { MatchResult result (λ _. self.new.faults ≡ self.old.faults) (λ _. self.old.faults < self.new.faults) }
         ensures other_side { self.new.sink.faults ≡ self.old.sink.faults }
+        ensures once { self.new.faults ≤ self.old.faults + 1 }
         ensures fails { is_err result ≡ read_fails self.old }
         ensures takes { IfOk result (λ n. n ≡ read_takes self.old (length into.old)) }
         ensures after { MatchResult result (λ n. self.new ≡ wire_read self.old n) (λ _. self.new ≡ wire_failed self.old) }
@@ -146,6 +154,7 @@ impl Wire for MemWire {
         ensures failed { OnErr result (traffic self.new ≡ traffic self.old) }
         ensures counted { MatchResult result (λ _. self.new.sink.faults ≡ self.old.sink.faults) (λ _. self.old.sink.faults < self.new.sink.faults) }
         ensures other_side { self.new.faults ≡ self.old.faults }
+        ensures once { self.new.sink.faults ≤ self.old.sink.faults + 1 }
         ensures fails { is_err result ≡ write_fails self.old.sink }
         ensures takes { IfOk result (λ n. n ≡ write_takes self.old.sink (length bytes.now)) }
         ensures after { MatchResult result (λ n. self.new ≡ record self.old { sink = sink_wrote self.old.sink (take n bytes.now) })

@@ -1,5 +1,5 @@
 // The pieces in which a wire in memory gives its bytes.
-ghost use Rattle.std.specs.Prelude.{◌≡◌, ◌+◌, ◌<◌, ◌≤◌, ◌^◌, [], length, take, drop, map, min};
+ghost use Rattle.std.specs.Prelude.{◌≡◌, ◌+◌, ◌<◌, ◌≤◌, ◌^◌, [], length, take, drop, map, min, IsTrue, ◌↔◌};
 ghost use Rattle.std.specs.List.{concat};
 ghost use Rattle.io_edges.specs.Memory.{skip_empty, next_piece, after_taking};
 
@@ -79,4 +79,20 @@ pub fn count_bytes(pieces: &[Vec<u8>]) -> usize
         rest = behind;
     }
     count
+}
+
+/// Whether these pieces have together at most 2^32 bytes.
+pub fn fit(pieces: &[Vec<u8>]) -> bool
+    ensures { IsTrue result ↔ (length (concat (map (λ p. p.items) pieces.now)) ≤ 2 ^ 32) }
+{
+    let mut room: usize = 1 << 32;
+    let mut rest = pieces;
+    while let Some((piece, behind)) = rest.split_first() {
+        if room < piece.len() {
+            return false;
+        }
+        room -= piece.len();
+        rest = behind;
+    }
+    true
 }
