@@ -3,7 +3,21 @@
 #![tactic(auto)]
 
 mod bytes;
+mod dir_store;
 mod ends;
+mod mem_sink;
+mod mem_store;
+mod mem_wire;
+mod pieces;
+mod std_ends;
+mod store_fail;
+#[cfg(test)]
+mod tests;
 
 pub use bytes::{FileBytes, PathText};
+pub use dir_store::DirStore;
 pub use ends::{Failed, Found, Listed, Mark, Sink, Store, StoreFail, Wire};
+pub use mem_sink::MemSink;
+pub use mem_store::MemStore;
+pub use mem_wire::MemWire;
+pub use std_ends::{StdWire, StderrSink};
