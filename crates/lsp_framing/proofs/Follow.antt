@@ -12,7 +12,7 @@ use Rattle.lsp_framing.specs.Known.{KnowsHeader, KnowsContent, KnowsFault, Reads
 use Rattle.lsp_framing.proofs.Windows.{header_short}
 use Rattle.lsp_framing.proofs.Laws.{frames_join}
 
-front_is : (bytes : List ℕ) (h : Header) → header bytes ≡ h → front bytes ≡ front_by h bytes
+pub front_is : (bytes : List ℕ) (h : Header) → header bytes ≡ h → front bytes ≡ front_by h bytes
 unfolding front
 front_is bytes h e = ap (λ h. front_by h bytes) e
 
@@ -66,7 +66,7 @@ skip_all [] place skip e = refl
 skip_all (x ∷ bytes) place zero e = absurd (omega (arith, e))
 skip_all (x ∷ bytes) place (suc skip) e = skip_all bytes (place + 1) skip (omega (arith, e))
 
-one_frame : (bytes : List ℕ) (place size : ℕ) (content : List ℕ) → front bytes ≡ Whole size content → length bytes ≡ size + length content → 0 < size
+pub one_frame : (bytes : List ℕ) (place size : ℕ) (content : List ℕ) → front bytes ≡ Whole size content → length bytes ≡ size + length content → 0 < size
     → frames_from place 0 bytes ≡ framed (content ∷ []) Empty
 one_frame [] place size content e n some = absurd (omega (arith, n))
 one_frame (x ∷ bytes) place size content e n some =

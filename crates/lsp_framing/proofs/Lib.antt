@@ -5,3 +5,4 @@ pub mod Laws
 pub mod Follow
 pub mod Answering
 pub mod Bounds
+pub mod Written

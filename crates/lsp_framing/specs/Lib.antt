@@ -1,5 +1,6 @@
 pub mod Lines
 pub mod Frames
 pub mod Standing
+pub mod Written
 pub mod Known
 pub mod Kinds

@@ -3,6 +3,8 @@ ghost use Rattle.std.specs.Prelude.{◌≡◌, ℕ, ◌≤◌, List, [], ◌++�
 ghost use Rattle.lsp_framing.specs.declared.FrameKind.{FrameKind};
 ghost use Rattle.lsp_framing.specs.Frames.{frames, framed, Empty, Bad};
 ghost use Rattle.lsp_framing.specs.Lines.{longest_content};
+ghost use Rattle.lsp_framing.specs.Written.{written};
+ghost use Rattle.std.specs.List.{AllByRecursion, flat_map};
 
 /// No byte is no frame.
 pub fn frames_nil()
@@ -28,4 +30,10 @@ pub fn bad_within()
 pub fn contents_short()
     ensures { (bytes : List ℕ) (i : ℕ) (content : List ℕ)
         → slice_get (frames bytes).contents i ≡ Some content → length content ≤ longest_content }
+{}
+
+/// Frames that are written one behind the other are read.
+pub fn written_are_read()
+    ensures { (contents : List (List ℕ)) → AllByRecursion (λ content. length content ≤ longest_content) contents
+        → frames (flat_map written contents) ≡ framed contents Empty }
 {}

@@ -6,7 +6,7 @@
 
 ghost use Rattle.std.specs.Prelude.{◌≡◌, ℕ, ◌+◌, ◌-◌, ◌^◌, ◌<◌, ◌≤◌, List, [], ◌++◌, length, take, drop, OnOk, OnErr, IsTrue, ◌↔◌, slice_get, Some};
 ghost use Rattle.lsp_framing.specs.declared.FrameError.TheVariants.{NoMemory};
-ghost use Rattle.lsp_framing.specs.Frames.{frames, front, Whole, Unfinished, Empty, Bad};
+ghost use Rattle.lsp_framing.specs.Frames.{frames, Empty, Bad};
 ghost use Rattle.lsp_framing.specs.Kinds.{kind_name};
 ghost use Rattle.lsp_framing.specs.Known.{Known, KnowsContent, IsSettled};
 ghost use Rattle.lsp_framing.specs.Standing.{Follows, IsEmptyOrOpen, IfContent, OnOpen, IfFault, OnNoMemory};
