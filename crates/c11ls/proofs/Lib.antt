@@ -1,0 +1,13 @@
+pub mod Utf8
+pub mod Floats
+pub mod Handling
+pub mod Reacting
+pub mod Playing
+pub mod Sending
+pub mod Moving
+pub mod GoingOn
+pub mod EndingUp
+pub mod Draining
+pub mod Running
+pub mod Adding
+pub mod Serving

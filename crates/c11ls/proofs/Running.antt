@@ -1,0 +1,89 @@
+-- The loop that reads.
+use Rattle.std.proofs.Common.{◌≡◌, ◌≤◌, ◌<◌, ◌+◌, ◌-◌, ◌^◌, ℕ, List, [], ◌∷◌, ◌++◌, take, length, Option, None, Some, option_map, IfSome, refl, sym, ap, subst, ◌∙◌, arith}
+use Rattle.std.proofs.lemmas.List.{length-take-le}
+use Rattle.io_edges.specs.Store.{Entry}
+use Rattle.io_edges.specs.Wire.{Traffic, after_read}
+use Rattle.lsp_framing.specs.Frames.{Empty, frames}
+use Rattle.lsp_framing.specs.Standing.{Standing, Follows}
+use Rattle.lsp_framing.specs.declared.FrameKind.{FrameKind}
+use Rattle.lsp_framing.specs.declared.FrameKind.TheVariants.{Cut}
+use Rattle.c11ls.specs.Going.{Going, Settled, Ended, EndsInput}
+use Rattle.c11ls.specs.State.{State, Options, fresh}
+use Rattle.c11ls.specs.Turn.{IsCounted, Stands, ReadRose}
+use Rattle.c11ls.specs.declared.status.Status.{Status}
+use Rattle.c11ls.specs.declared.status.Status.TheVariants.{Done, Unclean, Usage, BadFrame, ReadFault, WriteFault, StoreFault, NoMemory, LongInput}
+use Rattle.c11ls.proofs.Draining.{no_memory_ends}
+use Rattle.c11ls.proofs.EndingUp.{ends_empty, ends_cut}
+use Rattle.c11ls.proofs.GoingOn.{settled_reads, settled_unfed, settled_size, whatever_left}
+use Rattle.c11ls.proofs.Handling.{nothing_answered}
+use Rattle.c11ls.proofs.Moving.{moves_nothing}
+
+-- memory was wanted before anything was done
+pub ends_at_once : (options : Options) (w : Option Traffic) (a : Option (List Entry)) → Ended options NoMemory w w a a
+ends_at_once options w a = record {
+  taken = [];
+  out = [];
+  moments = [];
+  answers = [];
+  did = moves_nothing options w a (nothing_answered a);
+  usual = tt;
+  outcome = whatever_left w options NoMemory [] [] [] (λ left. (0, refl));
+}
+
+pub read_nothing : (w w' : Option Traffic) (items : List ℕ) (n : ℕ) → n ≡ 0 → w' ≡ option_map (after_read (take n items)) w → w' ≡ w
+read_nothing None w' items n none read = read
+read_nothing (Some t) w' items n none read = read ∙ ap (λ (k : ℕ). Some (after_read (take k items) t)) none
+
+-- the input ended
+pub input_ends : (options : Options) (ended : Status) (w0 w w' : Option Traffic) (a0 a : Option (List Entry)) (s : State) (standing : Standing) (size : ℕ) →
+    EndsInput ended standing size → w' ≡ w → IfSome w (λ t. t.left ≡ []) → Settled options w0 w a0 a s standing size → Ended options ended w0 w' a0 a
+input_ends options Unclean w0 w w' a0 a s standing size ends still at_end settled = ends_empty options w0 w w' a0 a s standing size still at_end ends settled
+input_ends options (BadFrame place kind) w0 w w' a0 a s standing size ends still at_end settled =
+    subst (λ (k : FrameKind). Ended options (BadFrame place k) w0 w' a0 a) (sym ends.1)
+    (subst (λ p. Ended options (BadFrame p Cut) w0 w' a0 a) (sym ends.0) (ends_cut options w0 w w' a0 a s standing size still at_end ends.2 settled))
+input_ends options Done w0 w w' a0 a s standing size ends still at_end settled = absurd ends
+input_ends options Usage w0 w w' a0 a s standing size ends still at_end settled = absurd ends
+input_ends options ReadFault w0 w w' a0 a s standing size ends still at_end settled = absurd ends
+input_ends options WriteFault w0 w w' a0 a s standing size ends still at_end settled = absurd ends
+input_ends options StoreFault w0 w w' a0 a s standing size ends still at_end settled = absurd ends
+input_ends options NoMemory w0 w w' a0 a s standing size ends still at_end settled = absurd ends
+input_ends options LongInput w0 w w' a0 a s standing size ends still at_end settled = absurd ends
+
+pub input_counted : (ended : Status) (standing : Standing) (size r r' v v' s s' : ℕ) → EndsInput ended standing size → Stands r r' v v' s s' → IsCounted (Some ended) r r' v v' s s'
+input_counted Unclean standing size r r' v v' s s' ends stands = stands
+input_counted (BadFrame place kind) standing size r r' v v' s s' ends stands = stands
+input_counted Done standing size r r' v v' s s' ends stands = absurd ends
+input_counted Usage standing size r r' v v' s s' ends stands = absurd ends
+input_counted ReadFault standing size r r' v v' s s' ends stands = absurd ends
+input_counted WriteFault standing size r r' v v' s s' ends stands = absurd ends
+input_counted StoreFault standing size r r' v v' s s' ends stands = absurd ends
+input_counted NoMemory standing size r r' v v' s s' ends stands = absurd ends
+input_counted LongInput standing size r r' v v' s s' ends stands = absurd ends
+
+-- the counts behind two steps, of which the first ended nothing
+pub counted_on : (ended : Option Status) (r r' r'' v v' v'' s s' s'' : ℕ) → Stands r r' v v' s s' → IsCounted ended r' r'' v' v'' s' s'' → IsCounted ended r r'' v v'' s s''
+counted_on ended r r' r'' v v' v'' s s' s'' stands counted =
+    subst (λ n. IsCounted ended n r'' v v'' s s'') stands.read_is
+    (subst (λ n. IsCounted ended r' r'' n v'' s s'') stands.write_is
+    (subst (λ n. IsCounted ended r' r'' v' v'' n s'') stands.store_is counted))
+
+-- bytes were read and fed
+pub reads_on : (options : Options) (w0 w w' : Option Traffic) (a0 a : Option (List Entry)) (s : State) (standing standing' : Standing) (size n : ℕ) (items bytes : List ℕ) →
+    n ≤ length items → (n ≡ 0 → ⊥) → bytes ≡ take n items → w' ≡ option_map (after_read (take n items)) w → IfSome w (λ t. take n t.left ≡ take n items) →
+    ((fed : List ℕ) (given : ℕ) → Follows fed given standing → Follows (fed ++ bytes) given standing') →
+    Settled options w0 w a0 a s standing size → Going options w0 w' a0 a s standing' (size + n)
+reads_on options w0 w w' a0 a s standing standing' size n items bytes within some is read next fed settled =
+    let len : length (take n items) ≡ n = length-take-le n items within in
+    let front : IfSome w (λ t. take (length (take n items)) t.left ≡ take n items) = subst (λ k. IfSome w (λ t. take k t.left ≡ take n items)) (sym len) next in
+    subst (λ k. Going options w0 w' a0 a s standing' (size + k)) len
+    (settled_reads options w0 w w' a0 a s standing standing' size (take n items) (omega (arith, some)) read front
+    (subst (λ (b : List ℕ). (fed : List ℕ) (given : ℕ) → Follows fed given standing → Follows (fed ++ b) given standing') is fed) settled)
+
+-- bytes were read, and there was no memory for them
+pub reads_unfed : (options : Options) (w0 w w' : Option Traffic) (a0 a : Option (List Entry)) (s : State) (standing : Standing) (size n : ℕ) (items : List ℕ) →
+    n ≤ length items → (n ≡ 0 → ⊥) → w' ≡ option_map (after_read (take n items)) w → IfSome w (λ t. take n t.left ≡ take n items) →
+    Settled options w0 w a0 a s standing size → Ended options NoMemory w0 w' a0 a
+reads_unfed options w0 w w' a0 a s standing size n items within some read next settled =
+    let len : length (take n items) ≡ n = length-take-le n items within in
+    settled_unfed options w0 w w' a0 a s standing size (take n items) (omega (arith, some)) read
+    (subst (λ k. IfSome w (λ t. take k t.left ≡ take n items)) (sym len) next) settled

@@ -1,0 +1,6 @@
+use Rattle.c11ls.specs.State.{no_options}
+use Rattle.c11ls.proofs.Running.{ends_at_once}
+use Rattle.c11ls.proofs.run.run.Goals as goal
+
+pub returns-in-Err-clause-ended : goal.returns-in-Err-clause-ended
+returns-in-Err-clause-ended g c = ends_at_once no_options _ _

@@ -1,0 +1,35 @@
+use Rattle.c11ls.specs.State.{no_options}
+use Rattle.c11ls.specs.declared.status.Status.TheVariants as status
+use Rattle.c11ls.proofs.Serving.{tells_consumed, tells_written, tells_used, tells_prompt, tells_done, tells_unclean, tells_bad_frame, tells_long, tells_complete, not_read, not_write, not_store, ended_as}
+use Rattle.c11ls.proofs.serve.serve.Goals as goal
+
+pub returns-clause-consumed : goal.returns-clause-consumed
+returns-clause-consumed g c = λ serves. tells_consumed no_options _ _ _ _ _ (c.answer-status.ensures.ended serves)
+
+pub returns-clause-written : goal.returns-clause-written
+returns-clause-written g c = λ serves. tells_written no_options _ _ _ _ _ (c.answer-status.ensures.ended serves)
+
+pub returns-clause-answers : goal.returns-clause-answers
+returns-clause-answers g c = λ serves. tells_used no_options _ _ _ _ _ (c.answer-status.ensures.ended serves)
+
+pub returns-clause-marks : goal.returns-clause-marks
+returns-clause-marks g c = λ serves. tells_prompt no_options _ _ _ _ _ (c.answer-status.ensures.ended serves)
+
+pub returns-clause-done : goal.returns-clause-done
+returns-clause-done g c = λ serves is. tells_done no_options _ _ _ _ (ended_as no_options _ status.Done _ _ _ _ is (c.answer-status.ensures.ended serves))
+
+pub returns-clause-unclean : goal.returns-clause-unclean
+returns-clause-unclean g c = λ serves is. tells_unclean no_options _ _ _ _ (ended_as no_options _ status.Unclean _ _ _ _ is (c.answer-status.ensures.ended serves))
+
+pub returns-clause-bad_frame : goal.returns-clause-bad_frame
+returns-clause-bad_frame g c = λ serves. tells_bad_frame no_options _ _ _ _ _ (c.answer-status.ensures.ended serves)
+
+pub returns-clause-long_input : goal.returns-clause-long_input
+returns-clause-long_input g c = λ serves is. tells_long no_options _ _ _ _ (ended_as no_options _ status.LongInput _ _ _ _ is (c.answer-status.ensures.ended serves))
+
+pub returns-clause-complete : goal.returns-clause-complete
+returns-clause-complete g c = λ serves read write store.
+    tells_complete no_options _ _ _ _ _ (c.answer-status.ensures.ended serves)
+    (not_read c.answer-status.result _ _ _ _ _ _ c.answer-status.ensures.counted read)
+    (not_write c.answer-status.result _ _ _ _ _ _ c.answer-status.ensures.counted write)
+    (not_store c.answer-status.result _ _ _ _ _ _ c.answer-status.ensures.counted store)

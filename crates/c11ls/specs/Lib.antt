@@ -1,0 +1,15 @@
+pub mod Message
+pub mod Plain
+pub mod React
+pub mod Replies
+pub mod State
+pub mod Seen
+pub mod Handled
+pub mod Sessions
+pub mod Calls
+pub mod Serve
+pub mod Words
+pub mod Codes
+pub mod Going
+pub mod Turn
+pub mod Lines

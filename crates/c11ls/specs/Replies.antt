@@ -1,0 +1,53 @@
+-- The bytes of each answer: JSON-RPC 2.0 in the base protocol of LSP 3.17.
+use Rattle.std.specs.Prelude.{ℕ, ℤ, List, [], ◌∷◌, ◌++◌, codes, length, decimal, Option, None, Some, Bool, true}
+use Rattle.serde_json.specs.Data.{Data, null, boolean, number, string, object, unsigned, Members, no_members, member}
+use Rattle.serde_json.specs.Find.{of_integer}
+use Rattle.serde_json.specs.Written.{compact_text}
+use Rattle.c11ls.specs.Message.{Id, Text, Int, Big}
+
+-- a content behind its header
+unfoldable pub framed : List ℕ → List ℕ
+framed content = codes "Content-Length: " ++ decimal (length content) ++ 13 ∷ 10 ∷ 13 ∷ 10 ∷ [] ++ content
+
+abbrev pub id_data : Id → Data
+id_data (Text text) = string text
+id_data (Int z) = number (of_integer z)
+id_data (Big n) = number (unsigned n)
+
+-- an id that may not be known is null
+abbrev pub id_or_null : Option Id → Data
+id_or_null None = null
+id_or_null (Some id) = id_data id
+
+-- a response with a result
+abbrev pub response_data : Data → Data → Data
+response_data id result = object
+    (member (codes "id") id (member (codes "jsonrpc") (string (codes "2.0")) (member (codes "result") result no_members)))
+
+-- a response with an error
+abbrev pub error_data : Data → ℤ → List ℕ → Data
+error_data id code text = object
+    (member (codes "error") (object (member (codes "code") (number (of_integer code)) (member (codes "message") (string text) no_members)))
+    (member (codes "id") id (member (codes "jsonrpc") (string (codes "2.0")) no_members)))
+
+-- the notification `window/logMessage` of type 1, an error
+abbrev pub log_data : List ℕ → Data
+log_data text = object
+    (member (codes "jsonrpc") (string (codes "2.0"))
+    (member (codes "method") (string (codes "window/logMessage"))
+    (member (codes "params") (object (member (codes "message") (string text) (member (codes "type") (number (unsigned 1)) no_members))) no_members)))
+
+-- the result of `initialize`: positions count UTF-16 units, and documents are opened and closed, not changed
+abbrev pub initialize_result : Data
+initialize_result = object (member (codes "capabilities") (object
+    (member (codes "positionEncoding") (string (codes "utf-16"))
+    (member (codes "textDocumentSync") (object (member (codes "change") (number (unsigned 0)) (member (codes "openClose") (boolean true) no_members))) no_members))) no_members)
+
+unfoldable pub response : Id → Data → List ℕ
+response id result = framed (compact_text (response_data (id_data id) result))
+
+unfoldable pub error : Option Id → ℤ → List ℕ → List ℕ
+error id code text = framed (compact_text (error_data (id_or_null id) code text))
+
+unfoldable pub log : List ℕ → List ℕ
+log text = framed (compact_text (log_data text))

@@ -1,0 +1,23 @@
+-- What the code's messages stand for.
+use Rattle.std.specs.Prelude.{List, Option, Some, None, option_map}
+use Rattle.serde_json.specs.View.{view}
+use Rattle.c11ls.specs.Message as spec
+use Rattle.c11ls.specs.declared.message.Id.{Id}
+use Rattle.c11ls.specs.declared.message.Id.TheVariants as id
+use Rattle.c11ls.specs.declared.message.Message.{Message}
+use Rattle.c11ls.specs.declared.message.Message.TheVariants as kind
+
+abbrev pub seen_id : Id → spec.Id
+seen_id (id.Text text) = spec.Text text.now
+seen_id (id.Int z) = spec.Int z
+seen_id (id.Big n) = spec.Big n
+
+abbrev pub seen : Message → spec.Message
+seen kind.NotJson = spec.NotJson
+seen kind.Batch = spec.Batch
+seen kind.NotObject = spec.NotObject
+seen kind.Ignored = spec.Ignored
+seen kind.BadId = spec.BadId
+seen (kind.BadMethod i) = spec.BadMethod (option_map seen_id i)
+seen (kind.Notification method params) = spec.Notification method.now (option_map (λ v. view v.now) params)
+seen (kind.Request i method params) = spec.Request (seen_id i) method.now (option_map (λ v. view v.now) params)

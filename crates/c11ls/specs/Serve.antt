@@ -1,0 +1,100 @@
+-- What serving a client promises, by the status that it ends with.
+use Rattle.std.specs.Prelude.{◌≡◌, ◌⊎◌, ◌+◌, ◌≤◌, ◌<◌, ◌^◌, ℕ, List, [], ◌∷◌, ◌++◌, take, length, Option, Some, None}
+use Rattle.io_edges.specs.Store.{Entry}
+use Rattle.io_edges.specs.declared.ends.Mark.{Mark}
+use Rattle.lsp_framing.specs.Frames.{frames}
+use Rattle.lsp_framing.specs.Standing.{IsEmptyOrOpen}
+use Rattle.lsp_framing.specs.declared.FrameKind.{FrameKind}
+use Rattle.c11ls.specs.Calls.{Call}
+use Rattle.c11ls.specs.Plain.{Played, Plain, Stop, Exited, Lacks, Through, Verdict, Done, Unclean, Faulty, Waiting, play, played, plain}
+use Rattle.c11ls.specs.State.{State, Options, fresh}
+use Rattle.c11ls.specs.declared.status.Status.{Status}
+use Rattle.c11ls.specs.declared.status.Status.TheVariants as status
+
+-- these bytes begin the others
+abbrev pub Begins : List ℕ → List ℕ → Type 0
+Begins front bytes = (more : List ℕ) × (bytes ≡ front ++ more)
+
+-- the whole replies to the first contents of an input, up to some content
+abbrev pub AreReplies : Options → List ℕ → List Entry → List ℕ → Type 0
+AreReplies options bytes answers out = (n : ℕ) × (out ≡ (play (take n (frames bytes).contents) (fresh options) answers).out)
+
+-- What the sink got: the bytes of the plain server, for all that the source had left, or for what was taken where the
+-- call ended early; at a fault of the sink a front of them, and for want of memory the whole replies up to some message.
+abbrev pub HasWritten : Options → Status → Call → Type 0
+HasWritten options status.Done call = call.out ≡ (plain options call.left call.answers).out
+HasWritten options status.Unclean call = call.out ≡ (plain options call.left call.answers).out
+HasWritten options (status.BadFrame place kind) call = call.out ≡ (plain options call.left call.answers).out
+HasWritten options status.Usage call = call.out ≡ []
+HasWritten options status.ReadFault call = call.out ≡ (plain options call.taken call.answers).out
+HasWritten options status.LongInput call = call.out ≡ (plain options call.taken call.answers).out
+HasWritten options status.StoreFault call =
+    (call.out ≡ (plain options call.taken call.answers).out) × ((plain options call.taken call.answers).verdict ≡ Waiting)
+HasWritten options status.WriteFault call = Begins call.out (plain options call.left call.answers).out
+HasWritten options status.NoMemory call = AreReplies options call.taken call.answers call.out
+
+-- All answers of the store were used, but for the message in which the call ended early.
+abbrev pub HasUsed : Options → Status → Call → Type 0
+HasUsed options status.Done call = (plain options call.left call.answers).used ≡ length call.answers
+HasUsed options status.Unclean call = (plain options call.left call.answers).used ≡ length call.answers
+HasUsed options (status.BadFrame place kind) call = (plain options call.left call.answers).used ≡ length call.answers
+HasUsed options status.Usage call = call.answers ≡ []
+HasUsed options status.ReadFault call = (plain options call.taken call.answers).used ≡ length call.answers
+HasUsed options status.LongInput call = (plain options call.taken call.answers).used ≡ length call.answers
+HasUsed options status.StoreFault call = (plain options call.taken call.answers).used ≤ length call.answers
+HasUsed options status.WriteFault call = (plain options call.left call.answers).used ≡ length call.answers
+HasUsed options status.NoMemory call = Unit {0}
+
+-- the play went through all contents: no `exit` was met, and no answer of the store was wanted
+abbrev pub IsThrough : Stop → Type 0
+IsThrough (Exited end) = ⊥
+IsThrough (Lacks wanted) = ⊥
+IsThrough (Through s) = Unit {0}
+
+-- At a moment of a call, before a read that took bytes: what was written is what the plain server writes for what was
+-- taken, no `exit` was met in it, and what stands isn't faulty.
+pub record IsPrompt (options : Options) (taken out : List ℕ) (answers : List Entry) (moment : Mark) : Type 0 where
+  pub within : moment.taken ≤ length taken
+  pub wrote : moment.written ≤ length out
+  pub output : (plain options (take moment.taken taken) answers).out ≡ take moment.written out
+  pub through : IsThrough (played options (take moment.taken taken) answers).stop
+  pub sound : IsEmptyOrOpen (frames (take moment.taken taken)).rest
+
+abbrev pub EachPrompt : Options → List ℕ → List ℕ → List Entry → List Mark → Type 0
+EachPrompt options taken out answers [] = Unit {0}
+EachPrompt options taken out answers (moment ∷ moments) = IsPrompt options taken out answers moment × EachPrompt options taken out answers moments
+
+abbrev pub ArePrompt : Options → Call → Type 0
+ArePrompt options call = EachPrompt options call.taken call.out call.answers call.moments
+
+-- the verdict of the plain server on all that the source had left
+abbrev pub verdict_on : Options → Call → Verdict
+verdict_on options call = (plain options call.left call.answers).verdict
+
+-- the status that the verdict of the plain server asks for
+abbrev pub IsStatusOf : Status → Verdict → Type 0
+IsStatusOf status.Done verdict = verdict ≡ Done
+IsStatusOf status.Unclean verdict = verdict ≡ Unclean
+IsStatusOf (status.BadFrame place kind) verdict = verdict ≡ Faulty place kind
+IsStatusOf status.Usage verdict = ⊥
+IsStatusOf status.ReadFault verdict = ⊥
+IsStatusOf status.WriteFault verdict = ⊥
+IsStatusOf status.StoreFault verdict = ⊥
+IsStatusOf status.NoMemory verdict = ⊥
+IsStatusOf status.LongInput verdict = ⊥
+
+-- a fact of the place and the kind of a faulty frame
+abbrev pub IfBadFrame : Status → (ℕ → FrameKind → Type 0) → Type 0
+IfBadFrame (status.BadFrame place kind) P = P place kind
+IfBadFrame status.Done P = Unit {0}
+IfBadFrame status.Unclean P = Unit {0}
+IfBadFrame status.Usage P = Unit {0}
+IfBadFrame status.ReadFault P = Unit {0}
+IfBadFrame status.WriteFault P = Unit {0}
+IfBadFrame status.StoreFault P = Unit {0}
+IfBadFrame status.NoMemory P = Unit {0}
+IfBadFrame status.LongInput P = Unit {0}
+
+-- Where fewer than 2^62 bytes were taken, the status is that of the plain server's verdict, or memory was wanted.
+abbrev pub IsComplete : Options → Status → Call → Type 0
+IsComplete options ended call = length call.taken < 2 ^ 62 → IsStatusOf ended (verdict_on options call) ⊎ (ended ≡ status.NoMemory)

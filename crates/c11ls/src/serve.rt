@@ -1,0 +1,118 @@
+// The server's top call: from the words of the command line to the status of the process.
+ghost use Rattle.std.specs.Prelude.{◌≡◌, ◌⊎◌, ◌↔◌, ◌+◌, ◌<◌, ◌≤◌, ◌^◌, length, true, false};
+ghost use Rattle.c11ls.specs.Calls.{IfTold, IfToldAddsUp};
+ghost use Rattle.c11ls.specs.Codes.{line_of};
+ghost use Rattle.c11ls.specs.Going.{Ended};
+ghost use Rattle.c11ls.specs.Lines.{WritesLine};
+ghost use Rattle.c11ls.specs.Plain.{Done, Unclean, Faulty};
+ghost use Rattle.c11ls.specs.Serve.{HasWritten, HasUsed, ArePrompt, IfBadFrame, IsComplete, verdict_on};
+ghost use Rattle.c11ls.specs.Turn.{IsCounted};
+ghost use Rattle.c11ls.specs.Words.{texts, are_grammatical, serves, options_of};
+ghost use Rattle.std.specs.Prelude.{Some};
+
+use crate::lines::write_line;
+use crate::run::run;
+use crate::status::Status;
+use io_edges::{Sink, Store, Wire};
+use std::alloc::Global;
+use std::sync::ledger::Ledger;
+use steps::Steps;
+
+/// What the words ask for: a client that is served until the call ends, or nothing, where they aren't in the grammar.
+fn answer<W: Wire, D: Store, L: Ledger>(
+    alloc: Global,
+    words: &[String],
+    wire: &mut W,
+    store: &mut D,
+    steps: &mut Steps<L>,
+) -> Status
+    requires source { W.read_faults wire.old + 1 < 2 ^ 64 }
+    requires sink { W.write_faults wire.old + 1 < 2 ^ 64 }
+    requires store { D.faults store.old + 1 < 2 ^ 64 }
+    ensures usage { result ≡ Status.Usage → are_grammatical (texts words.now) ≡ false }
+    ensures refused { are_grammatical (texts words.now) ≡ false → result ≡ Status.Usage }
+    ensures wire_stays { result ≡ Status.Usage → W.told wire.new ≡ W.told wire.old }
+    ensures store_stays { result ≡ Status.Usage → D.answers store.new ≡ D.answers store.old }
+    ensures ended { serves (texts words.now) ≡ true → Ended (options_of (texts words.now)) result (W.told wire.old) (W.told wire.new) (D.answers store.old) (D.answers store.new) }
+    ensures counted { IsCounted (Some result) (W.read_faults wire.old) (W.read_faults wire.new) (W.write_faults wire.old) (W.write_faults wire.new) (D.faults store.old) (D.faults store.new) }
+{
+    if !words.is_empty() {
+        return Status::Usage;
+    }
+    run(alloc, wire, store, steps)
+}
+
+/// Writes the line of a status, or a front of it.
+pub fn tell<E: Sink>(errs: &mut E, status: Status)
+    requires { E.faults errs.old + 1 < 2 ^ 64 }
+    ensures { WritesLine (line_of status) (E.written errs.old) (E.written errs.new) (E.faults errs.old) (E.faults errs.new) }
+{
+    let _ = write_line(errs, status);
+}
+
+/// Serves the client on the wire, reading files from the store, until the call ends, and says how it ended.
+///
+/// `words` are the words after the program's name. What the sink gets is what the plain server writes for all that the
+/// source had left: it keeps only the current texts, and analyses every unit anew for each message. Where the call ends
+/// early, it is a front of that.
+pub fn serve<W: Wire, E: Sink, D: Store, L: Ledger>(
+    alloc: Global,
+    words: &[String],
+    wire: &mut W,
+    errs: &mut E,
+    store: &mut D,
+    steps: &mut Steps<L>,
+) -> Status
+    requires source { W.read_faults wire.old + 1 < 2 ^ 64 }
+    requires sink { W.write_faults wire.old + 1 < 2 ^ 64 }
+    requires store { D.faults store.old + 1 < 2 ^ 64 }
+    requires errs { E.faults errs.old + 1 < 2 ^ 64 }
+
+    // Usage: only where the words aren't in the grammar, and there, or memory was wanted. Nothing is read or written then.
+    ensures usage { result ≡ Status.Usage → are_grammatical (texts words.now) ≡ false }
+    ensures refused { are_grammatical (texts words.now) ≡ false → (result ≡ Status.Usage) ⊎ (result ≡ Status.NoMemory) }
+    ensures untouched { result ≡ Status.Usage → (W.told wire.new ≡ W.told wire.old) × (D.answers store.new ≡ D.answers store.old)
+        × (W.read_faults wire.new ≡ W.read_faults wire.old) × (W.write_faults wire.new ≡ W.write_faults wire.old) × (D.faults store.new ≡ D.faults store.old) }
+
+    // What was left is what was taken and what is left now; what was written and answered stands behind what was there.
+    ensures consumed { serves (texts words.now) ≡ true → IfToldAddsUp (W.told wire.old) (W.told wire.new) (D.answers store.old) (D.answers store.new) }
+
+    // The bytes that the sink got are those of the plain server.
+    ensures written { serves (texts words.now) ≡ true → IfTold (W.told wire.old) (W.told wire.new) (D.answers store.old) (D.answers store.new)
+        (HasWritten (options_of (texts words.now)) result) }
+
+    // The store's answers were all used, but for the message in which the call ended early.
+    ensures answers { serves (texts words.now) ≡ true → IfTold (W.told wire.old) (W.told wire.new) (D.answers store.old) (D.answers store.new)
+        (HasUsed (options_of (texts words.now)) result) }
+
+    // Each reply was written before more was read, and nothing was read after the end.
+    ensures marks { serves (texts words.now) ≡ true → IfTold (W.told wire.old) (W.told wire.new) (D.answers store.old) (D.answers store.new)
+        (ArePrompt (options_of (texts words.now))) }
+
+    // The statuses, by the verdict of the plain server.
+    ensures done { serves (texts words.now) ≡ true → result ≡ Status.Done → IfTold (W.told wire.old) (W.told wire.new) (D.answers store.old) (D.answers store.new)
+        (λ call. verdict_on (options_of (texts words.now)) call ≡ Done) }
+    ensures unclean { serves (texts words.now) ≡ true → result ≡ Status.Unclean → IfTold (W.told wire.old) (W.told wire.new) (D.answers store.old) (D.answers store.new)
+        (λ call. verdict_on (options_of (texts words.now)) call ≡ Unclean) }
+    ensures bad_frame { serves (texts words.now) ≡ true → IfBadFrame result (λ place kind. IfTold (W.told wire.old) (W.told wire.new) (D.answers store.old) (D.answers store.new)
+        (λ call. verdict_on (options_of (texts words.now)) call ≡ Faulty place kind)) }
+    ensures long_input { serves (texts words.now) ≡ true → result ≡ Status.LongInput → IfTold (W.told wire.old) (W.told wire.new) (D.answers store.old) (D.answers store.new)
+        (λ call. 2 ^ 62 ≤ length call.taken) }
+
+    // A fault: exactly where the count of that very end rose.
+    ensures read_fault { (result ≡ Status.ReadFault) ↔ (W.read_faults wire.old < W.read_faults wire.new) }
+    ensures write_fault { (result ≡ Status.WriteFault) ↔ (W.write_faults wire.old < W.write_faults wire.new) }
+    ensures store_fault { (result ≡ Status.StoreFault) ↔ (D.faults store.old < D.faults store.new) }
+
+    // Where no count rose and fewer than 2^62 bytes were taken: the status of the verdict, or memory was wanted.
+    ensures complete { serves (texts words.now) ≡ true → W.read_faults wire.new ≡ W.read_faults wire.old → W.write_faults wire.new ≡ W.write_faults wire.old
+        → D.faults store.new ≡ D.faults store.old → IfTold (W.told wire.old) (W.told wire.new) (D.answers store.old) (D.answers store.new)
+        (IsComplete (options_of (texts words.now)) result) }
+
+    // The error sink got the status's line, or a front of it where its count rose, and nothing else.
+    ensures line { WritesLine (line_of result) (E.written errs.old) (E.written errs.new) (E.faults errs.old) (E.faults errs.new) }
+{
+    let status = answer(alloc, words, wire, store, steps);
+    tell(errs, status);
+    status
+}
