@@ -1,0 +1,9 @@
+pub mod AfterLemmas
+pub mod Boundaries
+pub mod CutLemmas
+pub mod FindingLemmas
+pub mod FrontLemmas
+pub mod LexingLemmas
+pub mod NextLemmas
+pub mod ReadingLemmas
+pub mod RunLemmas
