@@ -1,22 +1,20 @@
 -- A text is lexed piece by piece.
-use Rattle.std.proofs.Common.{◌≡◌, ℕ, zero, suc, ◌+◌, ◌-◌, ◌<◌, Bool, false, List, [], ◌∷◌, ◌++◌, length, take, drop, refl, ap, sym, ◌∙◌, arith, append_assoc}
-use Rattle.std.proofs.lemmas.List.{length-append, append-nil}
+use Rattle.std.proofs.Common.{◌≡◌, ℕ, zero, suc, ◌+◌, ◌-◌, ◌<◌, Bool, List, [], ◌∷◌, ◌++◌, length, take, drop, refl, ap, sym, ◌∙◌, arith, append_assoc}
+use Rattle.std.proofs.lemmas.List.{length-append}
 use Rattle.std.specs.List.{flat_map}
 use Rattle.c_tokens.specs.declared.pieces.Context.{Context}
-use Rattle.c_tokens.specs.declared.pieces.Context.TheVariants.{Fresh}
 use Rattle.c_tokens.specs.declared.types.PpToken.{PpToken}
 use Rattle.c_tokens.specs.declared.types.LexFault.{LexFault}
 use Rattle.c_tokens.specs.Logical.{Character}
 use Rattle.c_tokens.specs.Pieces.{Piece, Front, pieces, front_of, after_piece, is_space, spelling}
-use Rattle.c_tokens.specs.Lexed.{token_of, place_of, fault_as, faults_from, pieces_of}
-use Rattle.c_tokens.specs.Reading.{rest}
+use Rattle.c_tokens.specs.Lexed.{token_of, place_of, fault_as, faults_from}
 
 pub pieces_skip : (context : Context) (spaced : Bool) (k : ℕ) (cs : List Character) → pieces context spaced k cs ≡ pieces context spaced 0 (drop k cs)
 pieces_skip context spaced zero cs = refl
 pieces_skip context spaced (suc k) [] = refl
 pieces_skip context spaced (suc k) (c ∷ cs) = pieces_skip context spaced k cs
 
-drop_less : (n : ℕ) (c : Character) (cs : List Character) → 0 < n → drop (n - 1) cs ≡ drop n (c ∷ cs)
+pub drop_less : (n : ℕ) (c : Character) (cs : List Character) → 0 < n → drop (n - 1) cs ≡ drop n (c ∷ cs)
 drop_less zero c cs some = absurd (omega arith)
 drop_less (suc n) c cs some = let e : suc n - 1 ≡ n = omega arith in rw e refl
 
@@ -52,22 +50,3 @@ goes_turns tokens tokens' places places' faults faults' left all behind p e et e
       found_faults = rw (more, ef) (append_assoc faults (fault_as p.class p.characters (length tokens)) (faults_from (length tokens + length (token_of p)) behind)
           ∙ (sym (ap (λ (ps : List Piece). faults ++ faults_from (length tokens) ps) e) ∙ goes.found_faults));
     }
-
--- at the end of a text
-pub ended_tokens : (tokens : List PpToken) (places : List (ℕ × ℕ)) (faults : List LexFault) (text : List ℕ) (at : ℕ) (context : Context) (spaced : Bool)
-    → rest text at ≡ [] → Goes tokens places faults (pieces context spaced 0 (rest text at)) (pieces Fresh false 0 (rest text 0)) → tokens ≡ flat_map token_of (pieces_of text)
-unfolding rest
-ended_tokens tokens places faults text at context spaced none goes =
-    sym (append-nil tokens) ∙ (sym (ap (λ (cs : List Character). tokens ++ flat_map token_of (pieces context spaced 0 cs)) none) ∙ goes.found_tokens)
-
-pub ended_places : (tokens : List PpToken) (places : List (ℕ × ℕ)) (faults : List LexFault) (text : List ℕ) (at : ℕ) (context : Context) (spaced : Bool)
-    → rest text at ≡ [] → Goes tokens places faults (pieces context spaced 0 (rest text at)) (pieces Fresh false 0 (rest text 0)) → places ≡ flat_map place_of (pieces_of text)
-unfolding rest
-ended_places tokens places faults text at context spaced none goes =
-    sym (append-nil places) ∙ (sym (ap (λ (cs : List Character). places ++ flat_map place_of (pieces context spaced 0 cs)) none) ∙ goes.found_places)
-
-pub ended_faults : (tokens : List PpToken) (places : List (ℕ × ℕ)) (faults : List LexFault) (text : List ℕ) (at : ℕ) (context : Context) (spaced : Bool)
-    → rest text at ≡ [] → Goes tokens places faults (pieces context spaced 0 (rest text at)) (pieces Fresh false 0 (rest text 0)) → faults ≡ faults_from 0 (pieces_of text)
-unfolding rest
-ended_faults tokens places faults text at context spaced none goes =
-    sym (append-nil faults) ∙ (sym (ap (λ (cs : List Character). faults ++ faults_from (length tokens) (pieces context spaced 0 cs)) none) ∙ goes.found_faults)

@@ -1,8 +1,15 @@
 pub mod AfterLemmas
 pub mod Boundaries
+pub mod ClosedFirst
+pub mod ClosedFronts
+pub mod ClosedPieces
+pub mod ClosedRuns
 pub mod CutLemmas
+pub mod EndLemmas
 pub mod FindingLemmas
+pub mod FollowLemmas
 pub mod FrontLemmas
+pub mod LawLemmas
 pub mod LexingLemmas
 pub mod NextLemmas
 pub mod ReadingLemmas

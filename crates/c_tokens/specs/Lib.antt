@@ -4,4 +4,5 @@ pub mod Classes
 pub mod Pieces
 pub mod Lexed
 pub mod Reading
+pub mod Laws
 pub mod Finding

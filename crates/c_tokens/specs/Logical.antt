@@ -1,5 +1,5 @@
 -- Translation phases 1 and 2 (ISO C11 5.1.1.2): a text as its logical characters.
-use Rattle.std.specs.Prelude.{ℕ, ◌+◌, ◌<◌, Bool, true, false, ◌&&◌, ◌||◌, List, [], ◌∷◌, take, drop, Option, Some, None, if◌then◌else◌, nat_lt, nat_le, ◌==◌, slice_index, ⊤}
+use Rattle.std.specs.Prelude.{ℕ, ◌+◌, ◌<◌, Bool, true, false, ◌&&◌, ◌||◌, List, [], ◌∷◌, take, drop, Option, Some, None, if◌then◌else◌, nat_lt, nat_le, ◌==◌, slice_index, ⊤, ◌++◌, length}
 use Rattle.std.specs.List.{prefix_len}
 use Rattle.c_tokens.specs.declared.logical.Unit.{Unit}
 use Rattle.c_tokens.specs.declared.logical.Unit.TheVariants.{Removed, Trigraph, Plain}
@@ -129,4 +129,4 @@ characters_of text = characters 0 0 (cut first_source (λ s. s.width) 0 text)
 
 -- the logical characters of a text
 abbrev pub logical : List ℕ → List Character
-logical text = characters_of text
+logical text = characters_of text ++ closing_line_end (length text) (characters_of text)

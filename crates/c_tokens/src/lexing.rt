@@ -2,6 +2,7 @@
 ghost use Rattle.std.specs.Prelude.{◌≡◌, ℕ, [], ◌+◌, ◌<◌, ◌≤◌, ◌^◌, ◌++◌, length, take, Some, MatchOption, IfOk, OnOk, option_to_list, IsCharBoundary, string_bytes, vec_len};
 ghost use Rattle.std.specs.List.{flat_map};
 ghost use Rattle.c_tokens.specs.Finding.{read_piece, IsPiece, IsNextPiece};
+ghost use Rattle.c_tokens.specs.Laws.{PiecesJoin, CharactersFollow, InOrder, ranges};
 ghost use Rattle.c_tokens.specs.Lexed.{is_fresh, token_by, place_by, token_of, place_of, fault_as, faults_from, pieces_of};
 ghost use Rattle.c_tokens.specs.Logical.{end_of};
 ghost use Rattle.c_tokens.specs.Pieces;
@@ -281,6 +282,9 @@ pub fn lex(alloc: Global, text: &str) -> Result<Lexed, AllocError>
     ensures tokens { IfOk result (λ lexed. lexed.tokens ≡ flat_map token_of (pieces_of text.now)) }
     ensures places { IfOk result (λ lexed. lexed.places ≡ flat_map place_of (pieces_of text.now)) }
     ensures faults { IfOk result (λ lexed. lexed.faults ≡ faults_from 0 (pieces_of text.now)) }
+    ensures paired { IfOk result (λ lexed. length lexed.tokens ≡ length lexed.places) }
+    ensures place_order { IfOk result (λ lexed. InOrder 0 (length text.now) lexed.places) }
+    ensures fault_order { IfOk result (λ lexed. InOrder 0 (length text.now) (ranges lexed.faults)) }
 {
     let mut found = Found {
         tokens: Vec::new(alloc),
@@ -302,3 +306,13 @@ pub fn lex(alloc: Global, text: &str) -> Result<Lexed, AllocError>
         faults: Faults::from_vec(found.faults),
     })
 }
+
+/// The pieces of a text, joined, are its logical characters.
+pub fn pieces_join(_text: &str)
+    ensures { PiecesJoin _text.now }
+{}
+
+/// The ranges of a text's logical characters follow one another from its front on.
+pub fn characters_follow(_text: &str)
+    ensures { CharactersFollow _text.now }
+{}
