@@ -20,7 +20,7 @@ pub if_cases : {A : Type 0} (P : A → Type 0) (b : Bool) (x y : A) → (b ≡ t
 if_cases P true x y holds fails = holds refl
 if_cases P false x y holds fails = fails refl
 
-run_first : (cs : List ℕ) (s : State) → 0 < length cs → IsSome (next_state s (slice_index cs 0)) → 0 < run cs s
+pub run_first : (cs : List ℕ) (s : State) → 0 < length cs → IsSome (next_state s (slice_index cs 0)) → 0 < run cs s
 run_first [] s long goes = absurd (omega arith)
 run_first (c ∷ cs) s long goes = run_by (next_state s c) goes
   where
@@ -28,19 +28,19 @@ run_first (c ∷ cs) s long goes = run_by (next_state s c) goes
     run_by None goes = cc goes
     run_by (Some t) goes = omega arith
 
-blanks_go : (c : ℕ) → is_blank c ≡ true → IsSome (next_state Blanks c)
+pub blanks_go : (c : ℕ) → is_blank c ≡ true → IsSome (next_state Blanks c)
 unfolding next_state
 blanks_go c e = rw e refl
 
-line_goes : (c : ℕ) → is_line_end c ≡ false → IsSome (next_state Line c)
+pub line_goes : (c : ℕ) → is_line_end c ≡ false → IsSome (next_state Line c)
 unfolding next_state
 line_goes c e = rw e refl
 
-word_goes : (c : ℕ) → is_nondigit c ≡ true → IsSome (next_state Word c)
+pub word_goes : (c : ℕ) → is_nondigit c ≡ true → IsSome (next_state Word c)
 unfolding next_state
 word_goes c e = rw e refl
 
-digits_go : (c : ℕ) → is_number_part c ≡ true → IsSome (next_state Digits c)
+pub digits_go : (c : ℕ) → is_number_part c ≡ true → IsSome (next_state Digits c)
 unfolding next_state
 digits_go c e = if_cases (λ (o : Option State). IsSome o) (is_exponent c) _ _ (λ _. refl) (λ _. rw e refl)
 

@@ -11,6 +11,8 @@ pub mod FollowLemmas
 pub mod FrontLemmas
 pub mod LawLemmas
 pub mod LexingLemmas
+pub mod LongestLemmas
+pub mod LongestTokens
 pub mod NextLemmas
 pub mod ReadingLemmas
 pub mod RunLemmas

@@ -4,5 +4,6 @@ pub mod Classes
 pub mod Pieces
 pub mod Lexed
 pub mod Reading
+pub mod Languages
 pub mod Laws
 pub mod Finding

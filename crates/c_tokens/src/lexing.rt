@@ -2,6 +2,7 @@
 ghost use Rattle.std.specs.Prelude.{◌≡◌, ℕ, [], ◌+◌, ◌<◌, ◌≤◌, ◌^◌, ◌++◌, length, take, Some, MatchOption, IfOk, OnOk, option_to_list, IsCharBoundary, string_bytes, vec_len};
 ghost use Rattle.std.specs.List.{flat_map};
 ghost use Rattle.c_tokens.specs.Finding.{read_piece, IsPiece, IsNextPiece};
+ghost use Rattle.c_tokens.specs.Languages.{FrontIsLongest};
 ghost use Rattle.c_tokens.specs.Laws.{PiecesJoin, CharactersFollow, InOrder, ranges};
 ghost use Rattle.c_tokens.specs.Lexed.{is_fresh, token_by, place_by, token_of, place_of, fault_as, faults_from, pieces_of};
 ghost use Rattle.c_tokens.specs.Logical.{end_of};
@@ -315,4 +316,10 @@ pub fn pieces_join(_text: &str)
 /// The ranges of a text's logical characters follow one another from its front on.
 pub fn characters_follow(_text: &str)
     ensures { CharactersFollow _text.now }
+{}
+
+/// The piece at the front of characters, given by their first bytes, is the longest front that is a token, a comment or
+/// white space.
+pub fn front_is_longest(_codes: &[u8])
+    ensures { FrontIsLongest _codes.now }
 {}
