@@ -58,10 +58,10 @@ second : (a b : Bool) → a && b ≡ true → b ≡ true
 second true b e = e
 second false b e = cc e
 
-third_some : (a b c : ℕ) → is_triple a b c ≡ true → 0 < c
+pub third_some : (a b c : ℕ) → is_triple a b c ≡ true → 0 < c
 third_some a b c e = grind (arith, common_steps, e)
 
-pair_some : (a b : ℕ) → is_pair a b ≡ true → 0 < b
+pub pair_some : (a b : ℕ) → is_pair a b ≡ true → 0 < b
 unfolding is_pair
 pair_some a b e = grind (arith, common_steps, e)
 

@@ -13,6 +13,7 @@ pub mod LawLemmas
 pub mod LexingLemmas
 pub mod LongestLemmas
 pub mod LongestTokens
+pub mod MemberLemmas
 pub mod NextLemmas
 pub mod ReadingLemmas
 pub mod RunLemmas

@@ -15,7 +15,7 @@ use Rattle.c_tokens.proofs.FrontLemmas.{if_cases, run_first, digits_go, line_goe
 use Rattle.c_tokens.proofs.ClosedFronts.{PlaceWithin, prefix_within}
 use Rattle.c_tokens.proofs.LongestLemmas.{accepts_within, Closes, closes_exactly, first_part, second_part, either_part, take_see, below_first, below_front_token, no_prefix, below_identifier}
 
-same_test : (a b : ℕ) → a == b ≡ true → a ≡ b
+pub same_test : (a b : ℕ) → a == b ≡ true → a ≡ b
 same_test a b e = grind (arith, common_steps, e)
 
 -- where no quote opens a literal

@@ -1,6 +1,9 @@
 -- The classes of ISO C11 6.4 as languages: whether a sequence of characters, given by their first bytes, is a member.
 use Rattle.std.specs.Prelude.{◌≡◌, ℕ, ◌+◌, ◌<◌, ◌≤◌, Bool, true, false, ◌&&◌, ◌||◌, List, [], ◌∷◌, take, drop, length, Option, Some, None, ◌==◌, slice_index, bytes_eq, codes}
 use Rattle.std.specs.Option.{option_map_or}
+use Rattle.c_tokens.specs.declared.pieces.Class.{Class}
+use Rattle.c_tokens.specs.declared.pieces.Class.TheVariants.{Token, OpenLiteral, OpenComment}
+use Rattle.c_tokens.specs.declared.types.PpKind.TheVariants.{Stray}
 use Rattle.c_tokens.specs.declared.pieces.Context.{Context}
 use Rattle.c_tokens.specs.declared.pieces.Context.TheVariants.{Include}
 use Rattle.c_tokens.specs.declared.classes.State.{State}
@@ -86,3 +89,14 @@ IsLongest context cs size = (n : ℕ) → size < n → n ≤ length cs → is_pi
 -- of whatever characters, the first piece is the longest front that is one
 abbrev pub FrontIsLongest : List ℕ → Type 0
 FrontIsLongest cs = (context : Context) → IsLongest context cs (first_front context cs).size
+
+-- a piece that is neither open nor a stray character
+abbrev pub is_whole : Class → Bool
+is_whole OpenComment = false
+is_whole (OpenLiteral kind) = false
+is_whole (Token Stray) = false
+is_whole _ = true
+
+-- and it is one, unless it is open or a stray character
+abbrev pub FrontIsPiece : List ℕ → Type 0
+FrontIsPiece cs = (context : Context) → 0 < length cs → is_whole (first_front context cs).class ≡ true → is_piece context (take (first_front context cs).size cs) ≡ true

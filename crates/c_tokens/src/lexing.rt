@@ -2,7 +2,7 @@
 ghost use Rattle.std.specs.Prelude.{◌≡◌, ℕ, [], ◌+◌, ◌<◌, ◌≤◌, ◌^◌, ◌++◌, length, take, Some, MatchOption, IfOk, OnOk, option_to_list, IsCharBoundary, string_bytes, vec_len};
 ghost use Rattle.std.specs.List.{flat_map};
 ghost use Rattle.c_tokens.specs.Finding.{read_piece, IsPiece, IsNextPiece};
-ghost use Rattle.c_tokens.specs.Languages.{FrontIsLongest};
+ghost use Rattle.c_tokens.specs.Languages.{FrontIsLongest, FrontIsPiece};
 ghost use Rattle.c_tokens.specs.Laws.{PiecesJoin, CharactersFollow, InOrder, ranges};
 ghost use Rattle.c_tokens.specs.Lexed.{is_fresh, token_by, place_by, token_of, place_of, fault_as, faults_from, pieces_of};
 ghost use Rattle.c_tokens.specs.Logical.{end_of};
@@ -319,7 +319,8 @@ pub fn characters_follow(_text: &str)
 {}
 
 /// The piece at the front of characters, given by their first bytes, is the longest front that is a token, a comment or
-/// white space.
+/// white space, unless it is an open comment, an open literal or a stray character.
 pub fn front_is_longest(_codes: &[u8])
-    ensures { FrontIsLongest _codes.now }
+    ensures longest { FrontIsLongest _codes.now }
+    ensures piece { FrontIsPiece _codes.now }
 {}
