@@ -1,0 +1,53 @@
+-- At the end of a text all was found.
+use Rattle.std.proofs.Common.{◌≡◌, ℕ, Bool, false, List, [], ◌∷◌, ◌++◌, length, refl, ap, sym, ◌∙◌}
+use Rattle.std.proofs.lemmas.List.{append-nil}
+use Rattle.std.specs.List.{flat_map}
+use Rattle.c_tokens.specs.declared.pieces.Context.{Context}
+use Rattle.c_tokens.specs.declared.pieces.Context.TheVariants.{Fresh}
+use Rattle.c_tokens.specs.declared.types.PpToken.{PpToken}
+use Rattle.c_tokens.specs.declared.types.LexFault.{LexFault}
+use Rattle.c_tokens.specs.Logical.{Character, logical, characters_of, closing_line_end, ends_in_line_end, end_of}
+use Rattle.c_tokens.specs.Pieces.{pieces}
+use Rattle.c_tokens.specs.Lexed.{token_of, place_of, faults_from, pieces_of}
+use Rattle.c_tokens.specs.Reading.{rest}
+use Rattle.c_tokens.specs.Laws.{Follow, InOrder, ranges}
+use Rattle.c_tokens.proofs.FrontLemmas.{if_cases}
+use Rattle.c_tokens.proofs.FollowLemmas.{text_follows, follow_closed}
+use Rattle.c_tokens.proofs.LawLemmas.{places_in_order, faults_in_order}
+use Rattle.c_tokens.proofs.LexingLemmas.{Goes}
+use Rattle.c_tokens.proofs.ClosedPieces.{closed_text}
+
+-- at the end of a text
+pub ended_tokens : (tokens : List PpToken) (places : List (ℕ × ℕ)) (faults : List LexFault) (text : List ℕ) (at : ℕ) (context : Context) (spaced : Bool)
+    → rest text at ≡ [] → Goes tokens places faults (pieces context spaced 0 (rest text at)) (pieces Fresh false 0 (rest text 0)) → tokens ≡ flat_map token_of (pieces_of text)
+unfolding rest
+ended_tokens tokens places faults text at context spaced none goes =
+    sym (append-nil tokens) ∙ (sym (ap (λ (cs : List Character). tokens ++ flat_map token_of (pieces context spaced 0 cs)) none) ∙ (goes.found_tokens ∙ sym (closed_text text).same_tokens))
+
+pub ended_places : (tokens : List PpToken) (places : List (ℕ × ℕ)) (faults : List LexFault) (text : List ℕ) (at : ℕ) (context : Context) (spaced : Bool)
+    → rest text at ≡ [] → Goes tokens places faults (pieces context spaced 0 (rest text at)) (pieces Fresh false 0 (rest text 0)) → places ≡ flat_map place_of (pieces_of text)
+unfolding rest
+ended_places tokens places faults text at context spaced none goes =
+    sym (append-nil places) ∙ (sym (ap (λ (cs : List Character). places ++ flat_map place_of (pieces context spaced 0 cs)) none) ∙ (goes.found_places ∙ sym (closed_text text).same_places))
+
+pub ended_faults : (tokens : List PpToken) (places : List (ℕ × ℕ)) (faults : List LexFault) (text : List ℕ) (at : ℕ) (context : Context) (spaced : Bool)
+    → rest text at ≡ [] → Goes tokens places faults (pieces context spaced 0 (rest text at)) (pieces Fresh false 0 (rest text 0)) → faults ≡ faults_from 0 (pieces_of text)
+unfolding rest
+ended_faults tokens places faults text at context spaced none goes =
+    sym (append-nil faults) ∙ (sym (ap (λ (cs : List Character). faults ++ faults_from (length tokens) (pieces context spaced 0 cs)) none) ∙ (goes.found_faults ∙ sym ((closed_text text).same_faults 0)))
+
+-- the ranges of all logical characters
+pub logical_follows : (text : List ℕ) → Follow 0 (length text) (logical text)
+unfolding closing_line_end
+logical_follows text =
+    let cs : List Character = characters_of text in
+    let m : Character = record { spelling = 10 ∷ []; from = end_of 0 cs; own = length text; to = length text } in
+    if_cases (λ (t : List Character). Follow 0 (length text) (cs ++ t)) (ends_in_line_end false cs) [] (m ∷ [])
+    (λ _. rw (append-nil cs) (text_follows text))
+    (λ _. follow_closed 0 (length text) cs m refl refl refl (text_follows text))
+
+pub ordered_places : (text : List ℕ) → InOrder 0 (length text) (flat_map place_of (pieces_of text))
+ordered_places text = places_in_order Fresh false 0 (logical text) 0 (length text) (logical_follows text)
+
+pub ordered_faults : (text : List ℕ) → InOrder 0 (length text) (ranges (faults_from 0 (pieces_of text)))
+ordered_faults text = faults_in_order Fresh false 0 (logical text) 0 0 (length text) (logical_follows text)

@@ -1,0 +1,33 @@
+-- What holds of the pieces of every text.
+use Rattle.std.specs.Prelude.{◌≡◌, ℕ, ◌≤◌, List, [], ◌∷◌, length}
+use Rattle.std.specs.List.{flat_map}
+use Rattle.c_tokens.specs.declared.types.LexFault.{LexFault}
+use Rattle.c_tokens.specs.Logical.{Character, logical}
+use Rattle.c_tokens.specs.Pieces.{Piece}
+use Rattle.c_tokens.specs.Lexed.{pieces_of}
+
+-- the characters of pieces, joined
+abbrev pub joined : List Piece → List Character
+joined ps = flat_map (λ p. p.characters) ps
+
+-- no logical character is lost, and none stands in two pieces
+abbrev pub PiecesJoin : List ℕ → Type 0
+PiecesJoin text = joined (pieces_of text) ≡ logical text
+
+-- the ranges of characters follow one another from a place on: each begins where the one before ended
+abbrev pub Follow : ℕ → ℕ → List Character → Type 0
+Follow from limit [] = from ≤ limit
+Follow from limit (c ∷ cs) = (c.from ≡ from) × (c.from ≤ c.own) × (c.own ≤ c.to) × Follow c.to limit cs
+
+-- the ranges of a text's characters cover it from its front on
+abbrev pub CharactersFollow : List ℕ → Type 0
+CharactersFollow text = Follow 0 (length text) (logical text)
+
+-- ranges that stand in order from a place on, up to a limit
+abbrev pub InOrder : ℕ → ℕ → List (ℕ × ℕ) → Type 0
+InOrder from limit [] = from ≤ limit
+InOrder from limit (r ∷ rs) = (from ≤ r.0) × (r.0 ≤ r.1) × InOrder r.1 limit rs
+
+abbrev pub ranges : List LexFault → List (ℕ × ℕ)
+ranges [] = []
+ranges (f ∷ fs) = (f.start, f.end) ∷ ranges fs

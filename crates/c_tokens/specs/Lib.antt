@@ -1,0 +1,9 @@
+pub mod Cut
+pub mod Logical
+pub mod Classes
+pub mod Pieces
+pub mod Lexed
+pub mod Reading
+pub mod Languages
+pub mod Laws
+pub mod Finding

@@ -1,0 +1,88 @@
+// Texts with their tokens, places and faults, worked out apart from this crate. A line is a token (its kind, `_` after
+// white space, `^` first in its line, its range and its spelling) or, after `!`, a fault.
+use super::*;
+use std::alloc::{AllocError, Global};
+
+mod first;
+mod fourth;
+mod second;
+mod third;
+
+fn kind_name(kind: PpKind) -> &'static str {
+    match kind {
+        PpKind::Ident => "Ident",
+        PpKind::Number => "Number",
+        PpKind::Char => "Char",
+        PpKind::Str => "Str",
+        PpKind::Header => "Header",
+        PpKind::Punct => "Punct",
+        PpKind::Stray => "Stray",
+    }
+}
+
+fn shown_token(alloc: Global, token: &PpToken, place: (u32, u32)) -> Result<String, AllocError> {
+    let space = if token.space_before { "_" } else { "." };
+    let front = if token.line_start { "^" } else { "." };
+    let kind = kind_name(token.kind);
+    let (start, end) = place;
+    let spelling = token.spelling.as_str();
+    format!(in alloc; "{kind} {space}{front} {start}-{end} {spelling}\n")
+}
+
+fn shown_fault(alloc: Global, fault: &LexFault) -> Result<String, AllocError> {
+    let (rule, start, end) = (fault.rule, fault.start, fault.end);
+    match fault.tok {
+        Some(number) => format!(in alloc; "! {rule} {start}-{end} {number}\n"),
+        None => format!(in alloc; "! {rule} {start}-{end}\n"),
+    }
+}
+
+fn shown(alloc: Global, text: &str) -> Result<String, AllocError> {
+    let mut out = String::new(alloc);
+    if 4_290_772_992 < text.len() {
+        return Ok(out);
+    }
+    let lexed = lex(alloc, text)?;
+    for (token, place) in lexed.tokens.as_slice().iter().zip(lexed.places.as_slice()) {
+        out.push_str(shown_token(alloc, token, *place)?.as_str())?;
+    }
+    for fault in lexed.faults.as_slice() {
+        out.push_str(shown_fault(alloc, fault)?.as_str())?;
+    }
+    Ok(out)
+}
+
+// The number of the first text that is read in another way.
+fn wrong(alloc: Global, cases: &[(&str, &str)]) -> Result<Option<usize>, AllocError> {
+    for (number, (text, wanted)) in cases.iter().enumerate() {
+        let found = shown(alloc, text)?;
+        if found.as_str() != *wanted {
+            return Ok(Some(number));
+        }
+    }
+    Ok(None)
+}
+
+#[test]
+fn first_texts(rt: HostRuntime) -> Result<(), AllocError> {
+    assert_eq!(rt; wrong(rt.alloc(), &first::CASES)?, None);
+    Ok(())
+}
+
+#[test]
+fn second_texts(rt: HostRuntime) -> Result<(), AllocError> {
+    assert_eq!(rt; wrong(rt.alloc(), &second::CASES)?, None);
+    Ok(())
+}
+
+#[test]
+fn third_texts(rt: HostRuntime) -> Result<(), AllocError> {
+    assert_eq!(rt; wrong(rt.alloc(), &third::CASES)?, None);
+    Ok(())
+}
+
+#[test]
+fn fourth_texts(rt: HostRuntime) -> Result<(), AllocError> {
+    assert_eq!(rt; wrong(rt.alloc(), &fourth::CASES)?, None);
+    Ok(())
+}
