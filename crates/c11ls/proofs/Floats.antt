@@ -6,7 +6,7 @@ use Rattle.serde_json.specs.Written.{has_float}
 use Rattle.c11ls.specs.Message.{Id, Text, Int, Big}
 use Rattle.c11ls.specs.Replies.{id_data, id_or_null, response_data, error_data}
 
-integer_is_none : (z : ℤ) → is_float (of_integer z) ≡ false
+pub integer_is_none : (z : ℤ) → is_float (of_integer z) ≡ false
 integer_is_none (pos n) = refl
 integer_is_none (negsuc n) = refl
 

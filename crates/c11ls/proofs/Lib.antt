@@ -11,3 +11,5 @@ pub mod Draining
 pub mod Running
 pub mod Adding
 pub mod Serving
+pub mod Publishing
+pub mod Opened

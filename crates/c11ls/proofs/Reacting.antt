@@ -3,8 +3,8 @@ use Rattle.std.proofs.Common.{◌≡◌, ◌≤◌, ℕ, List, ◌++◌, length,
 use Rattle.serde_json.specs.Data.{Data}
 use Rattle.io_edges.specs.Store.{Call, Entry}
 use Rattle.c11ls.specs.Message.{Id, Message, NotJson, Batch, NotObject, Ignored, BadId, BadMethod, Notification, Request, message}
-use Rattle.c11ls.specs.React.{Reaction, Replies, Wants, react, on_message, on_request, on_notification}
-use Rattle.c11ls.specs.State.{State}
+use Rattle.c11ls.specs.React.{Reaction, Replies, Wants, react, on_message, on_request, on_notification, on_open}
+use Rattle.c11ls.specs.State.{State, OpenText}
 
 -- how many answers a reaction used
 abbrev pub used_by : Reaction → ℕ
@@ -25,9 +25,14 @@ request_none : (s : State) (id : Id) (method : List ℕ) → UsesNone (on_reques
 unfolding on_request
 request_none s id method = search (either_none, nothing)
 
+open_none : (s : State) (document : Option OpenText) → UsesNone (on_open s document)
+unfolding on_open
+open_none s None = nothing _ _ _
+open_none s (Some document) = nothing _ _ _
+
 notification_none : (s : State) (method : List ℕ) (params : Option Data) → UsesNone (on_notification s method params)
 unfolding on_notification
-notification_none s method params = search (either_none, nothing)
+notification_none s method params = search (either_none, nothing, open_none)
 
 message_none : (s : State) (kind : Message) → UsesNone (on_message s kind)
 message_none s (Request id method params) = request_none s id method

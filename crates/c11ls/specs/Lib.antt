@@ -13,3 +13,6 @@ pub mod Codes
 pub mod Going
 pub mod Turn
 pub mod Lines
+pub mod Documents
+pub mod Faults
+pub mod Published

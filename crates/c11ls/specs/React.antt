@@ -4,8 +4,9 @@ use Rattle.std.specs.Str.{bytes_eq}
 use Rattle.serde_json.specs.Data.{Data, null}
 use Rattle.io_edges.specs.Store.{Call, Entry}
 use Rattle.c11ls.specs.Message.{Id, Message, NotJson, Batch, NotObject, Ignored, BadId, BadMethod, Notification, Request, message}
-use Rattle.c11ls.specs.Replies.{response, error, log, initialize_result}
-use Rattle.c11ls.specs.State.{State, in_phase}
+use Rattle.c11ls.specs.Documents.{document_in, nothing_open}
+use Rattle.c11ls.specs.Replies.{response, error, log, publish, initialize_result}
+use Rattle.c11ls.specs.State.{State, OpenText, in_phase, with_open}
 use Rattle.c11ls.specs.declared.session.Phase.{Phase}
 use Rattle.c11ls.specs.declared.session.Phase.TheVariants.{Fresh, Running, Down}
 
@@ -46,11 +47,17 @@ on_request s id method =
     else (if bytes_eq method (codes "shutdown") && is_running s.phase then replies (in_phase Down s) (response id null)
     else replies s (error (Some id) (negsuc 32600) (codes "not yet")))
 
+-- a document is opened, and its faults are published
+unfoldable pub on_open : State → Option OpenText → Reaction
+on_open s None = not_served s
+on_open s (Some document) = replies (with_open document s) (publish s.encoding document)
+
 unfoldable pub on_notification : State → List ℕ → Option Data → Reaction
 on_notification s method params =
     if bytes_eq method (codes "exit") then Replies s [] (Some (exit_status s.phase)) 0
     else (if bytes_eq method (codes "initialized") then (if is_fresh s.phase then not_served s else replies s [])
-    else not_served s)
+    else (if bytes_eq method (codes "textDocument/didOpen") && is_running s.phase && nothing_open s then on_open s (document_in params)
+    else not_served s))
 
 abbrev pub on_message : State → Message → Reaction
 on_message s (Request id method params) = on_request s id method

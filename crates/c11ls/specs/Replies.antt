@@ -1,9 +1,16 @@
 -- The bytes of each answer: JSON-RPC 2.0 in the base protocol of LSP 3.17.
-use Rattle.std.specs.Prelude.{ℕ, ℤ, List, [], ◌∷◌, ◌++◌, codes, length, decimal, Option, None, Some, Bool, true}
-use Rattle.serde_json.specs.Data.{Data, null, boolean, number, string, object, unsigned, Members, no_members, member}
+use Rattle.std.specs.Prelude.{ℕ, ℤ, List, [], ◌∷◌, ◌++◌, codes, length, decimal, Option, None, Some, Bool, true, map, if◌then◌else◌, ◌==◌}
+use Rattle.serde_json.specs.Data.{Data, null, boolean, number, string, object, array, unsigned, Members, no_members, member}
 use Rattle.serde_json.specs.Find.{of_integer}
 use Rattle.serde_json.specs.Written.{compact_text}
+use Rattle.serde_json.specs.View.{items_of}
+use Rattle.c_tokens.specs.Lexed.{lexed}
+use Rattle.c_tokens.specs.declared.types.LexFault.{LexFault}
+use Rattle.text_lines.specs.Positions.{pos_at}
+use Rattle.text_lines.specs.declared.Encoding.{Encoding}
+use Rattle.text_lines.specs.declared.Pos.{Pos}
 use Rattle.c11ls.specs.Message.{Id, Text, Int, Big}
+use Rattle.c11ls.specs.State.{OpenText}
 
 -- a content behind its header
 unfoldable pub framed : List ℕ → List ℕ
@@ -51,3 +58,40 @@ error id code text = framed (compact_text (error_data (id_or_null id) code text)
 
 unfoldable pub log : List ℕ → List ℕ
 log text = framed (compact_text (log_data text))
+
+-- the text of a rule (ISO C11 5.1.1.2, 6.4)
+unfoldable pub message_of : ℕ → List ℕ
+message_of rule = if rule == 101 then codes "open comment" else (if rule == 102 then codes "open literal" else codes "stray character")
+
+abbrev pub pos_data : Pos → Data
+pos_data pos = object (member (codes "character") (number (unsigned pos.character)) (member (codes "line") (number (unsigned pos.line)) no_members))
+
+-- a Diagnostic of severity 1, an error, on a range
+abbrev pub fault_data : ℕ → Data → Data → Data
+fault_data rule start end = object
+    (member (codes "code") (number (unsigned rule))
+    (member (codes "message") (string (message_of rule))
+    (member (codes "range") (object (member (codes "end") end (member (codes "start") start no_members)))
+    (member (codes "severity") (number (unsigned 1))
+    (member (codes "source") (string (codes "c11ls")) no_members)))))
+
+abbrev pub diagnostic_data : ℕ → Pos → Pos → Data
+diagnostic_data rule start end = fault_data rule (pos_data start) (pos_data end)
+
+-- the Diagnostic for a fault of a text
+unfoldable pub diagnostic : List ℕ → Encoding → LexFault → Data
+diagnostic text encoding fault = diagnostic_data fault.rule (pos_at text fault.start encoding) (pos_at text fault.end encoding)
+
+-- the notification `textDocument/publishDiagnostics`
+abbrev pub publish_data : List Data → List ℕ → ℤ → Data
+publish_data diagnostics uri version = object
+    (member (codes "jsonrpc") (string (codes "2.0"))
+    (member (codes "method") (string (codes "textDocument/publishDiagnostics"))
+    (member (codes "params") (object
+        (member (codes "diagnostics") (array (items_of diagnostics))
+        (member (codes "uri") (string uri)
+        (member (codes "version") (number (of_integer version)) no_members)))) no_members)))
+
+-- the lexical faults of an open document
+unfoldable pub publish : Encoding → OpenText → List ℕ
+publish encoding d = framed (compact_text (publish_data (map (diagnostic d.text encoding) (lexed d.text).faults) d.uri d.version))

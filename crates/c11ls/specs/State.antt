@@ -1,8 +1,10 @@
 -- What the plain server keeps: the current texts and the session's settings, and nothing that follows from them.
 use Rattle.std.specs.Prelude.{ℕ, ℤ, List, [], Option, None}
 use Rattle.std.specs.Cmp.Lexicographic.{slice_cmp}
-use Rattle.std.specs.FinMap.{FinMap, empty}
+use Rattle.std.specs.FinMap.{FinMap, empty, insert}
 use Rattle.std.specs.Ordering.{nat_cmp}
+use Rattle.text_lines.specs.declared.Encoding.{Encoding}
+use Rattle.text_lines.specs.declared.Encoding.TheVariants.{Utf16}
 use Rattle.c11ls.specs.declared.session.Phase.{Phase}
 use Rattle.c11ls.specs.declared.session.Phase.TheVariants.{Fresh}
 
@@ -20,12 +22,6 @@ pub record Options : Type 0 where
   pub includes : List (List ℕ)
   pub defines : List Define
 
--- The code units in which positions count (LSP 3.17, PositionEncodingKind).
-pub data Encoding : Type 0 where
-  Utf8 : Encoding
-  Utf16 : Encoding
-  Utf32 : Encoding
-
 -- A document that the client has open.
 pub record OpenText : Type 0 where
   pub uri : List ℕ
@@ -40,6 +36,7 @@ pub record State : Type 0 where
   pub disk : TextMap (List ℕ)
   -- the open documents; until paths are read from URIs, each by its URI
   pub opened : TextMap OpenText
+  -- the code units in which positions count (LSP 3.17, PositionEncodingKind)
   pub encoding : Encoding
   pub phase : Phase
 
@@ -54,3 +51,7 @@ in_phase phase s = record { options = s.options; root = s.root; disk = s.disk; o
 -- no word gives an option
 abbrev pub no_options : Options
 no_options = record { includes = []; defines = [] }
+
+-- the state with one more open document
+abbrev pub with_open : OpenText → State → State
+with_open document s = record { options = s.options; root = s.root; disk = s.disk; opened = insert s.opened document.uri document; encoding = s.encoding; phase = s.phase }

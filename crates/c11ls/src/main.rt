@@ -3,6 +3,8 @@
 
 ghost use Rattle.std.specs.Prelude.{◌≡◌, ◌<◌};
 
+mod diagnostics;
+mod documents;
 mod lines;
 mod message;
 mod replies;

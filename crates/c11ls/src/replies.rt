@@ -11,7 +11,7 @@ use std::alloc::{AllocError, Global};
 
 /// A content behind its header.
 #[tactic(auto, unfolding(crate::specs::Replies::framed))]
-fn framed(alloc: Global, content: &str) -> Result<Vec<u8>, AllocError>
+pub fn framed(alloc: Global, content: &str) -> Result<Vec<u8>, AllocError>
     ensures { IfOk result (λ v. v.items ≡ framed content.now) }
 {
     let length = content.len();

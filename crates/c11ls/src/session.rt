@@ -1,12 +1,15 @@
 // The session with one client: what it keeps, and how it handles a content.
-ghost use Rattle.std.specs.Prelude.{◌≡◌, ◌+◌, ◌<◌, ◌^◌, IfOk, IfErr, OnOk, option_map};
+ghost use Rattle.std.specs.Prelude.{◌≡◌, ◌+◌, ◌<◌, ◌^◌, ◌≤◌, length, true, Some, IfOk, IfErr, OnOk, option_map};
 ghost use Rattle.c11ls.specs.Handled.{Handled, Refused};
-ghost use Rattle.c11ls.specs.React.{replies, not_served, is_fresh, is_running, exit_status, on_request, on_notification, on_message};
+ghost use Rattle.c11ls.specs.React.{replies, not_served, on_open, is_fresh, is_running, exit_status, on_request, on_notification, on_message};
 ghost use Rattle.c11ls.specs.Seen.{seen, seen_id};
-ghost use Rattle.c11ls.specs.Sessions.{state_of, reaction};
+ghost use Rattle.c11ls.specs.Documents.{document_in, nothing_open};
+ghost use Rattle.c11ls.specs.Sessions.{state_of, reaction, seen_document};
 ghost use Rattle.serde_json.specs.View.{view};
 ghost use Rattle.c11ls.specs.State.{fresh, no_options};
 
+use crate::documents::{Document, Kept, document_in};
+use crate::diagnostics::publish;
 use crate::message::{Id, Message, message_of, read_content};
 use crate::replies::{error, initialize_result, log, response};
 use io_edges::Store;
@@ -86,6 +89,7 @@ impl From<AllocError> for SessionError {
 pub struct Session {
     alloc: Global,
     phase: Phase,
+    opened: Option<Kept>,
 }
 
 impl Session {
@@ -96,6 +100,7 @@ impl Session {
         Session {
             alloc,
             phase: Phase::Fresh,
+            opened: None,
         }
     }
 
@@ -124,6 +129,39 @@ impl Session {
         Ok(Reply { bytes, end: None })
     }
 
+    /// Whether no document is open.
+    fn nothing_open(&self) -> bool
+        ensures { result ≡ nothing_open (state_of self.now) }
+    {
+        match &self.opened {
+            None => true,
+            Some(_) => false,
+        }
+    }
+
+    /// Opens the document, and publishes its faults.
+    fn open(&mut self, document: Document<'_>) -> Result<Reply, AllocError>
+        requires none { nothing_open (state_of self.old) ≡ true }
+        requires short { length document.text.now ≤ 4194304 }
+        ensures { IfOk result (λ reply. on_open (state_of self.old) (Some (seen_document document.entry)) ≡ reaction (state_of self.new) reply) }
+    {
+        let bytes = publish(self.alloc, document)?;
+        let kept = Kept::of(self.alloc, document)?;
+        self.opened = Some(kept);
+        Ok(Reply { bytes, end: None })
+    }
+
+    #[tactic(auto, unfolding(crate::specs::React::on_open))]
+    fn on_open(&mut self, params: Option<&Value>) -> Result<Reply, AllocError>
+        requires { nothing_open (state_of self.old) ≡ true }
+        ensures { IfOk result (λ reply. on_open (state_of self.old) (document_in (option_map (λ v. view v.now) params.entry)) ≡ reaction (state_of self.new) reply) }
+    {
+        match document_in(params) {
+            None => self.not_served(),
+            Some(document) => self.open(document),
+        }
+    }
+
     #[tactic(auto, unfolding(crate::specs::React::on_notification))]
     fn on_notification(&mut self, method: &str, params: Option<&Value>) -> Result<Reply, AllocError>
         ensures { IfOk result (λ reply. on_notification (state_of self.old) method.now (option_map (λ v. view v.now) params.entry) ≡ reaction (state_of self.new) reply) }
@@ -135,11 +173,17 @@ impl Session {
                 end,
             });
         }
-        if method == "initialized" && !self.phase.is_fresh() {
+        if method == "initialized" {
+            if self.phase.is_fresh() {
+                return self.not_served();
+            }
             return Ok(Reply {
                 bytes: Vec::new(self.alloc),
                 end: None,
             });
+        }
+        if method == "textDocument/didOpen" && self.phase.is_running() && self.nothing_open() {
+            return self.on_open(params);
         }
         self.not_served()
     }
