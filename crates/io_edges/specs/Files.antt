@@ -24,10 +24,11 @@ abbrev pub found_in : Option (List ℕ) → Found
 found_in None = Absent
 found_in (Some bytes) = if nat_lt 4194304 (length bytes) then TooLarge else Bytes bytes
 
+-- what a store with these files has at a path
 abbrev pub found_at : List (List ℕ × List ℕ) → List ℕ → Found
 found_at files path = found_in (bytes_at files path)
 
--- whether a rest of a path begins with a slash, or nothing is left
+-- whether nothing is left of a path, or the rest begins with a slash
 abbrev pub ends_component : List ℕ → Bool
 ends_component [] = true
 ends_component (c ∷ cs) = c == 47

@@ -48,7 +48,7 @@ skip_empty [] = []
 skip_empty ([] ∷ ps) = skip_empty ps
 skip_empty ((b ∷ bs) ∷ ps) = (b ∷ bs) ∷ ps
 
--- the first piece; none is empty
+-- the first piece; no bytes where there is none
 abbrev pub head_piece : List (List ℕ) → List ℕ
 head_piece [] = []
 head_piece (p ∷ ps) = p
@@ -58,7 +58,7 @@ abbrev pub cut_head : ℕ → List (List ℕ) → List (List ℕ)
 cut_head n [] = []
 cut_head n (p ∷ ps) = drop n p ∷ ps
 
--- the first piece that isn't empty, from which a read takes; empty where there is none
+-- the first piece that isn't empty, from which a read takes; no bytes where there is none
 abbrev pub next_piece : List (List ℕ) → List ℕ
 next_piece pieces = head_piece (skip_empty pieces)
 
