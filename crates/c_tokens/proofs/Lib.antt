@@ -15,5 +15,6 @@ pub mod LongestLemmas
 pub mod LongestTokens
 pub mod MemberLemmas
 pub mod NextLemmas
+pub mod OpenLemmas
 pub mod ReadingLemmas
 pub mod RunLemmas

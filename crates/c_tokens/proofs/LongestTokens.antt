@@ -102,7 +102,7 @@ literal_size n p cs within inside e =
     let k_is : Closes k (drop (p + 1) cs) (Text (slice_index cs p)) = closes_exactly k (drop (p + 1) cs) (Text (slice_index cs p)) (omega (arith, within, inside, length-drop (p + 1) cs)) closing in
     (omega (arith, parts, k_is.size), rw k_is.closed refl)
 
-literal_by : (m c : ℕ) (xs : List ℕ) (o : Option ℕ) → literal_prefix (c ∷ take m xs) ≡ o → PlaceWithin (c ∷ take m xs) o → suc m ≤ length (c ∷ xs) → is_quoted o (c ∷ take m xs) ≡ true
+pub literal_by : (m c : ℕ) (xs : List ℕ) (o : Option ℕ) → literal_prefix (c ∷ take m xs) ≡ o → PlaceWithin (c ∷ take m xs) o → suc m ≤ length (c ∷ xs) → is_quoted o (c ∷ take m xs) ≡ true
     → (suc m ≤ (token_front (c ∷ xs)).size) × (is_token (token_front (c ∷ xs)).class ≡ true) × (is_quote c || is_prefix c ≡ true)
 unfolding token_front
 literal_by m c xs None e inside within quoted = cc quoted
@@ -236,10 +236,10 @@ among_agrees w (p ∷ ps) all e = elim (either_part (bytes_eq w p) (is_among w p
   | inr f ↦ among_agrees w ps (second_part (agree p) (all_agree ps) all) f
 ]
 
-punctuator_agrees : (w : List ℕ) → is_punctuator w ≡ true → agree w ≡ true
+pub punctuator_agrees : (w : List ℕ) → is_punctuator w ≡ true → agree w ≡ true
 punctuator_agrees w e = among_agrees w punctuators table_agrees e
 
-at_least_one : (a b c d : ℕ) → is_single a ≡ true → 1 ≤ longest_of_four a b c d
+pub at_least_one : (a b c d : ℕ) → is_single a ≡ true → 1 ≤ longest_of_four a b c d
 unfolding longest_of_four
 at_least_one a b c d e = if_cases (λ (n : ℕ). 1 ≤ n) (is_quadruple a b c d) _ _ (λ _. omega arith) (λ _. if_cases (λ (n : ℕ). 1 ≤ n) (is_triple a b c) _ _ (λ _. omega arith) (λ _. if_cases (λ (n : ℕ). 1 ≤ n) (is_pair a b) _ _ (λ _. omega arith) (λ _. rw e (omega arith))))
 
@@ -276,7 +276,7 @@ triple_single a b c e = grind (arith, common_steps, e)
 quadruple_single : (a b c d : ℕ) → is_quadruple a b c d ≡ true → is_single a ≡ true
 quadruple_single a b c d e = grind (arith, common_steps, e)
 
-single_first : (m c : ℕ) (xs : List ℕ) → agree (c ∷ take m xs) ≡ true → is_single c ≡ true
+pub single_first : (m c : ℕ) (xs : List ℕ) → agree (c ∷ take m xs) ≡ true → is_single c ≡ true
 single_first zero c xs e = e
 single_first (suc m) c [] e = e
 single_first (suc zero) c (d ∷ ys) e = pair_single c d e
@@ -365,7 +365,7 @@ below_piece m context c xs within e =
       ]
     ]
 
-not_true : (b : Bool) → (b ≡ true → ⊥) → b ≡ false
+pub not_true : (b : Bool) → (b ≡ true → ⊥) → b ≡ false
 not_true true none = absurd (none refl)
 not_true false none = refl
 

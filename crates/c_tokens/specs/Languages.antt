@@ -3,6 +3,7 @@ use Rattle.std.specs.Prelude.{◌≡◌, ℕ, ◌+◌, ◌<◌, ◌≤◌, Bool,
 use Rattle.std.specs.Option.{option_map_or}
 use Rattle.c_tokens.specs.declared.pieces.Class.{Class}
 use Rattle.c_tokens.specs.declared.pieces.Class.TheVariants.{Token, OpenLiteral, OpenComment}
+use Rattle.c_tokens.specs.declared.types.PpKind.{PpKind}
 use Rattle.c_tokens.specs.declared.types.PpKind.TheVariants.{Stray}
 use Rattle.c_tokens.specs.declared.pieces.Context.{Context}
 use Rattle.c_tokens.specs.declared.pieces.Context.TheVariants.{Include}
@@ -100,3 +101,14 @@ is_whole _ = true
 -- and it is one, unless it is open or a stray character
 abbrev pub FrontIsPiece : List ℕ → Type 0
 FrontIsPiece cs = (context : Context) → 0 < length cs → is_whole (first_front context cs).class ≡ true → is_piece context (take (first_front context cs).size cs) ≡ true
+
+-- a stray character stands where no front is a piece, an open literal where none is a literal, and an open comment
+-- where none is a comment
+abbrev pub StrayIsNoPiece : List ℕ → Type 0
+StrayIsNoPiece cs = (context : Context) (n : ℕ) → 0 < n → n ≤ length cs → (first_front context cs).class ≡ Token Stray → is_piece context (take n cs) ≡ false
+
+abbrev pub OpenIsNoLiteral : List ℕ → Type 0
+OpenIsNoLiteral cs = (context : Context) (n : ℕ) (kind : PpKind) → n ≤ length cs → (first_front context cs).class ≡ OpenLiteral kind → is_literal (take n cs) ≡ false
+
+abbrev pub OpenIsNoComment : List ℕ → Type 0
+OpenIsNoComment cs = (context : Context) (n : ℕ) → n ≤ length cs → (first_front context cs).class ≡ OpenComment → is_comment (take n cs) ≡ false

@@ -2,8 +2,7 @@
 ghost use Rattle.std.specs.Prelude.{◌≡◌, ℕ, [], ◌+◌, ◌<◌, ◌≤◌, ◌^◌, ◌++◌, length, take, Some, MatchOption, IfOk, OnOk, option_to_list, IsCharBoundary, string_bytes, vec_len};
 ghost use Rattle.std.specs.List.{flat_map};
 ghost use Rattle.c_tokens.specs.Finding.{read_piece, IsPiece, IsNextPiece};
-ghost use Rattle.c_tokens.specs.Languages.{FrontIsLongest, FrontIsPiece};
-ghost use Rattle.c_tokens.specs.Laws.{PiecesJoin, CharactersFollow, InOrder, ranges};
+ghost use Rattle.c_tokens.specs.Laws.{InOrder, ranges};
 ghost use Rattle.c_tokens.specs.Lexed.{is_fresh, token_by, place_by, token_of, place_of, fault_as, faults_from, pieces_of};
 ghost use Rattle.c_tokens.specs.Logical.{end_of};
 ghost use Rattle.c_tokens.specs.Pieces;
@@ -57,7 +56,7 @@ fn spelled(alloc: Global, text: &str, at: usize, count: usize) -> Result<String,
     requires enough { count ≤ length (rest text.now at) }
     ensures { IfOk result (λ word. string_bytes word ≡ Pieces.spelling (take count (rest text.now at))) }
 {
-    let mut out = String::new(alloc);
+    let mut out = String::with_capacity(alloc, count)?;
     let mut place = at;
     let mut left = count;
     while 0 < left {
@@ -307,20 +306,3 @@ pub fn lex(alloc: Global, text: &str) -> Result<Lexed, AllocError>
         faults: Faults::from_vec(found.faults),
     })
 }
-
-/// The pieces of a text, joined, are its logical characters.
-pub fn pieces_join(_text: &str)
-    ensures { PiecesJoin _text.now }
-{}
-
-/// The ranges of a text's logical characters follow one another from its front on.
-pub fn characters_follow(_text: &str)
-    ensures { CharactersFollow _text.now }
-{}
-
-/// The piece at the front of characters, given by their first bytes, is the longest front that is a token, a comment or
-/// white space, unless it is an open comment, an open literal or a stray character.
-pub fn front_is_longest(_codes: &[u8])
-    ensures longest { FrontIsLongest _codes.now }
-    ensures piece { FrontIsPiece _codes.now }
-{}

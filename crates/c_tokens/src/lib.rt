@@ -2,12 +2,14 @@
 #![tactic(auto)]
 
 mod classes;
+mod laws;
 mod lexing;
 mod logical;
 mod names;
 mod pieces;
 mod types;
 
+pub use laws::{characters_follow, front_is_longest, pieces_join};
 pub use lexing::lex;
 pub use types::{Faults, LexFault, Lexed, PpKind, PpToken, TokenPlaces, Tokens};
 

@@ -63,6 +63,28 @@ fn wrong(alloc: Global, cases: &[(&str, &str)]) -> Result<Option<usize>, AllocEr
     Ok(None)
 }
 
+// The lists of a result are those that its small types are made of.
+fn remade(alloc: Global) -> Result<(usize, usize, usize), AllocError> {
+    let lexed = lex(alloc, "a @")?;
+    let tokens = Tokens::from_vec(lexed.tokens.into_vec());
+    let places = TokenPlaces::from_vec(lexed.places.into_vec());
+    let faults = Faults::from_vec(lexed.faults.into_vec());
+    Ok((
+        tokens.as_slice().len(),
+        places.as_slice().len(),
+        faults.as_slice().len(),
+    ))
+}
+
+#[test]
+fn takes_lists_apart(rt: HostRuntime) -> Result<(), AllocError> {
+    pieces_join("a");
+    characters_follow("a");
+    front_is_longest(b"a".as_slice());
+    assert_eq!(rt; remade(rt.alloc())?, (2, 2, 1));
+    Ok(())
+}
+
 #[test]
 fn first_texts(rt: HostRuntime) -> Result<(), AllocError> {
     assert_eq!(rt; wrong(rt.alloc(), &first::CASES)?, None);

@@ -1,0 +1,23 @@
+// Laws of lexing. A call does nothing: its contract is what it is for.
+ghost use Rattle.c_tokens.specs.Languages.{FrontIsLongest, FrontIsPiece, StrayIsNoPiece, OpenIsNoLiteral, OpenIsNoComment};
+ghost use Rattle.c_tokens.specs.Laws.{PiecesJoin, CharactersFollow};
+
+/// The pieces of a text, joined, are its logical characters.
+pub fn pieces_join(_text: &str)
+    ensures { PiecesJoin _text.now }
+{}
+
+/// The ranges of a text's logical characters follow one another from its front on.
+pub fn characters_follow(_text: &str)
+    ensures { CharactersFollow _text.now }
+{}
+
+/// The piece at the front of characters, given by their first bytes, is the longest front that is a token, a comment or
+/// white space, unless it is an open comment, an open literal or a stray character.
+pub fn front_is_longest(_codes: &[u8])
+    ensures longest { FrontIsLongest _codes.now }
+    ensures piece { FrontIsPiece _codes.now }
+    ensures stray { StrayIsNoPiece _codes.now }
+    ensures open_literal { OpenIsNoLiteral _codes.now }
+    ensures open_comment { OpenIsNoComment _codes.now }
+{}
