@@ -50,6 +50,6 @@ unfolding on_open
 opens phase opened kept d bytes none is_kept is_published =
     let was : opened_of opened ≡ no_texts = ap opened_of (nothing_is_none opened none) in
     let texts : insert (opened_of opened) d.uri d ≡ opened_of (Some kept) =
-        ap (λ (m : TextMap OpenText). insert m d.uri d) was ∙ ap (λ (t : OpenText). insert no_texts t.uri t) (sym is_kept) in
+    ap (λ (m : TextMap OpenText). insert m d.uri d) was ∙ ap (λ (t : OpenText). insert no_texts t.uri t) (sym is_kept) in
     ap (λ (m : TextMap OpenText). Replies (record { options = no_options; root = None; disk = empty; opened = m; encoding = Utf16; phase = phase }) (publish Utf16 d) None 0) texts
     ∙ ap (λ (b : List ℕ). Replies (state_with phase (Some kept)) b None 0) (sym is_published)

@@ -88,9 +88,9 @@ publish_data diagnostics uri version = object
     (member (codes "jsonrpc") (string (codes "2.0"))
     (member (codes "method") (string (codes "textDocument/publishDiagnostics"))
     (member (codes "params") (object
-        (member (codes "diagnostics") (array (items_of diagnostics))
-        (member (codes "uri") (string uri)
-        (member (codes "version") (number (of_integer version)) no_members)))) no_members)))
+    (member (codes "diagnostics") (array (items_of diagnostics))
+    (member (codes "uri") (string uri)
+    (member (codes "version") (number (of_integer version)) no_members)))) no_members)))
 
 -- the lexical faults of an open document
 unfoldable pub publish : Encoding → OpenText → List ℕ

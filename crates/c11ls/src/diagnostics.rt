@@ -39,12 +39,7 @@ fn pos_value(alloc: Global, pos: Pos) -> Result<Value, AllocError>
     json!(in alloc; {"character": character, "line": line})
 }
 
-fn with_range(
-    alloc: Global,
-    rule: u16,
-    start: Value,
-    end: Value,
-) -> Result<Value, AllocError>
+fn with_range(alloc: Global, rule: u16, start: Value, end: Value) -> Result<Value, AllocError>
     ensures { IfOk result (λ v. view v ≡ fault_data rule (view start) (view end)) }
 {
     let message = message_of(rule);
@@ -154,7 +149,11 @@ fn push_end(alloc: Global, body: &mut String, document: Document<'_>) -> Result<
 }
 
 /// The content of the notification for a document with these faults.
-fn publish_text(alloc: Global, document: Document<'_>, faults: &[LexFault]) -> Result<String, AllocError>
+fn publish_text(
+    alloc: Global,
+    document: Document<'_>,
+    faults: &[LexFault],
+) -> Result<String, AllocError>
     requires short { length document.text.now ≤ 4194304 }
     requires within { AreWithin (length document.text.now) faults.now }
     ensures { IfOk result (λ s. string_bytes s ≡ publish_start ++ items_text false (items_of (map (diagnostic document.entry.text.now Utf16) faults.now))

@@ -8,8 +8,8 @@ ghost use Rattle.c11ls.specs.Sessions.{state_of, reaction, seen_document};
 ghost use Rattle.serde_json.specs.View.{view};
 ghost use Rattle.c11ls.specs.State.{fresh, no_options};
 
-use crate::documents::{Document, Kept, document_in};
 use crate::diagnostics::publish;
+use crate::documents::{Document, Kept, document_in};
 use crate::message::{Id, Message, message_of, read_content};
 use crate::replies::{error, initialize_result, log, response};
 use io_edges::Store;

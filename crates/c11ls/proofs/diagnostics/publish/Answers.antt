@@ -9,5 +9,5 @@ publish_text-requires-clause-within c = rw c.as_slice.ensures (order_within _ _ 
 pub returns : goal.returns
 returns c =
     subst (λ (b : List ℕ). IfOk c.framed.result (λ v. v.items ≡ b))
-      (published (seen_document c.args.document) _ _ (c.as_str.ensures.value ∙ c.in_ok-text.ensures) (c.as_slice.ensures ∙ c.in_ok-found.ensures.faults))
-      c.framed.ensures
+    (published (seen_document c.args.document) _ _ (c.as_str.ensures.value ∙ c.in_ok-text.ensures) (c.as_slice.ensures ∙ c.in_ok-found.ensures.faults))
+    c.framed.ensures

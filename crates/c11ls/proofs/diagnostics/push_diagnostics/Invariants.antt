@@ -7,11 +7,11 @@ use Rattle.c11ls.proofs.diagnostics.push_diagnostics.Given as goal
 
 abbrev pub invariant-faults : goal.invariant-faults
 invariant-faults l = record {
-    made : string_bytes l.body ++ items_text l.later (items_of (map (diagnostic l.fn.walk.text l.fn.walk.encoding) l.rest))
-        ≡ string_bytes l.fn.body ++ items_text false (items_of (map (diagnostic l.fn.walk.text l.fn.walk.encoding) l.fn.faults));
-    within : AreWithin (length l.fn.walk.text) l.rest;
-    same : l.walk ≡ l.fn.walk;
-  }
+  made : string_bytes l.body ++ items_text l.later (items_of (map (diagnostic l.fn.walk.text l.fn.walk.encoding) l.rest))
+      ≡ string_bytes l.fn.body ++ items_text false (items_of (map (diagnostic l.fn.walk.text l.fn.walk.encoding) l.fn.faults));
+  within : AreWithin (length l.fn.walk.text) l.rest;
+  same : l.walk ≡ l.fn.walk;
+}
 
 abbrev pub decreases-faults : goal.decreases-faults
 decreases-faults l = length l.rest
