@@ -31,8 +31,11 @@ fn answer<W: Wire, D: Store, L: Ledger>(
     requires store { D.faults store.old + 1 < 2 ^ 64 }
     ensures usage { result ≡ Status.Usage → are_grammatical (texts words.now) ≡ false }
     ensures refused { are_grammatical (texts words.now) ≡ false → result ≡ Status.Usage }
-    ensures wire_stays { result ≡ Status.Usage → W.told wire.new ≡ W.told wire.old }
-    ensures store_stays { result ≡ Status.Usage → D.answers store.new ≡ D.answers store.old }
+    ensures wire_stays { are_grammatical (texts words.now) ≡ false → W.told wire.new ≡ W.told wire.old }
+    ensures store_stays { are_grammatical (texts words.now) ≡ false → D.answers store.new ≡ D.answers store.old }
+    ensures read_stays { are_grammatical (texts words.now) ≡ false → W.read_faults wire.new ≡ W.read_faults wire.old }
+    ensures write_stays { are_grammatical (texts words.now) ≡ false → W.write_faults wire.new ≡ W.write_faults wire.old }
+    ensures fault_stays { are_grammatical (texts words.now) ≡ false → D.faults store.new ≡ D.faults store.old }
     ensures ended { serves (texts words.now) ≡ true → Ended (options_of (texts words.now)) result (W.told wire.old) (W.told wire.new) (D.answers store.old) (D.answers store.new) }
     ensures counted { IsCounted (Some result) (W.read_faults wire.old) (W.read_faults wire.new) (W.write_faults wire.old) (W.write_faults wire.new) (D.faults store.old) (D.faults store.new) }
 {
@@ -71,7 +74,7 @@ pub fn serve<W: Wire, E: Sink, D: Store, L: Ledger>(
     // Usage: only where the words aren't in the grammar, and there, or memory was wanted. Nothing is read or written then.
     ensures usage { result ≡ Status.Usage → are_grammatical (texts words.now) ≡ false }
     ensures refused { are_grammatical (texts words.now) ≡ false → (result ≡ Status.Usage) ⊎ (result ≡ Status.NoMemory) }
-    ensures untouched { result ≡ Status.Usage → (W.told wire.new ≡ W.told wire.old) × (D.answers store.new ≡ D.answers store.old)
+    ensures untouched { are_grammatical (texts words.now) ≡ false → (W.told wire.new ≡ W.told wire.old) × (D.answers store.new ≡ D.answers store.old)
         × (W.read_faults wire.new ≡ W.read_faults wire.old) × (W.write_faults wire.new ≡ W.write_faults wire.old) × (D.faults store.new ≡ D.faults store.old) }
 
     // What was left is what was taken and what is left now; what was written and answered stands behind what was there.

@@ -4,9 +4,3 @@ use Rattle.c11ls.proofs.serve.answer.Goals as goal
 
 pub returns-clause-usage : goal.returns-clause-usage
 returns-clause-usage g c = λ is. absurd (not_usage no_options _ _ _ _ _ c.run.ensures.ended is)
-
-pub returns-clause-wire_stays : goal.returns-clause-wire_stays
-returns-clause-wire_stays g c = λ is. absurd (not_usage no_options _ _ _ _ _ c.run.ensures.ended is)
-
-pub returns-clause-store_stays : goal.returns-clause-store_stays
-returns-clause-store_stays g c = λ is. absurd (not_usage no_options _ _ _ _ _ c.run.ensures.ended is)
