@@ -1,15 +1,15 @@
 -- The loop that handles each whole frame.
-use Rattle.std.proofs.Common.{◌≡◌, ℕ, List, [], Option, None, Some, refl, subst, ◌∙◌}
+use Rattle.std.proofs.Common.{◌≡◌, ℕ, List, [], Option, Some, refl, subst, ◌∙◌}
 use Rattle.io_edges.specs.Store.{Entry}
 use Rattle.io_edges.specs.Wire.{Traffic}
 use Rattle.lsp_framing.specs.Standing.{Standing}
-use Rattle.c11ls.specs.Going.{Going, Ended, GoesOn, Ends}
+use Rattle.c11ls.specs.Going.{Going, Ended}
 use Rattle.c11ls.specs.State.{State, Options}
 use Rattle.c11ls.specs.Turn.{Turned, GaveUp, Stands}
 use Rattle.c11ls.specs.declared.status.Status.{Status}
 use Rattle.c11ls.specs.declared.status.Status.TheVariants.{Done, Unclean, Usage, BadFrame, ReadFault, WriteFault, StoreFault, NoMemory, LongInput}
 use Rattle.c11ls.proofs.EndingUp.{ends_done, ends_unclean, ends_unwritten, ends_lacking, ends_giving_up}
-use Rattle.c11ls.proofs.GoingOn.{Gave, going_turns}
+use Rattle.c11ls.proofs.GoingOn.{Gave}
 use Rattle.c11ls.proofs.Handling.{nothing_answered}
 
 -- a content ended the call

@@ -1,8 +1,8 @@
 -- How a call ends, by its status.
-use Rattle.std.proofs.Common.{◌≡◌, ◌≤◌, ◌<◌, ◌+◌, ◌^◌, ◌==◌, ℕ, List, [], ◌∷◌, ◌++◌, take, drop, length, Bool, true, false, cond, Option, None, Some, option_map, IfSome, refl, sym, ap, subst, ◌∙◌, append-nil, append_assoc, length-append, add-zero, arith, drop_of_length-le, length-drop}
-use Rattle.std.proofs.lemmas.List.{take-append-drop, take_all}
+use Rattle.std.proofs.Common.{◌≡◌, ◌≤◌, ◌^◌, ◌==◌, ℕ, List, [], ◌∷◌, ◌++◌, take, drop, length, Bool, false, cond, Option, None, Some, option_map, IfSome, refl, sym, ap, subst, ◌∙◌, append-nil, append_assoc, length-append, arith, drop_of_length-le, length-drop}
+use Rattle.std.proofs.lemmas.List.{take-append-drop}
 use Rattle.std.specs.Prelude.{slice_get}
-use Rattle.io_edges.specs.Store.{Call, Entry}
+use Rattle.io_edges.specs.Store.{Entry}
 use Rattle.io_edges.specs.Wire.{Traffic, after_write}
 use Rattle.io_edges.specs.declared.ends.Mark.{Mark}
 use Rattle.lsp_framing.specs.Frames.{Framed, Rest, Empty, Open, Bad, frames}
@@ -11,16 +11,15 @@ use Rattle.lsp_framing.specs.declared.FrameKind.{FrameKind}
 use Rattle.lsp_framing.specs.declared.FrameKind.TheVariants.{Cut}
 use Rattle.lsp_framing.proofs.Laws.{bad_stays}
 use Rattle.c11ls.specs.Going.{Going, Settled, Moves, Ended, Outcome, Plays, moved, through}
-use Rattle.c11ls.specs.Handled.{Handled, Failed, Answered}
-use Rattle.c11ls.specs.Plain.{Played, Plain, Stop, Exited, Lacks, Through, Verdict, Done, Unclean, Faulty, Waiting, play, played, plain, plain_of, verdict_of, go_on, behind}
+use Rattle.c11ls.specs.Plain.{Played, Plain, Exited, Lacks, Through, Verdict, Done, Unclean, Faulty, play, played, plain, plain_of, verdict_of, go_on}
 use Rattle.c11ls.specs.React.{Reaction, Replies, Wants, react}
-use Rattle.c11ls.specs.Serve.{Begins, AreReplies}
+use Rattle.c11ls.specs.Serve.{Begins}
 use Rattle.c11ls.specs.State.{State, Options, fresh}
 use Rattle.c11ls.specs.Turn.{Wrote, WroteFront, WroteUnclean, GaveUp, Lacked}
 use Rattle.c11ls.specs.declared.status.Status.{Status}
 use Rattle.c11ls.specs.declared.status.Status.TheVariants as status
 use Rattle.c11ls.proofs.Reacting.{used_by, used_within}
-use Rattle.c11ls.proofs.Moving.{moves_writing, answered_both}
+use Rattle.c11ls.proofs.Moving.{moves_writing}
 use Rattle.c11ls.proofs.Playing.{IsComplete, play-append, play_stays, play_one_more, play_one_wants, played_to, after_reply, then_play}
 use Rattle.c11ls.proofs.GoingOn.{Gave, whatever_left, first_more, first_stays, all_handled, settled_played}
 

@@ -1,25 +1,24 @@
 -- A call that goes on: by a content, by a read, and until each whole frame was handled.
-use Rattle.std.proofs.Common.{◌≡◌, ◌≤◌, ◌<◌, ◌+◌, ℕ, List, [], ◌∷◌, ◌++◌, take, drop, length, Option, None, Some, option_map, IfSome, refl, sym, ap, subst, ◌∙◌, append-nil, length-append, get_or, arith}
-use Rattle.std.proofs.lemmas.List.{take-take, take_more, length-take-le, length-take, take-append-drop, take_all}
+use Rattle.std.proofs.Common.{◌≡◌, ◌≤◌, ◌<◌, ◌+◌, ℕ, List, [], ◌∷◌, ◌++◌, take, drop, length, Option, None, Some, option_map, IfSome, refl, sym, ap, subst, ◌∙◌, length-append, get_or, arith}
+use Rattle.std.proofs.lemmas.List.{take-take, take_more, length-take, take_all}
 use Rattle.std.proofs.lemmas.Option.{slice_get_within, get_or_from_slice_get}
 use Rattle.std.proofs.Math.Seq.{take-append_seam}
 use Rattle.std.specs.Prelude.{slice_get}
 use Rattle.io_edges.specs.Store.{Entry}
 use Rattle.io_edges.specs.Wire.{Traffic, after_read}
-use Rattle.io_edges.specs.declared.ends.Mark.{Mark}
-use Rattle.lsp_framing.specs.Frames.{Framed, Rest, frames}
+use Rattle.lsp_framing.specs.Frames.{frames}
 use Rattle.lsp_framing.specs.Standing.{Standing, Follows, IsEmptyOrOpen}
 use Rattle.lsp_framing.proofs.Laws.{contents_stay}
 use Rattle.c11ls.specs.Going.{Going, Settled, Moves, Ended, Outcome, through}
-use Rattle.c11ls.specs.Handled.{Handled, Answered}
-use Rattle.c11ls.specs.Plain.{Played, Through, play, played, plain}
+use Rattle.c11ls.specs.Handled.{Answered}
+use Rattle.c11ls.specs.Plain.{Played, play, played}
 use Rattle.c11ls.specs.Serve.{IsPrompt, IsThrough}
 use Rattle.c11ls.specs.State.{State, Options, fresh}
 use Rattle.c11ls.specs.Turn.{Wrote}
 use Rattle.c11ls.specs.declared.status.Status.{Status}
 use Rattle.c11ls.specs.declared.status.Status.TheVariants.{NoMemory}
 use Rattle.c11ls.proofs.Moving.{moves_writing, moves_reading, moves_nothing, moment_at}
-use Rattle.c11ls.proofs.Playing.{play_one_more, after_reply}
+use Rattle.c11ls.proofs.Playing.{play_one_more}
 
 -- an outcome that holds whatever is left
 pub whatever_left : (w0 : Option Traffic) (options : Options) (ended : Status) (taken out : List ℕ) (answers : List Entry) →

@@ -1,9 +1,9 @@
 -- A reaction that asks the store nothing is what handling has to do.
-use Rattle.std.proofs.Common.{◌≡◌, ℕ, List, [], ◌++◌, Option, None, Some, option_map, refl, sym, ap, ◌∙◌, append-nil}
+use Rattle.std.proofs.Common.{◌≡◌, ℕ, List, [], Option, None, Some, refl, sym, ap, ◌∙◌, append-nil}
 use Rattle.serde_json.specs.Data.{Data}
 use Rattle.io_edges.specs.Store.{Entry}
 use Rattle.c11ls.specs.Handled.{Handled, Answered}
-use Rattle.c11ls.specs.Message.{Message, of_read, value_of, message}
+use Rattle.c11ls.specs.Message.{Message, of_read, value_of}
 use Rattle.c11ls.specs.React.{on_message, react}
 use Rattle.c11ls.specs.Sessions.{reaction}
 use Rattle.c11ls.specs.State.{State}

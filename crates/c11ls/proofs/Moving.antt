@@ -1,7 +1,6 @@
 -- What a call did to its ends, step by step.
-use Rattle.std.proofs.Common.{◌≡◌, ◌≤◌, ◌<◌, ◌+◌, ℕ, List, [], ◌∷◌, ◌++◌, take, drop, length, map, Option, None, Some, option_map, IfSome, refl, sym, ap, subst, ◌∙◌, append-nil, append_assoc, length-append, add_assoc, add-zero, drop-drop, take-add, arith}
+use Rattle.std.proofs.Common.{◌≡◌, ◌+◌, ℕ, List, [], ◌∷◌, ◌++◌, take, drop, length, map, Option, None, Some, option_map, IfSome, refl, sym, ap, subst, ◌∙◌, append-nil, append_assoc, length-append, add_assoc, add-zero, drop-drop, take-add, arith}
 use Rattle.std.proofs.lemmas.List.{map-append, take-append-le}
-use Rattle.std.proofs.Math.Seq.{take-append_seam, take-append-add, drop-append_seam}
 use Rattle.io_edges.specs.Store.{Entry}
 use Rattle.io_edges.specs.Wire.{Traffic, after_read, after_write, mark_of}
 use Rattle.io_edges.specs.declared.ends.Mark.{Mark}
@@ -9,9 +8,9 @@ use Rattle.lsp_framing.specs.Frames.{frames}
 use Rattle.lsp_framing.specs.Standing.{IsEmptyOrOpen}
 use Rattle.c11ls.specs.Going.{Moves, moved, mark_at}
 use Rattle.c11ls.specs.Handled.{Answered}
-use Rattle.c11ls.specs.Plain.{Played, Stop, Exited, Lacks, Through, play, played, plain}
+use Rattle.c11ls.specs.Plain.{Played, Stop, Exited, Lacks, Through, played, plain}
 use Rattle.c11ls.specs.Serve.{IsPrompt, EachPrompt, IsThrough}
-use Rattle.c11ls.specs.State.{Options, fresh}
+use Rattle.c11ls.specs.State.{Options}
 use Rattle.c11ls.proofs.Playing.{IsComplete, play_stays}
 
 pub answered_both : (a0 a a' : Option (List Entry)) (answers added : List Entry) → Answered answers a0 a → Answered added a a' → Answered (answers ++ added) a0 a'

@@ -1,10 +1,10 @@
 -- Whether a document is open, and what opening one leaves.
 use Rattle.std.proofs.Common.{◌≡◌, ◌==◌, ◌+◌, ℕ, List, Bool, cond, Option, None, Some, true, false, refl, sym, ap, ◌∙◌, string_bytes, is_some}
 use Rattle.std.specs.Cmp.Lexicographic.{slice_cmp, nat_list_cmp_total}
-use Rattle.std.specs.FinMap.{FinMap, empty, insert, len, len-empty, len-insert, get-empty, contains_key}
+use Rattle.std.specs.FinMap.{empty, insert, len, len-empty, len-insert, get-empty, contains_key}
 use Rattle.std.specs.Ordering.{nat_cmp}
 use Rattle.text_lines.specs.declared.Encoding.TheVariants.{Utf16}
-use Rattle.c11ls.specs.React.{Reaction, Replies, on_open}
+use Rattle.c11ls.specs.React.{Replies, on_open}
 use Rattle.c11ls.specs.Replies.{publish}
 use Rattle.c11ls.specs.Sessions.{opened_of, kept_text}
 use Rattle.c11ls.specs.State.{State, TextMap, OpenText, no_options}

@@ -1,7 +1,7 @@
 -- Laws of the reaction to one content.
-use Rattle.std.proofs.Common.{◌≡◌, ◌≤◌, ℕ, List, ◌++◌, length, Bool, true, false, cond, Option, None, Some, refl, sym, ◌∙◌, arith}
+use Rattle.std.proofs.Common.{◌≡◌, ◌≤◌, ℕ, List, ◌++◌, length, Bool, true, false, cond, Option, None, Some, refl, arith}
 use Rattle.serde_json.specs.Data.{Data}
-use Rattle.io_edges.specs.Store.{Call, Entry}
+use Rattle.io_edges.specs.Store.{Entry}
 use Rattle.c11ls.specs.Message.{Id, Message, NotJson, Batch, NotObject, Ignored, BadId, BadMethod, Notification, Request, message}
 use Rattle.c11ls.specs.React.{Reaction, Replies, Wants, react, on_message, on_request, on_notification, on_open}
 use Rattle.c11ls.specs.State.{State, OpenText}

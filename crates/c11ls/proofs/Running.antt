@@ -1,20 +1,18 @@
 -- The loop that reads.
-use Rattle.std.proofs.Common.{◌≡◌, ◌≤◌, ◌<◌, ◌+◌, ◌-◌, ◌^◌, ℕ, List, [], ◌∷◌, ◌++◌, take, length, Option, None, Some, option_map, IfSome, refl, sym, ap, subst, ◌∙◌, arith}
+use Rattle.std.proofs.Common.{◌≡◌, ◌≤◌, ◌+◌, ℕ, List, [], ◌++◌, take, length, Option, None, Some, option_map, IfSome, refl, sym, ap, subst, ◌∙◌, arith}
 use Rattle.std.proofs.lemmas.List.{length-take-le}
 use Rattle.io_edges.specs.Store.{Entry}
 use Rattle.io_edges.specs.Wire.{Traffic, after_read}
-use Rattle.lsp_framing.specs.Frames.{Empty, frames}
 use Rattle.lsp_framing.specs.Standing.{Standing, Follows}
 use Rattle.lsp_framing.specs.declared.FrameKind.{FrameKind}
 use Rattle.lsp_framing.specs.declared.FrameKind.TheVariants.{Cut}
 use Rattle.c11ls.specs.Going.{Going, Settled, Ended, EndsInput}
-use Rattle.c11ls.specs.State.{State, Options, fresh}
-use Rattle.c11ls.specs.Turn.{IsCounted, Stands, ReadRose}
+use Rattle.c11ls.specs.State.{State, Options}
+use Rattle.c11ls.specs.Turn.{IsCounted, Stands}
 use Rattle.c11ls.specs.declared.status.Status.{Status}
 use Rattle.c11ls.specs.declared.status.Status.TheVariants.{Done, Unclean, Usage, BadFrame, ReadFault, WriteFault, StoreFault, NoMemory, LongInput}
-use Rattle.c11ls.proofs.Draining.{no_memory_ends}
 use Rattle.c11ls.proofs.EndingUp.{ends_empty, ends_cut}
-use Rattle.c11ls.proofs.GoingOn.{settled_reads, settled_unfed, settled_size, whatever_left}
+use Rattle.c11ls.proofs.GoingOn.{settled_reads, settled_unfed, whatever_left}
 use Rattle.c11ls.proofs.Handling.{nothing_answered}
 use Rattle.c11ls.proofs.Moving.{moves_nothing}
 

@@ -1,15 +1,14 @@
 -- What a call that ended promises, where its ends tell what they have.
-use Rattle.std.proofs.Common.{◌≡◌, ◌⊎◌, ◌≤◌, ◌<◌, ◌+◌, ◌-◌, ◌^◌, ℕ, List, [], ◌∷◌, ◌++◌, take, drop, length, map, Option, None, Some, option_map, IfSome, refl, sym, ap, subst, ◌∙◌, inl, inr, arith, length-append}
+use Rattle.std.proofs.Common.{◌≡◌, ◌≤◌, ◌+◌, ◌-◌, ◌^◌, ℕ, List, [], ◌∷◌, ◌++◌, take, drop, length, map, Option, None, Some, refl, sym, ap, subst, ◌∙◌, inl, inr, arith}
 use Rattle.std.proofs.lemmas.List.{take-append-drop}
 use Rattle.std.proofs.Math.Seq.{drop-append_seam, take-append_seam}
 use Rattle.io_edges.specs.Store.{Entry}
 use Rattle.io_edges.specs.Wire.{Traffic}
 use Rattle.io_edges.specs.declared.ends.Mark.{Mark}
 use Rattle.c11ls.specs.Calls.{Call, call_of, since, IfTold, AddsUp, IfToldAddsUp}
-use Rattle.c11ls.specs.Going.{Ended, Moves, Outcome, Plays, IsServing, moved, mark_at}
-use Rattle.c11ls.specs.Handled.{Answered}
-use Rattle.c11ls.specs.Plain.{Plain, Verdict, Done, Unclean, Faulty, Waiting, plain}
-use Rattle.c11ls.specs.Serve.{HasWritten, HasUsed, EachPrompt, ArePrompt, IfBadFrame, IsComplete, IsStatusOf, verdict_on, Begins, AreReplies}
+use Rattle.c11ls.specs.Going.{Ended, Outcome, IsServing, moved, mark_at}
+use Rattle.c11ls.specs.Plain.{Plain, Done, Unclean, Faulty}
+use Rattle.c11ls.specs.Serve.{HasWritten, HasUsed, ArePrompt, IfBadFrame, IsComplete, verdict_on}
 use Rattle.c11ls.specs.State.{Options}
 use Rattle.c11ls.specs.Turn.{IsCounted, ReadRose, WriteRose, StoreRose}
 use Rattle.c11ls.specs.declared.status.Status.{Status}

@@ -1,5 +1,5 @@
 -- A content's value, from what its reader says where the bytes are text.
-use Rattle.std.proofs.Common.{◌≡◌, ℕ, List, Bool, true, false, cond, refl, Option, Some, None, ◌∙◌, sym}
+use Rattle.std.proofs.Common.{◌≡◌, ℕ, List, true, false, cond, refl, Some, None}
 use Rattle.std.specs.Str.{IsUtf8, is_utf8}
 use Rattle.std.proofs.lemmas.Str.{IsUtf8-from_is_utf8, is_utf8-from_IsUtf8}
 use Rattle.serde_json.specs.Data.{Data}

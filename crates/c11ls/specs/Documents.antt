@@ -2,7 +2,7 @@
 use Rattle.std.specs.Prelude.{ℕ, ◌&&◌, ◌==◌, ℤ, pos, negsuc, int_le, List, codes, length, Bool, Option, Some, None, option_and_then, nat_eq, nat_le, if◌then◌else◌}
 use Rattle.std.specs.List.{starts_with, ends_with}
 use Rattle.std.specs.FinMap.{len}
-use Rattle.serde_json.specs.Data.{Data, Num}
+use Rattle.serde_json.specs.Data.{Data}
 use Rattle.serde_json.specs.Find.{get, as_number, as_str, as_i64}
 use Rattle.c11ls.specs.State.{State, OpenText}
 

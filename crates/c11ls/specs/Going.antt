@@ -1,14 +1,13 @@
 -- What a call of the server has done so far, and what it has done at its end. These are what its loops keep.
-use Rattle.std.specs.Prelude.{◌≡◌, ◌+◌, ◌≤◌, ◌<◌, ◌^◌, ℕ, List, [], ◌∷◌, ◌++◌, take, drop, length, map, Option, Some, None, option_map, IfSome}
+use Rattle.std.specs.Prelude.{◌≡◌, ◌+◌, ◌≤◌, ◌^◌, ℕ, List, ◌++◌, take, drop, length, map, Option, Some, None, option_map, IfSome}
 use Rattle.io_edges.specs.Store.{Entry}
 use Rattle.io_edges.specs.Wire.{Traffic}
 use Rattle.io_edges.specs.declared.ends.Mark.{Mark}
 use Rattle.lsp_framing.specs.Frames.{frames, Empty}
-use Rattle.lsp_framing.specs.declared.FrameKind.{FrameKind}
 use Rattle.lsp_framing.specs.declared.FrameKind.TheVariants.{Cut}
 use Rattle.lsp_framing.specs.Standing.{Standing, Follows, IsEmptyOrOpen}
 use Rattle.c11ls.specs.Handled.{Answered}
-use Rattle.c11ls.specs.Plain.{Played, Plain, Stop, Through, Verdict, Done, Unclean, Faulty, Waiting, play, plain}
+use Rattle.c11ls.specs.Plain.{Played, Through, Verdict, Done, Unclean, Faulty, Waiting, play, plain}
 use Rattle.c11ls.specs.Serve.{Begins, AreReplies, EachPrompt}
 use Rattle.c11ls.specs.State.{State, Options, fresh}
 use Rattle.c11ls.specs.declared.status.Status.{Status}

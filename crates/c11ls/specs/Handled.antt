@@ -1,7 +1,7 @@
 -- What the handling of one content does: the plain server's reaction, with the store's answers that it got.
 use Rattle.std.specs.Prelude.{◌≡◌, ◌<◌, ℕ, List, ◌++◌, length, Option, option_map}
 use Rattle.io_edges.specs.Store.{Call, Entry}
-use Rattle.c11ls.specs.React.{Reaction, Replies, Wants, react}
+use Rattle.c11ls.specs.React.{Replies, Wants, react}
 use Rattle.c11ls.specs.State.{State}
 use Rattle.c11ls.specs.declared.session.SessionError.{SessionError}
 use Rattle.c11ls.specs.declared.session.SessionError.TheVariants.{StoreFault, NoMemory}

@@ -1,5 +1,5 @@
 -- The plain server: it keeps the state alone, and reacts to one content after the other.
-use Rattle.std.specs.Prelude.{ℕ, ◌+◌, List, [], ◌∷◌, ◌++◌, drop, length, Option, Some, None, if◌then◌else◌, ◌==◌}
+use Rattle.std.specs.Prelude.{ℕ, ◌+◌, List, [], ◌∷◌, ◌++◌, drop, length, Some, None, if◌then◌else◌, ◌==◌}
 use Rattle.io_edges.specs.Store.{Call, Entry}
 use Rattle.c11ls.specs.React.{Reaction, Replies, Wants, react}
 use Rattle.c11ls.specs.State.{State, Options, fresh}

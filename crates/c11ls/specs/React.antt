@@ -1,5 +1,5 @@
 -- How the plain server reacts to a content.
-use Rattle.std.specs.Prelude.{ℕ, ℤ, negsuc, List, [], codes, Option, Some, None, Bool, true, false, if◌then◌else◌, ◌&&◌}
+use Rattle.std.specs.Prelude.{ℕ, negsuc, List, [], codes, Option, Some, None, Bool, true, false, if◌then◌else◌, ◌&&◌}
 use Rattle.std.specs.Str.{bytes_eq}
 use Rattle.serde_json.specs.Data.{Data, null}
 use Rattle.io_edges.specs.Store.{Call, Entry}

@@ -1,5 +1,5 @@
 -- What the code's messages stand for.
-use Rattle.std.specs.Prelude.{List, Option, Some, None, option_map}
+use Rattle.std.specs.Prelude.{option_map}
 use Rattle.serde_json.specs.View.{view}
 use Rattle.c11ls.specs.Message as spec
 use Rattle.c11ls.specs.declared.message.Id.{Id}

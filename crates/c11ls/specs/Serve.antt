@@ -1,13 +1,13 @@
 -- What serving a client promises, by the status that it ends with.
-use Rattle.std.specs.Prelude.{◌≡◌, ◌⊎◌, ◌+◌, ◌≤◌, ◌<◌, ◌^◌, ℕ, List, [], ◌∷◌, ◌++◌, take, length, Option, Some, None}
+use Rattle.std.specs.Prelude.{◌≡◌, ◌⊎◌, ◌≤◌, ◌<◌, ◌^◌, ℕ, List, [], ◌∷◌, ◌++◌, take, length}
 use Rattle.io_edges.specs.Store.{Entry}
 use Rattle.io_edges.specs.declared.ends.Mark.{Mark}
 use Rattle.lsp_framing.specs.Frames.{frames}
 use Rattle.lsp_framing.specs.Standing.{IsEmptyOrOpen}
 use Rattle.lsp_framing.specs.declared.FrameKind.{FrameKind}
 use Rattle.c11ls.specs.Calls.{Call}
-use Rattle.c11ls.specs.Plain.{Played, Plain, Stop, Exited, Lacks, Through, Verdict, Done, Unclean, Faulty, Waiting, play, played, plain}
-use Rattle.c11ls.specs.State.{State, Options, fresh}
+use Rattle.c11ls.specs.Plain.{Stop, Exited, Lacks, Through, Verdict, Done, Unclean, Faulty, Waiting, play, played, plain}
+use Rattle.c11ls.specs.State.{Options, fresh}
 use Rattle.c11ls.specs.declared.status.Status.{Status}
 use Rattle.c11ls.specs.declared.status.Status.TheVariants as status
 

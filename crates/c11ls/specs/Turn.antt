@@ -1,5 +1,5 @@
 -- What writing a reply and handling one content do.
-use Rattle.std.specs.Prelude.{◌≡◌, ◌<◌, ℕ, List, ◌++◌, take, Option, Some, None, option_map, Bool, false, ◌==◌}
+use Rattle.std.specs.Prelude.{◌≡◌, ◌<◌, ℕ, List, ◌++◌, take, Option, Some, None, option_map, false, ◌==◌}
 use Rattle.io_edges.specs.Store.{Entry}
 use Rattle.io_edges.specs.Wire.{Traffic, after_write}
 use Rattle.c11ls.specs.Handled.{Handled, Failed, Answered}

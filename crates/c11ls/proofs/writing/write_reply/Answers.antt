@@ -1,4 +1,4 @@
-use Rattle.std.proofs.Common.{rules, ◌∙◌}
+use Rattle.std.proofs.Common.{◌∙◌}
 use Rattle.c11ls.proofs.Sending.{sending_turns, sending_stops}
 use Rattle.c11ls.proofs.writing.write_reply.Goals as goal
 
