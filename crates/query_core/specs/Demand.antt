@@ -1,0 +1,46 @@
+-- What the calls of a graph do to it.
+use Rattle.std.specs.Prelude.{◌≡◌, ◌≢◌, ℕ, ◌<◌, ◌≤◌, ◌+◌, Bool, true, false, List, [], ◌∷◌, ◌++◌, length, drop, Option, Some, None, ◌⊎◌}
+use Rattle.query_core.specs.Lists.{Has, Each}
+use Rattle.query_core.specs.Queries.{Queries}
+use Rattle.query_core.specs.Graph.{Held, at, record_of, inputs, is_current, is_verified}
+use Rattle.query_core.specs.Due.{IsDue}
+use Rattle.query_core.specs.declared.graph.Node.{Node}
+
+-- the key is reached from the root by what runs read
+pub data IsReached {K : Type 0} (asks : K → List K) (root : K) : K → Type 0 where
+  itself : IsReached asks root root
+  along : (k d : K) → IsReached asks root k → Has (asks k) d → IsReached asks root d
+
+module _ {K V : Type 0} where
+  -- no record but inputs was verified in this revision
+  abbrev pub IsFresh : Queries K V → Held K V → Type 0
+  IsFresh q g = (i : ℕ) (r : Node K V) → at g i ≡ Some r → q.is_input r.key ≡ false → r.verified_at < g.revision
+
+  -- the keys that were added to the runs
+  abbrev pub ran : Held K V → Held K V → List K
+  ran old new = drop (length old.runs) new.runs
+
+  -- a key that ran: it is reached from the demanded key, and at entry it wasn't verified and was due
+  pub record IsRun (q : Queries K V) (g : Held K V) (root k : K) : Type 0 where
+    pub reached : IsReached (q.asks (inputs q g)) root k
+    pub stale : is_verified q g k ≡ false
+    pub due : IsDue q g k
+
+  -- the stamp of change moves to now exactly where the value differs
+  abbrev pub Moves : ℕ → Node K V → Node K V → Type 0
+  Moves now r s = ((s.value ≡ r.value) × (s.changed_at ≡ r.changed_at)) ⊎ ((s.value ≢ r.value) × (s.changed_at ≡ now))
+
+  -- the record is as it was, but that it may have been verified now
+  abbrev pub IsLeft : ℕ → Node K V → Option (Node K V) → Type 0
+  IsLeft now r new = (new ≡ Some r) ⊎ (new ≡ Some (record r { verified_at = now }))
+
+  -- What a demand leaves: its keys run at their nodes, all other records stay, and the only other new records are inputs that aren't set.
+  pub record Leaves (q : Queries K V) (old new : Held K V) (added : List K) : Type 0 where
+    pub revision : new.revision ≡ old.revision
+    pub runs : new.runs ≡ old.runs ++ added
+    pub inputs : inputs q new ≡ inputs q old
+    pub rest : (i : ℕ) (r : Node K V) → at old i ≡ Some r → ¬ Has added r.key → IsLeft old.revision r (at new i)
+    pub run : (i : ℕ) (r : Node K V) → at old i ≡ Some r → Has added r.key
+        → (s : Node K V) × ((at new i ≡ Some s) × (s.key ≡ r.key) × Moves old.revision r s)
+    pub fresh : (i : ℕ) (s : Node K V) → at old i ≡ None → at new i ≡ Some s
+        → (s.changed_at ≡ old.revision) × (Has added s.key ⊎ ((q.is_input s.key ≡ true) × (s.value ≡ q.unset s.key)))

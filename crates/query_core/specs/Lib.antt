@@ -1,0 +1,6 @@
+pub mod Lists
+pub mod Queries
+pub mod Graph
+pub mod Soundness
+pub mod Due
+pub mod Demand
