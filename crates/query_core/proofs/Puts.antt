@@ -6,18 +6,11 @@ use Rattle.query_core.specs.Lists.{Has, Each, IsOnce}
 use Rattle.query_core.specs.Queries.{Queries, AreLawful, answers, GoesOn, next_key, done_with}
 use Rattle.query_core.specs.Graph.{Held, at, node_of, record_of, inputs, is_current}
 use Rattle.query_core.specs.Soundness.{kept, IsUnchanged, Replays, IsSound}
-use Rattle.query_core.specs.declared.graph.Node.{Node}
+use Rattle.query_core.specs.Changes.{Puts}
+use Rattle.query_core.specs.declared.store.Node.{Node}
 use Rattle.query_core.specs.declared.rules.Step.{Step}
 use Rattle.query_core.proofs.Values.{current_stamp}
 use Rattle.query_core.proofs.Words.{Has-left, Has-right, Has-middle, Each-at, Each-from, Each-append, Each-map, IsOnce-push, filter_map-same}
-
--- `new` is `old` with the record r at the node i, which is the node of its key or was free
-pub record Puts {K V : Type 0} (q : Queries K V) (old new : Held K V) (i : ℕ) (r : Node K V) : Type 0 where
-  pub here : at new i ≡ Some r
-  pub others : (j : ℕ) → j ≢ i → at new j ≡ at old j
-  pub numbers : (k : K) → node_of q new k ≡ cond (q.same r.key k) (Some i) (node_of q old k)
-  pub place : (node_of q old r.key ≡ Some i) ⊎ ((at old i ≡ None) × (node_of q old r.key ≡ None))
-  pub revision : new.revision ≡ old.revision
 
 -- the key of r was added to the runs, or nothing was
 abbrev pub RunsOn : {K V : Type 0} → Queries K V → Held K V → Held K V → Node K V → Type 0

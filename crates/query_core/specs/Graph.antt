@@ -3,7 +3,7 @@ use Rattle.std.specs.Prelude.{◌≡◌, ℕ, ◌==◌, Bool, true, false, ◌||
 use Rattle.std.specs.Option.{option_map_or}
 use Rattle.std.specs.Map.{lookup}
 use Rattle.query_core.specs.Queries.{Queries}
-use Rattle.query_core.specs.declared.graph.Node.{Node}
+use Rattle.query_core.specs.declared.store.Node.{Node}
 
 -- The records by node, the node of each key, the number of the revision, and the keys that ran in it, in order.
 -- A record has a key, its value, the nodes that its run read in the order of asking, the revision in which it was last

@@ -3,4 +3,5 @@ pub mod Queries
 pub mod Graph
 pub mod Soundness
 pub mod Due
-pub mod Demand
+pub mod Stored
+pub mod Changes

@@ -1,23 +1,17 @@
 // The graph.
 
-ghost use Rattle.std.specs.Prelude.{◌≡◌, ℕ};
+ghost use Rattle.std.specs.Prelude.{◌≡◌, ℕ, ◌+◌, ◌<◌, ◌^◌, [], true, None, Some, OnOk, OnErr, IfSome, IsSome, IfOk, count_by, is_some, List, Option};
+ghost use Rattle.std.specs.Option.{option_map};
+ghost use Rattle.query_core.specs.Graph.{Held, at, node_of};
+ghost use Rattle.query_core.specs.Changes.{IsFresh, SetsInput};
+ghost use Rattle.query_core.specs.declared.store.Node.{Node};
 
-use indexmap::IndexMap;
-use slab::Slab;
+use std::alloc::{AllocError, Global};
 use std::marker::{Model, PhantomData};
 
-use crate::keys::Reads;
+use crate::keys::{Reads, TryCopy};
 use crate::rules::Rules;
-
-/// The record of a key.
-#[derive(Drop)]
-pub struct Node<K, V> {
-    key: K,
-    value: V,
-    reads: Reads,
-    verified_at: u64,
-    changed_at: u64,
-}
+use crate::store::Store;
 
 /// A node of a graph.
 #[derive(Clone, Copy)]
@@ -27,8 +21,8 @@ pub struct NodeId {
 
 /// The graph.
 pub struct Graph<R: Rules> {
-    numbers: IndexMap<R::Key, usize>,
-    nodes: Slab<Node<R::Key, R::Value>>,
+    alloc: Global,
+    store: Store<R::Key, R::Value>,
     revision: u64,
     runs: Vec<R::Key>,
     rules: PhantomData<R>,
@@ -36,8 +30,104 @@ pub struct Graph<R: Rules> {
 
 impl<R: Rules> Model for Graph<R> {
     ghost use Rattle.query_core.specs.Graph.{Held};
+    ghost use Rattle.query_core.specs.Soundness.{IsSound};
 
     ghost Value = { Held R.Key R.Value };
 
-    ghost view = { λ g. record { nodes = g.nodes.slots; numbers = g.numbers.entries; revision = g.revision; runs = g.runs.items } };
+    ghost view = { λ g. record { nodes = g.store.nodes; numbers = g.store.numbers; revision = g.revision; runs = g.runs.items } };
+
+    ghost invariant = { λ g. IsSound R.queries (record { nodes = g.store.nodes; numbers = g.store.numbers; revision = g.revision; runs = g.runs.items }) };
+}
+
+impl<R: Rules> Graph<R> {
+    /// A graph with no record, in its first revision.
+    pub fn new(alloc: Global) -> Graph<R>
+        ensures nodes { result.nodes ≡ [] }
+        ensures numbers { result.numbers ≡ [] }
+        ensures revision { result.revision ≡ 0 }
+        ensures runs { result.runs ≡ [] }
+    {
+        Graph {
+            alloc,
+            store: Store::new(alloc),
+            revision: 0,
+            runs: Vec::new(alloc),
+            rules: PhantomData,
+        }
+    }
+
+    /// Sets an input. Nothing but inputs was verified in this revision.
+    pub fn set_input(&mut self, key: R::Key, value: R::Value) -> Result<(), AllocError>
+        requires input { R.queries.is_input key ≡ true }
+        requires fresh { IsFresh R.queries self.old }
+        ensures ok { OnOk result (SetsInput R.queries self.old self.new key value) }
+        ensures err { OnErr result (self.new ≡ self.old) }
+        ensures still_fresh { IsFresh R.queries self.new }
+    {
+        let now = self.revision;
+        let reads = Reads::new(self.alloc);
+        match self.store.node_of(&key) {
+            Some(node) => self.store.renew(node, value, reads, now),
+            None => {
+                self.store.add(key, value, reads, now)?;
+            }
+        }
+        Ok(())
+    }
+
+    /// Takes an input's value away: it has the value of inputs that aren't set.
+    pub fn drop_input(&mut self, rules: &R, key: &R::Key) -> Result<(), AllocError>
+        requires input { R.queries.is_input key.now ≡ true }
+        requires fresh { IsFresh R.queries self.old }
+        ensures ok { OnOk result (SetsInput R.queries self.old self.new key.now (R.queries.unset key.now)) }
+        ensures err { OnErr result (self.new ≡ self.old) }
+        ensures still_fresh { IsFresh R.queries self.new }
+    {
+        let value = rules.unset(self.alloc, key)?;
+        let copy = key.try_copy()?;
+        self.set_input(copy, value)
+    }
+
+    /// Begins the next revision: inputs may be set, then keys demanded.
+    pub fn next_revision(&mut self)
+        requires { self.old.revision < 2 ^ 63 }
+        ensures kept { self.new ≡ record self.old { revision = self.old.revision + 1; runs = [] } }
+        ensures fresh { IsFresh R.queries self.new }
+    {
+        self.revision += 1;
+        self.runs.clear();
+    }
+
+    /// The value at a node.
+    pub fn value(&self, id: NodeId) -> &R::Value
+        requires { IsSome (at self.now id.index) }
+        ensures { Some result.now ≡ option_map (λ r. r.value) (at self.now id.index) }
+    {
+        match self.store.node(id.index) {
+            Some(node) => &node.value,
+            None => unreachable!(),
+        }
+    }
+
+    /// The node of a key.
+    pub fn lookup(&self, key: &R::Key) -> Option<NodeId>
+        ensures { option_map (λ id. id.index) result ≡ node_of R.queries self.now key.now }
+    {
+        let index = self.store.node_of(key)?;
+        Some(NodeId { index })
+    }
+
+    /// The keys that ran in this revision, in order.
+    pub fn runs(&self) -> &[R::Key]
+        ensures { result.now ≡ self.now.runs }
+    {
+        &self.runs
+    }
+
+    /// How many records there are.
+    pub fn len(&self) -> usize
+        ensures { result ≡ count_by is_some self.now.nodes }
+    {
+        self.store.len()
+    }
 }

@@ -4,7 +4,9 @@
 mod graph;
 mod keys;
 mod rules;
+mod store;
 
-pub use graph::{Graph, Node, NodeId};
+pub use graph::{Graph, NodeId};
 pub use keys::{Keys, Reads, TryCopy};
 pub use rules::{Answers, Rules, Step};
+pub use store::Node;

@@ -1,10 +1,10 @@
 -- What the calls of a graph do to it.
-use Rattle.std.specs.Prelude.{◌≡◌, ◌≢◌, ℕ, ◌<◌, ◌≤◌, ◌+◌, Bool, true, false, List, [], ◌∷◌, ◌++◌, length, drop, Option, Some, None, ◌⊎◌}
+use Rattle.std.specs.Prelude.{◌≡◌, ◌≢◌, ℕ, ◌<◌, ◌≤◌, ◌+◌, Bool, true, false, List, [], ◌∷◌, ◌++◌, length, drop, cond, Option, Some, None, ◌⊎◌, MatchOption}
 use Rattle.query_core.specs.Lists.{Has, Each}
 use Rattle.query_core.specs.Queries.{Queries}
-use Rattle.query_core.specs.Graph.{Held, at, record_of, inputs, is_current, is_verified}
+use Rattle.query_core.specs.Graph.{Held, at, node_of, record_of, inputs, is_current, is_verified}
 use Rattle.query_core.specs.Due.{IsDue}
-use Rattle.query_core.specs.declared.graph.Node.{Node}
+use Rattle.query_core.specs.declared.store.Node.{Node}
 
 -- the key is reached from the root by what runs read
 pub data IsReached {K : Type 0} (asks : K → List K) (root : K) : K → Type 0 where
@@ -33,6 +33,29 @@ module _ {K V : Type 0} where
   -- the record is as it was, but that it may have been verified now
   abbrev pub IsLeft : ℕ → Node K V → Option (Node K V) → Type 0
   IsLeft now r new = (new ≡ Some r) ⊎ (new ≡ Some (record r { verified_at = now }))
+
+  -- the stamp of change of a new record is now, and that of a kept one moves by `Moves`
+  abbrev pub IsStamped : ℕ → Option (Node K V) → Node K V → Type 0
+  IsStamped now before s = MatchOption before (s.changed_at ≡ now) (λ r. Moves now r s)
+
+  -- `new` is `old` with the record r at the node i, which is the node of its key or was free
+  pub record Puts (q : Queries K V) (old new : Held K V) (i : ℕ) (r : Node K V) : Type 0 where
+    pub here : at new i ≡ Some r
+    pub others : (j : ℕ) → j ≢ i → at new j ≡ at old j
+    pub numbers : (k : K) → node_of q new k ≡ cond (q.same r.key k) (Some i) (node_of q old k)
+    pub place : (node_of q old r.key ≡ Some i) ⊎ ((at old i ≡ None) × (node_of q old r.key ≡ None))
+    pub revision : new.revision ≡ old.revision
+
+  -- What setting an input does: its record alone is put, with the value and stamped by `IsStamped`.
+  pub record SetsInput (q : Queries K V) (old new : Held K V) (k : K) (v : V) : Type 0 where
+    pub node : ℕ
+    pub entry : Node K V
+    pub puts : Puts q old new node entry
+    pub key : entry.key ≡ k
+    pub value : entry.value ≡ v
+    pub reads : entry.reads ≡ []
+    pub stamped : IsStamped old.revision (record_of q old k) entry
+    pub runs : new.runs ≡ old.runs
 
   -- What a demand leaves: its keys run at their nodes, all other records stay, and the only other new records are inputs that aren't set.
   pub record Leaves (q : Queries K V) (old new : Held K V) (added : List K) : Type 0 where
