@@ -2,3 +2,5 @@ pub mod Words
 pub mod Values
 pub mod Puts
 pub mod Calls
+pub mod Reading
+pub mod Answering

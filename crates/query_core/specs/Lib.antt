@@ -5,3 +5,5 @@ pub mod Soundness
 pub mod Due
 pub mod Stored
 pub mod Changes
+pub mod Answering
+pub mod Walk

@@ -16,15 +16,15 @@ use crate::store::Store;
 /// A node of a graph.
 #[derive(Clone, Copy)]
 pub struct NodeId {
-    index: usize,
+    pub(crate) index: usize,
 }
 
 /// The graph.
 pub struct Graph<R: Rules> {
-    alloc: Global,
-    store: Store<R::Key, R::Value>,
-    revision: u64,
-    runs: Vec<R::Key>,
+    pub(crate) alloc: Global,
+    pub(crate) store: Store<R::Key, R::Value>,
+    pub(crate) revision: u64,
+    pub(crate) runs: Vec<R::Key>,
     rules: PhantomData<R>,
 }
 

@@ -1,6 +1,9 @@
 // What a graph computes: the rules, and the answers that a run has so far.
 
 ghost use Rattle.std.specs.Prelude.{◌≡◌, ℕ, ◌+◌, List, IfOk, Option, Ok, Err, MatchResult, true};
+ghost use Rattle.std.specs.Map.{lookup};
+ghost use Rattle.std.specs.Option.{option_copied};
+ghost use Rattle.query_core.specs.Answering.{pairs_at, IsNumbered};
 ghost use Rattle.query_core.specs.Queries.{Queries, AreLawful, ticks};
 
 use std::alloc::{AllocError, Global};
@@ -10,7 +13,8 @@ use std::marker::Model;
 use steps::Steps;
 use std::sync::ledger::Ledger;
 
-use crate::keys::{Keys, TryCopy};
+use crate::keys::{Answered, Keys, TryCopy};
+use crate::store::Store;
 
 /// What a run does next.
 #[derive(Drop)]
@@ -21,17 +25,45 @@ pub enum Step<K, V> {
     Done(V),
 }
 
-/// The keys that a run asked for, with their values, in the order of asking.
-pub struct Answers<'a, K, V> {
-    pairs: &'a [(K, V)],
+/// The keys that a run asked for and that are answered, with their values, in the order of asking.
+#[derive(Drop)]
+pub struct Answers<'a, K: Eq + Hash, V> {
+    store: &'a Store<K, V>,
+    answered: &'a Answered,
 }
 
-impl<'a, K, V> Model for Answers<'a, K, V> {
+impl<'a, K: Eq + Hash, V> Model for Answers<'a, K, V> {
     ghost use Rattle.std.specs.Prelude.{List};
+    ghost use Rattle.query_core.specs.Answering.{pairs_at, IsNumbered};
 
     ghost Value = { List (K × V) };
 
-    ghost view = { λ a. a.pairs.now };
+    ghost view = { λ a. pairs_at a.store.now a.answered.now };
+
+    ghost invariant = { λ a. IsNumbered K.eq a.store.now };
+}
+
+impl<'a, K: Eq + Hash + TryCopy + Drop, V: Drop> Answers<'a, K, V> {
+    /// What the store holds for these answers.
+    pub(crate) fn new(store: &'a Store<K, V>, answered: &'a Answered) -> Answers<'a, K, V>
+        requires { IsNumbered K.eq store.now }
+        ensures { result ≡ pairs_at store.now answered.now }
+    {
+        Answers { store, answered }
+    }
+
+    /// The value that answers the key, or `None` where the run didn't ask for it. It takes no memory, and a time that doesn't
+    /// depend on the number of answers.
+    pub fn get(&self, key: &K) -> Option<&'a V>
+        ensures { option_copied result ≡ lookup (K.eq key.now) self.now }
+    {
+        let node = self.store.node_of(key)?;
+        if !self.answered.contains(node) {
+            return None;
+        }
+        let kept = self.store.node(node)?;
+        Some(&kept.value)
+    }
 }
 
 /// The rules.
