@@ -7,6 +7,7 @@ use Rattle.query_core.specs.Lists.{Has, Each, IsOnce}
 use Rattle.query_core.specs.Queries.{Queries, AreLawful}
 use Rattle.query_core.specs.Graph.{Held, at, node_of, record_of, inputs, is_current}
 use Rattle.query_core.specs.Stored.{Stored, Changes, Adds, node_at}
+use Rattle.query_core.specs.Answering.{IsNumbered}
 use Rattle.query_core.specs.Soundness.{IsSound}
 use Rattle.query_core.specs.Changes.{Puts, SetsInput, IsFresh, IsStamped, Moves}
 use Rattle.query_core.specs.declared.store.Node.{Node}
@@ -28,6 +29,25 @@ module _ {K V : Type 0} where
   pub stored_node : (q : Queries K V) (eq : K → K → Bool) (same : (a b : K) → eq a b ≡ q.same a b) (s : Stored K V) (n : ℕ) (rs : List K) → IsSound q (held s n rs)
       → (k : K) (i : ℕ) → lookup (eq k) s.numbers ≡ Some i → (r : Node K V) × (node_at s i ≡ Some r) × (r.key ≡ k)
   stored_node q eq same s n rs sound k i e = sound.numbers k i (sym (lookup_same eq q.same same k s.numbers) ∙ e)
+
+  -- a key without a record has no number
+  pub no_number : (q : Queries K V) (eq : K → K → Bool) (same : (a b : K) → eq a b ≡ q.same a b) (s : Stored K V) (n : ℕ) (rs : List K) → IsSound q (held s n rs)
+      → (k : K) → record_of q (held s n rs) k ≡ None → lookup (eq k) s.numbers ≡ None
+  no_number q eq same s n rs sound k e =
+      elim (lookup (eq k) s.numbers) as (λ o. lookup (eq k) s.numbers ≡ o → o ≡ None)
+        [ None ↦ (λ _. refl)
+        | Some i ↦ (λ f. let st = stored_node q eq same s n rs sound k i f in
+            let was : record_of q (held s n rs) k ≡ Some st.0 = ap (λ o. option_map_or (at (held s n rs)) o None) (sym (lookup_same eq q.same same k s.numbers) ∙ f) ∙ st.1 in
+            let bad : ⊥ = cc in absurd bad) ] refl
+
+  -- the store gives each key the number of its node
+  pub numbered_of : (q : Queries K V) (laws : AreLawful q) (eq : K → K → Bool) (same : (a b : K) → eq a b ≡ q.same a b) (s : Stored K V) (n : ℕ) (rs : List K) → IsSound q (held s n rs) → IsNumbered eq s
+  numbered_of q laws eq same s n rs sound = record {
+      stands = λ k i e. let st = stored_node q eq same s n rs sound k i e in
+          (st.0, (st.1, same k st.0.key ∙ subst (λ x. q.same k x ≡ true) (sym st.2) (laws.same_self k)));
+      only = λ k i r e is. let key : k ≡ r.key = laws.same k r.key (sym (same k r.key) ∙ is) in
+          lookup_same eq q.same same k s.numbers ∙ subst (λ x. node_of q (held s n rs) x ≡ Some i) (sym key) (sound.numbered i r e);
+    }
 
   pub puts_changes : (q : Queries K V) (laws : AreLawful q) (s s' : Stored K V) (n : ℕ) (rs rs' : List K) (sound : IsSound q (held s n rs)) (i : ℕ) (r r' : Node K V)
       → node_at s i ≡ Some r → r'.key ≡ r.key → Changes s s' i r' → Puts q (held s n rs) (held s' n rs') i r'

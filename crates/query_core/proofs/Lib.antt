@@ -3,4 +3,6 @@ pub mod Values
 pub mod Puts
 pub mod Calls
 pub mod Reading
+pub mod Steps
+pub mod Finishing
 pub mod Answering

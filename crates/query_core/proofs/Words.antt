@@ -1,6 +1,6 @@
 -- Lemmas on the words for lists, and on what a graph keeps of a list of nodes.
-use Rattle.std.proofs.Common.{◌≡◌, ◌≢◌, ℕ, ◌+◌, List, [], ◌∷◌, ◌++◌, refl, ap, sym, ◌∙◌, subst, inl, inr, ◌⊎◌, map, Option, Some, None, append_assoc, append-nil}
-use Rattle.std.specs.Prelude.{filter_map}
+use Rattle.std.proofs.Common.{◌≡◌, ◌≢◌, ℕ, zero, suc, ◌+◌, ◌<◌, length, get_or, arith, List, [], ◌∷◌, ◌++◌, refl, ap, sym, ◌∙◌, subst, inl, inr, ◌⊎◌, map, Option, Some, None, append_assoc, append-nil}
+use Rattle.std.specs.Prelude.{filter_map, slice_get}
 use Rattle.std.specs.List.{cons_option}
 use Rattle.std.specs.Option.{option_map}
 use Rattle.query_core.specs.Lists.{Has, Each, IsOnce}
@@ -67,6 +67,16 @@ filter_map-same f h (x ∷ xs) e =
     let p = filter_map-same f h xs (λ y m. e y (inr m)) in
     let r = e x (inl refl) in
     ap (λ o. cons_option o (filter_map f xs)) r ∙ ap (cons_option (h x)) p
+
+pub has_at : (xs : List ℕ) (i : ℕ) → i < length xs → Has xs (get_or xs i 0)
+has_at [] i l = absurd (omega arith)
+has_at (x ∷ xs) zero l = inl refl
+has_at (x ∷ xs) (suc i) l = inr (has_at xs i (omega arith))
+
+pub get_at : (xs : List ℕ) (i : ℕ) → i < length xs → slice_get xs i ≡ Some (get_or xs i 0)
+get_at [] i l = absurd (omega arith)
+get_at (x ∷ xs) zero l = refl
+get_at (x ∷ xs) (suc i) l = get_at xs i (omega arith)
 
 module _ {K V : Type 0} where
   pub kept-append : (g : Held K V) (a b : List ℕ) → kept g (a ++ b) ≡ kept g a ++ kept g b

@@ -10,6 +10,8 @@ use Rattle.query_core.specs.declared.frame.Stage.{Stage}
 use Rattle.query_core.specs.declared.frame.Stage.TheVariants.{Unset, Check, Run}
 use Rattle.query_core.specs.declared.frame.Moved.{Moved}
 use Rattle.query_core.specs.declared.frame.Moved.TheVariants.{Waits, Done}
+use Rattle.query_core.specs.declared.frame.Look.{Look}
+use Rattle.query_core.specs.declared.frame.Look.TheVariants.{Settled, Altered, Open}
 use Rattle.query_core.specs.declared.frame.Checked.{Checked}
 use Rattle.query_core.specs.declared.frame.Checked.TheVariants.{Unchanged, Changed, Stale}
 
@@ -60,11 +62,31 @@ module _ {K V : Type 0} (q : Queries K V) (g : Held K V) where
   Leads root k [] = k ≡ root
   Leads root k (f ∷ fs) = Has (q.asks (inputs q g) f.key) k × IsFrame f × Leads root f.key fs
 
+  -- what a look at one read says
+  abbrev pub IsLookAt : ℕ → ℕ → Look → Type 0
+  IsLookAt since j Settled = IsSettled since j
+  IsLookAt since j Altered = HasMoved since j
+  IsLookAt since j Open = (d : Node K V) × ((at g j ≡ Some d) × (is_current q g d ≡ false))
+
   -- the reads of the record from a place on: what a look at them says
   abbrev pub IsLook : Node K V → Checked → Type 0
   IsLook r Unchanged = IsSettledTo r (length r.reads)
   IsLook r Changed = (j : ℕ) × (Has r.reads j × HasMoved r.verified_at j)
   IsLook r (Stale place) = IsSettledTo r place × ((j : ℕ) × ((d : Node K V) × ((slice_get r.reads place ≡ Some j) × (at g j ≡ Some d) × (is_current q g d ≡ false))))
+
+  -- what the keys asked so far say after a look at their answers
+  abbrev pub IsCollected : List K → List ℕ → Option K → Type 0
+  IsCollected asked answered None = AreAnswered asked answered × (length answered ≡ length asked)
+  IsCollected asked answered (Some on) = AreAnswered asked answered × Has asked on × (is_verified q g on ≡ false)
+
+  -- a run of the key may enter this value with these reads
+  pub record IsEntry (k : K) (value : V) (reads : List ℕ) : Type 0 where
+    pub no_input : q.is_input k ≡ false
+    pub stale : is_verified q g k ≡ false
+    pub outdated : IsOutdated k
+    pub answered : AreAnswered (q.asks (inputs q g) k) reads
+    pub all : length reads ≡ length (q.asks (inputs q g) k)
+    pub value_is : value ≡ q.val (inputs q g) k
 
 module _ {K V : Type 0} where
   -- how a key was finished: its record was verified, its run gave a value, or it became an input that isn't set

@@ -29,6 +29,17 @@ pub(crate) enum Moved<K> {
     Done(usize),
 }
 
+/// What a look at one read of a record says.
+#[derive(Drop)]
+pub(crate) enum Look {
+    /// It is verified and unchanged.
+    Settled,
+    /// It is verified and has changed.
+    Altered,
+    /// It isn't verified.
+    Open,
+}
+
 /// What a look at the reads of a record says.
 #[derive(Drop)]
 pub(crate) enum Checked {

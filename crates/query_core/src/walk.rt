@@ -1,18 +1,19 @@
 // The walk of a demand, on a path of its own.
 
-ghost use Rattle.std.specs.Prelude.{◌≡◌, ◌≢◌, ℕ, ◌+◌, ◌<◌, ◌≤◌, ◌++◌, [], true, false, None, Some, Ok, Err, OnOk, OnErr, IfSome, IsSome, IfOk, IfErr, MatchOption, MatchResult, IsTrue, ◌↔◌, List, Option, length, reverse};
+ghost use Rattle.std.specs.Prelude.{◌≡◌, ◌≢◌, ℕ, ◌+◌, ◌<◌, ◌≤◌, ◌++◌, ◌∷◌, [], slice_get, true, false, None, Some, Ok, Err, OnOk, OnErr, IfSome, IsSome, IfOk, IfErr, MatchOption, MatchResult, IsTrue, ◌↔◌, List, Option, length, reverse};
 ghost use Rattle.std.specs.Option.{option_copied};
 ghost use Rattle.query_core.specs.Graph.{Held, at, node_of, record_of, inputs, is_current, is_verified};
-ghost use Rattle.query_core.specs.Soundness.{IsSound};
-ghost use Rattle.query_core.specs.Walk.{IsFrame, IsLook, IsSettledTo, IsStep, Finishes, IsOutdated, AreAsked, AreAnswered};
+ghost use Rattle.query_core.specs.Soundness.{IsSound, kept};
+ghost use Rattle.query_core.specs.Queries.{ticks};
+ghost use Rattle.query_core.specs.Walk.{IsFrame, IsStage, IsLook, IsLookAt, IsSettledTo, IsCollected, IsEntry, IsStep, Finishes, IsOutdated, AreAsked, AreAnswered};
 ghost use Rattle.query_core.specs.declared.store.Node.{Node};
 
 use std::alloc::AllocError;
 use std::sync::ledger::Ledger;
 
-use crate::frame::{Checked, Frame, Moved, Stage};
+use crate::frame::{Checked, Frame, Look, Moved, Stage};
 use crate::graph::{Graph, NodeId};
-use crate::keys::{Answered, Keys, TryCopy};
+use crate::keys::{Answered, Keys, Reads, TryCopy};
 use crate::rules::{Answers, Rules, Step};
 use crate::store::Node;
 use steps::Steps;
@@ -35,7 +36,8 @@ impl<R: Rules> Graph<R> {
 
     /// The record at a node.
     fn node(&self, node: usize) -> Option<&Node<R::Key, R::Value>>
-        ensures { option_copied result ≡ at self.now node }
+        ensures value { option_copied result ≡ at self.now node }
+        ensures sound { IsSound R.queries self.now }
     {
         self.store.node(node)
     }
@@ -53,6 +55,169 @@ impl<R: Rules> Graph<R> {
             Some(node)
         } else {
             None
+        }
+    }
+
+    /// How the work on a key that isn't verified begins.
+    fn first_stage(&self, rules: &R, key: &R::Key) -> Stage<R::Key>
+        requires { is_verified R.queries self.now key.now ≡ false }
+        ensures { IsStage R.queries self.now key.now result }
+    {
+        let found = self.node_of(key);
+        if rules.is_input(key) {
+            return Stage::Unset;
+        }
+        match found {
+            Some(node) => Stage::Check(node, 0),
+            None => Stage::Run(Keys::new(self.alloc), Answered::new(self.alloc)),
+        }
+    }
+
+    /// A frame for a key that isn't verified.
+    fn begin(&self, rules: &R, key: R::Key) -> Frame<R::Key>
+        requires { is_verified R.queries self.now key ≡ false }
+        ensures key { result.key ≡ key }
+        ensures frame { IsFrame R.queries self.now result }
+    {
+        let stage = self.first_stage(rules, &key);
+        Frame { key, stage }
+    }
+
+    /// Looks at one read of a record that was last verified in the revision `since`.
+    fn look_at(&self, rules: &R, node: usize, since: u64) -> Look
+        requires { IsSome (at self.now node) }
+        ensures { IsLookAt R.queries self.now since node result }
+    {
+        let Some(read) = self.node(node) else {
+            return Look::Open;
+        };
+        if !self.is_current(rules, read) {
+            return Look::Open;
+        }
+        if read.changed_at <= since {
+            Look::Settled
+        } else {
+            Look::Altered
+        }
+    }
+
+    /// Looks at the reads of a record from a place on: each one only after all earlier ones are verified and unchanged.
+    fn look(&self, rules: &R, node: usize, place: usize) -> Checked
+        requires stands { IsSome (at self.now node) }
+        requires so_far { (r : Node R.Key R.Value) → at self.now node ≡ Some r → IsSettledTo R.queries self.now r place }
+        ensures { (r : Node R.Key R.Value) → at self.now node ≡ Some r → IsLook R.queries self.now r result }
+    {
+        let Some(kept) = self.node(node) else {
+            return Checked::Unchanged;
+        };
+        let reads = kept.reads.as_slice();
+        for at in place..reads.len() {
+            match self.look_at(rules, reads[at], kept.verified_at) {
+                Look::Settled => {}
+                Look::Altered => return Checked::Changed,
+                Look::Open => return Checked::Stale(at),
+            }
+        }
+        Checked::Unchanged
+    }
+
+    /// The key of a read of a record.
+    fn read_key(&self, node: usize, place: usize) -> Result<R::Key, AllocError>
+        requires { (r : Node R.Key R.Value) × ((at self.now node ≡ Some r) × (place < length r.reads)) }
+        ensures { IfOk result (λ key. (r d : Node R.Key R.Value) (j : ℕ) → at self.now node ≡ Some r → slice_get r.reads place ≡ Some j → at self.now j ≡ Some d → d.key ≡ key) }
+    {
+        let Some(kept) = self.node(node) else {
+            return Err(AllocError);
+        };
+        let Some(read) = self.node(kept.reads.as_slice()[place]) else {
+            return Err(AllocError);
+        };
+        read.key.try_copy()
+    }
+
+    /// Takes the answers to what was asked, as far as it is verified, and gives the first key that isn't.
+    fn collect(&self, rules: &R, asked: &Keys<R::Key>, answered: &mut Answered) -> Result<Option<R::Key>, AllocError>
+        requires { AreAnswered R.queries self.now asked.now answered.old }
+        ensures { IfOk result (IsCollected R.queries self.now asked.now answered.new) }
+    {
+        let keys = asked.as_slice();
+        for place in answered.len()..keys.len() {
+            let key = &keys[place];
+            match self.current(rules, key) {
+                Some(node) => answered.push(node)?,
+                None => {
+                    let on = key.try_copy()?;
+                    return Ok(Some(on));
+                }
+            }
+        }
+        Ok(None)
+    }
+
+    /// Asks the rules what a run does next.
+    fn round<L: Ledger>(
+        &self,
+        rules: &R,
+        key: &R::Key,
+        answered: &Answered,
+        steps: &mut Steps<L>,
+    ) -> Result<Step<R::Key, R::Value>, AllocError>
+        ensures step { IfOk result (λ s. s ≡ R.queries.step key.now (kept self.now answered.now)) }
+        ensures ticks { steps.new ≡ steps.old + ticks result }
+    {
+        let answers = Answers::new(&self.store, answered);
+        rules.next(self.alloc, key, &answers, steps)
+    }
+
+    /// Marks the record of a key as verified: all its reads are verified and unchanged.
+    fn touch(&mut self, key: &R::Key, node: usize)
+        requires no_input { R.queries.is_input key.now ≡ false }
+        requires stale { is_verified R.queries self.old key.now ≡ false }
+        requires numbered { node_of R.queries self.old key.now ≡ Some node }
+        requires settled { (r : Node R.Key R.Value) → at self.old node ≡ Some r → IsSettledTo R.queries self.old r (length r.reads) }
+        ensures finishes { Finishes R.queries self.old self.new key.now node }
+        ensures runs { self.new.runs ≡ self.old.runs }
+    {
+        let now = self.revision;
+        self.store.verify(node, now);
+    }
+
+    /// Makes the record of an input that isn't set.
+    fn add_unset(&mut self, rules: &R, key: R::Key) -> Result<usize, AllocError>
+        requires input { R.queries.is_input key ≡ true }
+        requires absent { record_of R.queries self.old key ≡ None }
+        ensures finishes { IfOk result (λ node. Finishes R.queries self.old self.new key node) }
+        ensures runs { self.new.runs ≡ self.old.runs }
+        ensures err { OnErr result (self.new ≡ self.old) }
+    {
+        let value = rules.unset(self.alloc, &key)?;
+        let reads = Reads::new(self.alloc);
+        let now = self.revision;
+        let node = self.store.add(key, value, reads, now)?;
+        Ok(node)
+    }
+
+    /// Enters the value of a run.
+    fn enter(&mut self, key: R::Key, value: R::Value, reads: Reads) -> Result<usize, AllocError>
+        requires { IsEntry R.queries self.old key value reads }
+        ensures finishes { IfOk result (λ node. Finishes R.queries self.old self.new key node) }
+        ensures runs { OnOk result (self.new.runs ≡ self.old.runs ++ key ∷ []) }
+        ensures err { OnErr result (self.new ≡ self.old) }
+    {
+        let now = self.revision;
+        self.runs.reserve(1)?;
+        let ran = key.try_copy()?;
+        match self.store.node_of(&key) {
+            Some(node) => {
+                self.store.renew(node, value, reads, now);
+                self.runs.push_reserved(ran);
+                Ok(node)
+            }
+            None => {
+                let node = self.store.add(key, value, reads, now)?;
+                self.runs.push_reserved(ran);
+                Ok(node)
+            }
         }
     }
 }
