@@ -5,4 +5,6 @@ pub mod Calls
 pub mod Reading
 pub mod Steps
 pub mod Finishing
+pub mod Running
+pub mod Walking
 pub mod Answering

@@ -1,5 +1,5 @@
 -- The walk of a demand: what stands in each frame of its path, and what one step does.
-use Rattle.std.specs.Prelude.{◌≡◌, ◌≢◌, ℕ, ◌<◌, ◌≤◌, ◌+◌, Bool, true, false, List, [], ◌∷◌, ◌++◌, length, take, Option, Some, None, ◌⊎◌, slice_get}
+use Rattle.std.specs.Prelude.{◌≡◌, ◌≢◌, ℕ, ◌<◌, ◌≤◌, ◌+◌, Bool, true, false, List, [], ◌∷◌, ◌++◌, length, take, Option, Some, None, ◌⊎◌, slice_get, Result, Ok, Err}
 use Rattle.query_core.specs.Lists.{Has, Each}
 use Rattle.query_core.specs.Queries.{Queries}
 use Rattle.query_core.specs.Graph.{Held, at, node_of, record_of, inputs, is_current, is_verified}
@@ -10,6 +10,8 @@ use Rattle.query_core.specs.declared.frame.Stage.{Stage}
 use Rattle.query_core.specs.declared.frame.Stage.TheVariants.{Unset, Check, Run}
 use Rattle.query_core.specs.declared.frame.Moved.{Moved}
 use Rattle.query_core.specs.declared.frame.Moved.TheVariants.{Waits, Done}
+use Rattle.query_core.specs.declared.frame.Halt.{Halt}
+use Rattle.query_core.specs.declared.frame.Halt.TheVariants.{Pauses, Ends}
 use Rattle.query_core.specs.declared.frame.Look.{Look}
 use Rattle.query_core.specs.declared.frame.Look.TheVariants.{Settled, Altered, Open}
 use Rattle.query_core.specs.declared.frame.Checked.{Checked}
@@ -46,11 +48,19 @@ module _ {K V : Type 0} (q : Queries K V) (g : Held K V) where
   abbrev pub AreAsked : K → List K → Type 0
   AreAsked k asked = (more : List K) × (q.asks (inputs q g) k ≡ asked ++ more)
 
+  -- the reads of the key's record are settled before a place
+  abbrev pub IsChecking : K → ℕ → ℕ → Type 0
+  IsChecking k node place = (q.is_input k ≡ false) × ((r : Node K V) × ((node_of q g k ≡ Some node) × (at g node ≡ Some r) × IsSettledTo r place))
+
+  -- a run of the key has asked these keys, and has these answers
+  abbrev pub IsRunning : K → List K → List ℕ → Type 0
+  IsRunning k asked answered = (q.is_input k ≡ false) × IsOutdated k × AreAsked k asked × AreAnswered asked answered
+
   -- how far the work on a key has come
   abbrev pub IsStage : K → Stage K → Type 0
   IsStage k Unset = (q.is_input k ≡ true) × (record_of q g k ≡ None)
-  IsStage k (Check node place) = (q.is_input k ≡ false) × ((r : Node K V) × ((node_of q g k ≡ Some node) × (at g node ≡ Some r) × IsSettledTo r place))
-  IsStage k (Run asked answered) = (q.is_input k ≡ false) × IsOutdated k × AreAsked k asked × AreAnswered asked answered
+  IsStage k (Check node place) = IsChecking k node place
+  IsStage k (Run asked answered) = IsRunning k asked answered
 
   -- the key of the frame isn't verified now
   pub record IsFrame (frame : Frame K) : Type 0 where
@@ -79,6 +89,11 @@ module _ {K V : Type 0} (q : Queries K V) (g : Held K V) where
   IsCollected asked answered None = AreAnswered asked answered × (length answered ≡ length asked)
   IsCollected asked answered (Some on) = AreAnswered asked answered × Has asked on × (is_verified q g on ≡ false)
 
+  -- where a run halts: at a key that isn't verified, or with the value of its key
+  abbrev pub IsHalt : K → List K → List ℕ → Halt K V → Type 0
+  IsHalt k asked answered (Pauses on) = IsRunning k asked answered × Has asked on × (is_verified q g on ≡ false)
+  IsHalt k asked answered (Ends value) = AreAnswered (q.asks (inputs q g) k) answered × (length answered ≡ length (q.asks (inputs q g) k)) × (value ≡ q.val (inputs q g) k)
+
   -- a run of the key may enter this value with these reads
   pub record IsEntry (k : K) (value : V) (reads : List ℕ) : Type 0 where
     pub no_input : q.is_input k ≡ false
@@ -103,6 +118,16 @@ module _ {K V : Type 0} where
     pub key : entry.key ≡ k
     pub current : is_current q old entry ≡ true
     pub how : HowFinished q old new i entry
+
+  -- how often a run counts that halts so
+  abbrev pub halted : {E : Type 0} → Result (Halt K V) E → ℕ
+  halted (Ok (Pauses on)) = 0
+  halted (Ok (Ends value)) = 1
+  halted (Err e) = 0
+
+  -- after want of memory the graph is as before, and the counter rose by one at most
+  abbrev pub IsGivenUp : Held K V → Held K V → ℕ → ℕ → Type 0
+  IsGivenUp old new steps steps' = (new ≡ old) × (steps ≤ steps') × (steps' ≤ steps + 1)
 
   -- what a step of the walk on a frame gives, with the counter before and after
   abbrev pub IsStep : Queries K V → Held K V → Held K V → K → ℕ → ℕ → Moved K → Type 0

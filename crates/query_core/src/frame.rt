@@ -50,3 +50,12 @@ pub(crate) enum Checked {
     /// The one at this place isn't verified; those before it are, and are unchanged.
     Stale(usize),
 }
+
+/// Where a run halts.
+#[derive(Drop)]
+pub(crate) enum Halt<K, V> {
+    /// At this key, which it asked for and which isn't verified.
+    Pauses(K),
+    /// With the value of its key.
+    Ends(V),
+}

@@ -5,13 +5,13 @@ ghost use Rattle.std.specs.Option.{option_copied};
 ghost use Rattle.query_core.specs.Graph.{Held, at, node_of, record_of, inputs, is_current, is_verified};
 ghost use Rattle.query_core.specs.Soundness.{IsSound, kept};
 ghost use Rattle.query_core.specs.Queries.{ticks};
-ghost use Rattle.query_core.specs.Walk.{IsFrame, IsStage, IsLook, IsLookAt, IsSettledTo, IsCollected, IsEntry, IsStep, Finishes, IsOutdated, AreAsked, AreAnswered};
+ghost use Rattle.query_core.specs.Walk.{IsFrame, IsStage, IsChecking, IsRunning, IsHalt, IsGivenUp, halted, IsLook, IsLookAt, IsSettledTo, IsCollected, IsEntry, IsStep, Finishes, IsOutdated, AreAsked, AreAnswered};
 ghost use Rattle.query_core.specs.declared.store.Node.{Node};
 
 use std::alloc::AllocError;
 use std::sync::ledger::Ledger;
 
-use crate::frame::{Checked, Frame, Look, Moved, Stage};
+use crate::frame::{Checked, Frame, Halt, Look, Moved, Stage};
 use crate::graph::{Graph, NodeId};
 use crate::keys::{Answered, Keys, Reads, TryCopy};
 use crate::rules::{Answers, Rules, Step};
@@ -164,6 +164,7 @@ impl<R: Rules> Graph<R> {
     ) -> Result<Step<R::Key, R::Value>, AllocError>
         ensures step { IfOk result (λ s. s ≡ R.queries.step key.now (kept self.now answered.now)) }
         ensures ticks { steps.new ≡ steps.old + ticks result }
+        ensures sound { IsSound R.queries self.now }
     {
         let answers = Answers::new(&self.store, answered);
         rules.next(self.alloc, key, &answers, steps)
@@ -218,6 +219,111 @@ impl<R: Rules> Graph<R> {
                 self.runs.push_reserved(ran);
                 Ok(node)
             }
+        }
+    }
+
+    /// Lets a run go on until it has its value or asks for a key that isn't verified.
+    fn go_on<L: Ledger>(
+        &self,
+        rules: &R,
+        key: &R::Key,
+        asked: &mut Keys<R::Key>,
+        answered: &mut Answered,
+        steps: &mut Steps<L>,
+    ) -> Result<Halt<R::Key, R::Value>, AllocError>
+        requires { IsRunning R.queries self.now key.now asked.old answered.old }
+        ensures halt { IfOk result (IsHalt R.queries self.now key.now asked.new answered.new) }
+        ensures ticks { steps.new ≡ steps.old + halted result }
+    {
+        'rounds: loop {
+            let open = self.collect(rules, asked, answered)?;
+            match open {
+                Some(on) => return Ok(Halt::Pauses(on)),
+                None => {}
+            }
+            let step = self.round(rules, key, answered, steps)?;
+            match step {
+                Step::Ask(more) => asked.append(more)?,
+                Step::Done(value) => return Ok(Halt::Ends(value)),
+            }
+        }
+    }
+
+    /// A step of the walk on a key that runs.
+    fn run<L: Ledger>(
+        &mut self,
+        rules: &R,
+        key: R::Key,
+        asked: Keys<R::Key>,
+        answered: Answered,
+        steps: &mut Steps<L>,
+    ) -> Result<Moved<R::Key>, AllocError>
+        requires stale { is_verified R.queries self.old key ≡ false }
+        requires running { IsRunning R.queries self.old key asked answered }
+        ensures ok { IfOk result (IsStep R.queries self.old self.new key steps.old steps.new) }
+        ensures err { OnErr result (IsGivenUp self.old self.new steps.old steps.new) }
+    {
+        let mut asked = asked;
+        let mut answered = answered;
+        let halt = self.go_on(rules, &key, &mut asked, &mut answered, steps)?;
+        match halt {
+            Halt::Pauses(on) => {
+                let stage = Stage::Run(asked, answered);
+                Ok(Moved::Waits(Frame { key, stage }, on))
+            }
+            Halt::Ends(value) => {
+                let node = self.enter(key, value, answered.into_reads())?;
+                Ok(Moved::Done(node))
+            }
+        }
+    }
+
+    /// A step of the walk on a key whose record is looked at.
+    fn check<L: Ledger>(
+        &mut self,
+        rules: &R,
+        key: R::Key,
+        node: usize,
+        place: usize,
+        steps: &mut Steps<L>,
+    ) -> Result<Moved<R::Key>, AllocError>
+        requires stale { is_verified R.queries self.old key ≡ false }
+        requires checking { IsChecking R.queries self.old key node place }
+        ensures ok { IfOk result (IsStep R.queries self.old self.new key steps.old steps.new) }
+        ensures err { OnErr result (IsGivenUp self.old self.new steps.old steps.new) }
+    {
+        match self.look(rules, node, place) {
+            Checked::Unchanged => {
+                self.touch(&key, node);
+                Ok(Moved::Done(node))
+            }
+            Checked::Changed => {
+                let asked = Keys::new(self.alloc);
+                let answered = Answered::new(self.alloc);
+                self.run(rules, key, asked, answered, steps)
+            }
+            Checked::Stale(place) => {
+                let on = self.read_key(node, place)?;
+                let stage = Stage::Check(node, place);
+                Ok(Moved::Waits(Frame { key, stage }, on))
+            }
+        }
+    }
+
+    /// A step of the walk: the key is finished, or waits for another one.
+    fn advance<L: Ledger>(&mut self, rules: &R, frame: Frame<R::Key>, steps: &mut Steps<L>) -> Result<Moved<R::Key>, AllocError>
+        requires { IsFrame R.queries self.old frame }
+        ensures ok { IfOk result (IsStep R.queries self.old self.new frame.key steps.old steps.new) }
+        ensures err { OnErr result (IsGivenUp self.old self.new steps.old steps.new) }
+    {
+        let Frame { key, stage } = frame;
+        match stage {
+            Stage::Unset => {
+                let node = self.add_unset(rules, key)?;
+                Ok(Moved::Done(node))
+            }
+            Stage::Check(node, place) => self.check(rules, key, node, place, steps),
+            Stage::Run(asked, answered) => self.run(rules, key, asked, answered, steps),
         }
     }
 }
