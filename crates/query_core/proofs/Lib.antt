@@ -7,4 +7,6 @@ pub mod Steps
 pub mod Finishing
 pub mod Running
 pub mod Walking
+pub mod Leaving
+pub mod Ending
 pub mod Answering

@@ -22,7 +22,7 @@ use Rattle.query_core.proofs.Finishing.{not_ran}
 
 module _ {K V : Type 0} (q : Queries K V) (laws : AreLawful q) (g g' : Held K V) (sound : IsSound q g) (k : K) (i : ℕ) (stale : is_verified q g k ≡ false) (f : Finishes q g g' k i) where
   -- the node's record, if there is one, is the key's
-  key_there : (s : Node K V) → at g i ≡ Some s → s.key ≡ k
+  pub key_there : (s : Node K V) → at g i ≡ Some s → s.key ≡ k
   key_there s e =
       elim f.puts.place
         [ inl p ↦ (let n = sound.numbers f.entry.key i p in let same : n.0 ≡ s = (let h = n.1 in cc) in subst (λ (x : Node K V). x.key ≡ f.entry.key) same n.2 ∙ f.key)
@@ -37,7 +37,7 @@ module _ {K V : Type 0} (q : Queries K V) (laws : AreLawful q) (g g' : Held K V)
   keeps_at : (j : ℕ) (d : Node K V) → at g j ≡ Some d → d.key ≢ k → at g' j ≡ Some d
   keeps_at j d e n = elim (cases_eq j i) [ inl ji ↦ absurd (n (key_there d (subst (λ m. at g m ≡ Some d) ji e))) | inr ne ↦ f.puts.others j ne ∙ e ]
 
-  same_current : (d : Node K V) → is_current q g' d ≡ is_current q g d
+  pub same_current : (d : Node K V) → is_current q g' d ≡ is_current q g d
   same_current d = ap (λ n. q.is_input d.key || (d.verified_at == n)) f.puts.revision
 
   -- a record that was verified now keeps its record
@@ -57,7 +57,7 @@ module _ {K V : Type 0} (q : Queries K V) (laws : AreLawful q) (g g' : Held K V)
       ap (λ o. option_map_or (is_current q g') o false) (other_record x n) ∙
       elim (record_of q g x) as (λ o. option_map_or (is_current q g') o false ≡ option_map_or (is_current q g) o false) [ None ↦ refl | Some d ↦ same_current d ]
 
-  node_here : node_of q g' k ≡ Some i
+  pub node_here : node_of q g' k ≡ Some i
   node_here =
       subst (λ x. node_of q g' x ≡ Some i) f.key
       (f.puts.numbers f.entry.key ∙ ap (λ b. cond b (Some i) (node_of q g f.entry.key)) (laws.same_self f.entry.key))

@@ -67,3 +67,7 @@ module _ {K V : Type 0} where
         → (s : Node K V) × ((at new i ≡ Some s) × (s.key ≡ r.key) × Moves old.revision r s)
     pub fresh : (i : ℕ) (s : Node K V) → at old i ≡ None → at new i ≡ Some s
         → (s.changed_at ≡ old.revision) × (Has added s.key ⊎ ((q.is_input s.key ≡ true) × (s.value ≡ q.unset s.key)))
+
+  -- the node holds the key's record: it was verified now, and has the value of the key
+  abbrev pub IsHolding : Queries K V → Held K V → Held K V → K → ℕ → Type 0
+  IsHolding q old new k node = (r : Node K V) × ((at new node ≡ Some r) × (r.key ≡ k) × (is_current q new r ≡ true) × (r.value ≡ q.val (inputs q old) k))
