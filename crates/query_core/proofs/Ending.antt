@@ -1,18 +1,20 @@
 -- The walk ends, and what it has done then.
-use Rattle.std.proofs.Common.{◌≡◌, ◌≢◌, ℕ, zero, suc, ◌+◌, ◌-◌, ◌*◌, ◌<◌, ◌≤◌, Bool, true, false, cond, List, [], ◌∷◌, ◌++◌, length, take, drop, reverse, refl, ap, sym, ◌∙◌, subst, inl, inr, ◌⊎◌, Option, Some, None, append_assoc, append-nil, arith, rules}
+use Rattle.std.proofs.Common.{◌≡◌, ◌≢◌, ℕ, zero, suc, ◌+◌, ◌-◌, ◌*◌, ◌<◌, ◌≤◌, Bool, true, false, cond, List, [], ◌∷◌, ◌++◌, length, take, drop, reverse, refl, ap, sym, ◌∙◌, subst, inl, inr, ◌⊎◌, Option, Some, None, append_assoc, append-nil, arith, rules, Result, Ok, Err, OnErr}
 use Rattle.std.specs.List.{flat_map}
 use Rattle.std.proofs.lemmas.List.{reverse-append, drop_at, length_push}
 use Rattle.query_core.specs.Lists.{Has, Each, IsOnce}
 use Rattle.query_core.specs.Queries.{Queries, AreLawful}
 use Rattle.query_core.specs.Graph.{Held, at, node_of, record_of, inputs, is_current, is_verified}
 use Rattle.query_core.specs.Soundness.{IsSound}
-use Rattle.query_core.specs.Changes.{Moves, IsLeft, Leaves, IsRun, IsReached, IsHolding, ran}
+use Rattle.query_core.specs.Changes.{Moves, IsLeft, Leaves, IsRun, IsReached, IsHolding, Walked, ran}
 use Rattle.query_core.specs.Changes.IsReached.{itself, along}
 use Rattle.query_core.specs.Walk.{IsFrame, Leads, IsOutdated, Finishes, HowFinished, IsStep, IsGivenUp}
 use Rattle.query_core.specs.declared.frame.Frame.{Frame}
+use Rattle.query_core.specs.declared.frame.Moved.TheVariants.{Waits, Done}
 use Rattle.query_core.specs.declared.store.Node.{Node}
 use Rattle.query_core.proofs.Words.{Has-left, Has-right, Each-append}
 use Rattle.query_core.proofs.Values.{current_value}
+use Rattle.query_core.proofs.Reading.{verified_is}
 use Rattle.query_core.proofs.Walking.{verified_here, verified_stays, inputs_stay, leads_rank, leads_reached, leads_stay, same_current, frame_stays}
 use Rattle.query_core.proofs.Leaving.{Left, IsLeftOrRan, left_none, due_before, stale_before, left_touched, left_ran, left_unset}
 
@@ -192,12 +194,6 @@ module _ {K V : Type 0} where
           let l = subst (Leads q g root k) e w.leads in
           to_do_done frame.key (subst (λ I. q.rank I frame.key ≤ q.rank I root) w.left.inputs_same (leads_rank q laws g root frame.key rest l.2))
 
-  -- what a walk has done, for the contract of a demand
-  pub record Walked (q : Queries K V) (g0 : Held K V) (root : K) (g : Held K V) : Type 0 where
-    pub sound : IsSound q g
-    pub leaves : Leaves q g0 g (ran g0 g)
-    pub due : Each (IsRun q g0 root) (ran g0 g)
-
   pub leaves_from : (q : Queries K V) (g0 g : Held K V) (added : List K) → Left q g0 g added → Leaves q g0 g added
   leaves_from q g0 g added l = record {
       revision = l.revision;
@@ -217,3 +213,63 @@ module _ {K V : Type 0} where
   walked_from q g0 root g added sound left due =
       let e = ran_is g0 g added left.runs in
       record { sound = sound; leaves = subst (Leaves q g0 g) (sym e) (leaves_from q g0 g added left); due = subst (Each (IsRun q g0 root)) (sym e) due }
+
+module _ {K V : Type 0} (q : Queries K V) (laws : AreLawful q) (g0 : Held K V) (root : K) (g : Held K V) (k : K) (items : List (Frame K)) (steps0 steps : ℕ)
+    (w : Walk q g0 root g k (reverse items) steps0 steps) where
+  -- a step that waits, over the path as it is kept, the last frame at its end
+  pub waits_on : (g' : Held K V) (steps' : ℕ) (frame : Frame K) (on : K) (items' : List (Frame K)) (top : Frame K) → IsStep q g g' k steps steps' (Waits frame on) → items' ≡ items ++ frame ∷ [] → top.key ≡ on
+      → Walk q g0 root g' top.key (reverse items') steps0 steps'
+  waits_on g' steps' frame on items' top s e key =
+      let base = walk_waits q laws g0 root g k (reverse items) steps0 steps w g' steps' frame on s.0 s.1 s.2 s.3 s.4 in
+      let path : frame ∷ reverse items ≡ reverse items' = sym (ap reverse e ∙ reverse-append items (frame ∷ [])) in
+      subst (λ x. Walk q g0 root g' x (reverse items') steps0 steps') (sym key) (subst (λ l. Walk q g0 root g' on l steps0 steps') path base)
+
+  pub waits_less : (g' : Held K V) (steps' : ℕ) (frame : Frame K) (on : K) (top : Frame K) → IsStep q g g' k steps steps' (Waits frame on) → top.key ≡ on → to_do q g0 root g' top.key < to_do q g0 root g k
+  waits_less g' steps' frame on top s key = subst (λ x. to_do q g0 root g' x < to_do q g0 root g k) (sym key) (to_do_waits q laws g0 root g k (reverse items) steps0 steps w g' on s.0 s.4)
+
+  -- after a step that gave nothing, or waits, the graph is as before it
+  pub given_up : (g' : Held K V) → g' ≡ g → Walked q g0 root g'
+  given_up g' e = subst (Walked q g0 root) (sym e) (walked_from q g0 root g w.added w.sound w.left w.due)
+
+  pub ran_length : (g' : Held K V) → g' ≡ g → steps ≡ steps0 + length (ran g0 g')
+  ran_length g' e = w.counted ∙ ap (λ l. steps0 + length l) (sym (ran_is g0 g w.added w.left.runs) ∙ ap (ran g0) (sym e))
+
+  module _ (g' : Held K V) (i steps' : ℕ) (stale : is_verified q g k ≡ false) (s : IsStep q g g' k steps steps' (Done i)) where
+    pub goes_on : (frame : Frame K) (items' : List (Frame K)) → items ≡ items' ++ frame ∷ [] → Walk q g0 root g' frame.key (reverse items') steps0 steps' × IsFrame q g' frame
+    goes_on frame items' e =
+        walk_goes_on q laws g0 root g k (reverse items) steps0 steps w g' i steps' stale s.1 s.0 s.2 frame (reverse items') (ap reverse e ∙ reverse-append items' (frame ∷ []))
+
+    pub goes_on_less : (frame : Frame K) (items' : List (Frame K)) → items ≡ items' ++ frame ∷ [] → to_do q g0 root g' frame.key < to_do q g0 root g k
+    goes_on_less frame items' e =
+        to_do_goes_on q laws g0 root g k (reverse items) steps0 steps w g' i steps' stale s.1 s.0 s.2 frame (reverse items') (ap reverse e ∙ reverse-append items' (frame ∷ []))
+
+    all_done : (added : List K) × Now q laws g0 root g k (reverse items) steps0 steps w g' i steps' stale s.1 s.0 s.2 added
+    all_done = now q laws g0 root g k (reverse items) steps0 steps w g' i steps' stale s.1 s.0 s.2
+
+    pub ends_walked : Walked q g0 root g'
+    ends_walked = walked_from q g0 root g' all_done.0 s.1 all_done.1.left all_done.1.due
+
+    pub ends_counted : steps' ≡ steps0 + length (ran g0 g')
+    ends_counted = all_done.1.counted ∙ ap (λ l. steps0 + length l) (sym (ran_is g0 g' all_done.0 all_done.1.left.runs))
+
+    pub ends_holding : items ≡ [] → IsHolding q g0 g' root i
+    ends_holding e =
+        let root_is : k ≡ root = subst (λ l. Leads q g root k (reverse l)) e w.leads in
+        let cur : is_current q g' s.0.entry ≡ true = same_current q laws g g' w.sound k i stale s.0 s.0.entry ∙ s.0.current in
+        let key : s.0.entry.key ≡ root = s.0.key ∙ root_is in
+        (s.0.entry, (s.0.puts.here, key, cur,
+          current_value q g' laws s.1 i s.0.entry s.0.puts.here cur ∙ ap (λ I. q.val I s.0.entry.key) all_done.1.left.inputs_same ∙ ap (q.val (inputs q g0)) key))
+
+  pub waits_counted : (g' : Held K V) (steps' : ℕ) (frame : Frame K) (on : K) → IsStep q g g' k steps steps' (Waits frame on)
+      → (steps0 + length (ran g0 g') ≤ steps') × (steps' ≤ steps0 + length (ran g0 g') + 1)
+  waits_counted g' steps' frame on s = let e = ran_length g' s.0 in let e' = s.1 in ((omega arith), (omega arith))
+
+pub on_err : {A E : Type 0} (r : Result A E) (P : Type 0) → P → OnErr r P
+on_err (Ok x) P p = tt
+on_err (Err e) P p = p
+
+pub holds_already : {K V : Type 0} (q : Queries K V) (laws : AreLawful q) (g : Held K V) → IsSound q g → (k : K) (i : ℕ) → node_of q g k ≡ Some i → is_verified q g k ≡ true → IsHolding q g g k i
+holds_already q laws g sound k i n v =
+    let st = sound.numbers k i n in
+    let cur : is_current q g st.0 ≡ true = sym (verified_is q g k i st.0 n st.1) ∙ v in
+    (st.0, (st.1, st.2, cur, current_value q g laws sound i st.0 st.1 cur ∙ ap (q.val (inputs q g)) st.2))

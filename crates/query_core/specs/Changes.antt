@@ -3,6 +3,7 @@ use Rattle.std.specs.Prelude.{◌≡◌, ◌≢◌, ℕ, ◌<◌, ◌≤◌, ◌
 use Rattle.query_core.specs.Lists.{Has, Each}
 use Rattle.query_core.specs.Queries.{Queries}
 use Rattle.query_core.specs.Graph.{Held, at, node_of, record_of, inputs, is_current, is_verified}
+use Rattle.query_core.specs.Soundness.{IsSound}
 use Rattle.query_core.specs.Due.{IsDue}
 use Rattle.query_core.specs.declared.store.Node.{Node}
 
@@ -71,3 +72,9 @@ module _ {K V : Type 0} where
   -- the node holds the key's record: it was verified now, and has the value of the key
   abbrev pub IsHolding : Queries K V → Held K V → Held K V → K → ℕ → Type 0
   IsHolding q old new k node = (r : Node K V) × ((at new node ≡ Some r) × (r.key ≡ k) × (is_current q new r ≡ true) × (r.value ≡ q.val (inputs q old) k))
+
+  -- what a walk has done, to the graph
+  pub record Walked (q : Queries K V) (g0 : Held K V) (root : K) (g : Held K V) : Type 0 where
+    pub sound : IsSound q g
+    pub leaves : Leaves q g0 g (ran g0 g)
+    pub due : Each (IsRun q g0 root) (ran g0 g)

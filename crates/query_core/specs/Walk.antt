@@ -3,6 +3,7 @@ use Rattle.std.specs.Prelude.{◌≡◌, ◌≢◌, ℕ, ◌<◌, ◌≤◌, ◌
 use Rattle.query_core.specs.Lists.{Has, Each}
 use Rattle.query_core.specs.Queries.{Queries}
 use Rattle.query_core.specs.Graph.{Held, at, node_of, record_of, inputs, is_current, is_verified}
+use Rattle.query_core.specs.Soundness.{IsSound}
 use Rattle.query_core.specs.Changes.{Puts, IsStamped}
 use Rattle.query_core.specs.declared.store.Node.{Node}
 use Rattle.query_core.specs.declared.frame.Frame.{Frame}
@@ -133,4 +134,4 @@ module _ {K V : Type 0} where
   abbrev pub IsStep : Queries K V → Held K V → Held K V → K → ℕ → ℕ → Moved K → Type 0
   IsStep q old new k steps steps' (Waits frame on) =
       (new ≡ old) × (steps' ≡ steps) × (frame.key ≡ k) × IsFrame q old frame × Has (q.asks (inputs q old) k) on × (is_verified q old on ≡ false)
-  IsStep q old new k steps steps' (Done node) = Finishes q old new k node × (steps' + length old.runs ≡ steps + length new.runs)
+  IsStep q old new k steps steps' (Done node) = Finishes q old new k node × IsSound q new × (steps' + length old.runs ≡ steps + length new.runs)

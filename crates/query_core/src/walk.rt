@@ -1,11 +1,13 @@
 // The walk of a demand, on a path of its own.
 
-ghost use Rattle.std.specs.Prelude.{◌≡◌, ◌≢◌, ℕ, ◌+◌, ◌<◌, ◌≤◌, ◌++◌, ◌∷◌, [], slice_get, true, false, None, Some, Ok, Err, OnOk, OnErr, IfSome, IsSome, IfOk, IfErr, MatchOption, MatchResult, IsTrue, ◌↔◌, List, Option, length, reverse};
+ghost use Rattle.std.specs.Prelude.{◌≡◌, ◌≢◌, ℕ, ◌+◌, ◌<◌, ◌≤◌, ◌++◌, ◌∷◌, [], slice_get, true, false, None, Some, Ok, Err, OnOk, OnErr, IfSome, IsSome, IfOk, IfErr, IsOk, MatchOption, MatchResult, IsTrue, ◌↔◌, List, Option, length, reverse};
 ghost use Rattle.std.specs.Option.{option_copied};
 ghost use Rattle.query_core.specs.Graph.{Held, at, node_of, record_of, inputs, is_current, is_verified};
 ghost use Rattle.query_core.specs.Soundness.{IsSound, kept};
 ghost use Rattle.query_core.specs.Queries.{ticks};
 ghost use Rattle.query_core.specs.Walk.{IsFrame, IsStage, IsChecking, IsRunning, IsHalt, IsGivenUp, halted, IsLook, IsLookAt, IsSettledTo, IsCollected, IsEntry, IsStep, Finishes, IsOutdated, AreAsked, AreAnswered};
+ghost use Rattle.query_core.specs.Lists.{Each};
+ghost use Rattle.query_core.specs.Changes.{IsHolding, IsRun, Leaves, Walked, ran};
 ghost use Rattle.query_core.specs.declared.store.Node.{Node};
 
 use std::alloc::AllocError;
@@ -177,6 +179,7 @@ impl<R: Rules> Graph<R> {
         requires numbered { node_of R.queries self.old key.now ≡ Some node }
         requires settled { (r : Node R.Key R.Value) → at self.old node ≡ Some r → IsSettledTo R.queries self.old r (length r.reads) }
         ensures finishes { Finishes R.queries self.old self.new key.now node }
+        ensures sound { IsSound R.queries self.new }
         ensures runs { self.new.runs ≡ self.old.runs }
     {
         let now = self.revision;
@@ -188,6 +191,7 @@ impl<R: Rules> Graph<R> {
         requires input { R.queries.is_input key ≡ true }
         requires absent { record_of R.queries self.old key ≡ None }
         ensures finishes { IfOk result (λ node. Finishes R.queries self.old self.new key node) }
+        ensures sound { OnOk result (IsSound R.queries self.new) }
         ensures runs { self.new.runs ≡ self.old.runs }
         ensures err { OnErr result (self.new ≡ self.old) }
     {
@@ -202,6 +206,7 @@ impl<R: Rules> Graph<R> {
     fn enter(&mut self, key: R::Key, value: R::Value, reads: Reads) -> Result<usize, AllocError>
         requires { IsEntry R.queries self.old key value reads }
         ensures finishes { IfOk result (λ node. Finishes R.queries self.old self.new key node) }
+        ensures sound { OnOk result (IsSound R.queries self.new) }
         ensures runs { OnOk result (self.new.runs ≡ self.old.runs ++ key ∷ []) }
         ensures err { OnErr result (self.new ≡ self.old) }
     {
@@ -325,5 +330,46 @@ impl<R: Rules> Graph<R> {
             Stage::Check(node, place) => self.check(rules, key, node, place, steps),
             Stage::Run(asked, answered) => self.run(rules, key, asked, answered, steps),
         }
+    }
+
+    /// Walks from a key that isn't verified, on a path of its own.
+    fn walk<L: Ledger>(&mut self, rules: &R, key: R::Key, steps: &mut Steps<L>) -> Result<NodeId, AllocError>
+        requires { is_verified R.queries self.old key ≡ false }
+        ensures walked { Walked R.queries self.old key self.new }
+        ensures ok { IfOk result (λ id. IsHolding R.queries self.old self.new key id.index × (steps.new ≡ steps.old + length (ran self.old self.new))) }
+        ensures err { OnErr result ((steps.old + length (ran self.old self.new) ≤ steps.new) × (steps.new ≤ steps.old + length (ran self.old self.new) + 1)) }
+    {
+        let mut path: Vec<Frame<R::Key>> = Vec::new(self.alloc);
+        let mut top = self.begin(rules, key);
+        'steps: loop {
+            let moved = self.advance(rules, top, steps)?;
+            match moved {
+                Moved::Waits(frame, on) => {
+                    path.reserve(1)?;
+                    path.push_reserved(frame);
+                    top = self.begin(rules, on);
+                }
+                Moved::Done(index) => match path.pop() {
+                    Some(frame) => top = frame,
+                    None => return Ok(NodeId { index }),
+                },
+            }
+        }
+    }
+
+    /// The node of a key, whose record is verified now and holds the key's value.
+    pub fn demand<L: Ledger>(&mut self, rules: &R, key: R::Key, steps: &mut Steps<L>) -> Result<NodeId, AllocError>
+        ensures sound { IsSound R.queries self.new }
+        ensures holds { IfOk result (λ id. IsHolding R.queries self.old self.new key id.index) }
+        ensures leaves { Leaves R.queries self.old self.new (ran self.old self.new) }
+        ensures due { Each (IsRun R.queries self.old key) (ran self.old self.new) }
+        ensures counted { OnOk result (steps.new ≡ steps.old + length (ran self.old self.new)) }
+        ensures given_up { OnErr result ((steps.old + length (ran self.old self.new) ≤ steps.new) × (steps.new ≤ steps.old + length (ran self.old self.new) + 1)) }
+        ensures again { is_verified R.queries self.old key ≡ true → IsOk result × (self.new ≡ self.old) × (steps.new ≡ steps.old) }
+    {
+        if let Some(index) = self.current(rules, &key) {
+            return Ok(NodeId { index });
+        }
+        self.walk(rules, key, steps)
     }
 }
