@@ -110,14 +110,14 @@ module _ {K V : Type 0} where
     pub sound0 : IsSound q g0
     pub sound : IsSound q g
     pub added : List K
-    pub left : Left q g0 g added
+    pub left : Left q g0 g root added
     pub due : Each (IsRun q g0 root) added
     pub counted : steps ≡ steps0 + length added
     pub leads : Leads q g root k path
 
   pub walk_begins : (q : Queries K V) (g : Held K V) (root k : K) (steps : ℕ) → IsSound q g → k ≡ root → Walk q g root g k [] steps steps
   walk_begins q g root k steps sound e = record {
-      sound0 = sound; sound = sound; added = []; left = left_none q g; due = tt; counted = omega arith; leads = e;
+      sound0 = sound; sound = sound; added = []; left = left_none q g root; due = tt; counted = omega arith; leads = e;
     }
 
   module _ (q : Queries K V) (laws : AreLawful q) (g0 : Held K V) (root : K) (g : Held K V) (k : K) (path : List (Frame K)) (steps0 steps : ℕ) (w : Walk q g0 root g k path steps0 steps) where
@@ -141,7 +141,7 @@ module _ {K V : Type 0} where
     module _ (g' : Held K V) (i steps' : ℕ) (stale : is_verified q g k ≡ false) (sound' : IsSound q g') (f : Finishes q g g' k i) (count : steps' + length g.runs ≡ steps + length g'.runs) where
       -- what has been done once the key is finished
       pub record Now (added : List K) : Type 0 where
-        pub left : Left q g0 g' added
+        pub left : Left q g0 g' root added
         pub due : Each (IsRun q g0 root) added
         pub counted : steps' ≡ steps0 + length added
 
@@ -152,20 +152,20 @@ module _ {K V : Type 0} where
       now =
           elim f.how
             [ inl h ↦ (w.added, record {
-                left = left_touched q laws g0 g w.sound0 w.sound w.added w.left g' k i stale f h.0 h.1.0 h.1.1.0 h.1.1.1;
+                left = left_touched q laws g0 g w.sound0 w.sound root w.added w.left g' k i stale f h.0 h.1.0 h.1.1.0 h.1.1.1;
                 due = w.due;
                 counted = (let l = ap length h.0 in let c = w.counted in omega arith) })
             | inr h ↦ elim h
                 [ inl m ↦ (w.added ++ k ∷ [], record {
-                    left = left_ran q laws g0 g w.sound0 w.sound w.added w.left g' k i stale f m.0 m.1 m.3;
+                    left = left_ran q laws g0 g w.sound0 w.sound root w.added w.left g' k i stale f m.0 m.1 m.3;
                     due = Each-append (IsRun q g0 root) w.added (k ∷ []) w.due (record {
                         reached = reached_key;
-                        stale = stale_before q laws g0 g w.sound0 w.sound w.added w.left k stale;
-                        due = due_before q laws g0 g w.sound0 w.sound w.added w.left k stale (subst (λ x. q.is_input x ≡ false) f.key m.1) (subst (IsOutdated q g) f.key m.2);
+                        stale = stale_before q laws g0 g w.sound0 w.sound root w.added w.left k stale;
+                        due = due_before q laws g0 g w.sound0 w.sound root w.added w.left k stale (subst (λ x. q.is_input x ≡ false) f.key m.1) (subst (IsOutdated q g) f.key m.2);
                       }, tt);
                     counted = (let l = ap length m.0 ∙ length_push g.runs f.entry.key in let l' = length_push w.added k in let c = w.counted in omega arith) })
                 | inr m ↦ (w.added, record {
-                    left = left_unset q laws g0 g w.sound0 w.sound w.added w.left g' k i stale f m.0 m.1 m.2 m.3 m.4;
+                    left = left_unset q laws g0 g w.sound0 w.sound root w.added w.left g' k i stale f m.0 m.1 m.2 m.3 m.4 reached_key;
                     due = w.due;
                     counted = (let l = ap length m.0 in let c = w.counted in omega arith) }) ] ]
 
@@ -194,11 +194,11 @@ module _ {K V : Type 0} where
           let l = subst (Leads q g root k) e w.leads in
           to_do_done frame.key (subst (λ I. q.rank I frame.key ≤ q.rank I root) w.left.inputs_same (leads_rank q laws g root frame.key rest l.2))
 
-  pub leaves_from : (q : Queries K V) (g0 g : Held K V) (added : List K) → Left q g0 g added → Leaves q g0 g added
-  leaves_from q g0 g added l = record {
+  pub leaves_from : (q : Queries K V) (g0 g : Held K V) (root : K) (added : List K) → Left q g0 g root added → Leaves q g0 g root added
+  leaves_from q g0 g root added l = record {
       revision = l.revision;
       runs = l.runs;
-      inputs = l.inputs_same;
+      inputs_stay = l.inputs_same;
       rest = λ i r e n. elim (l.kept i r e) [ inl a ↦ a | inr b ↦ absurd (n b.0) ];
       run = λ i r e h. elim (l.kept i r e)
           [ inl a ↦ elim a [ inl x ↦ (r, (x, refl, inl (refl, refl))) | inr x ↦ (record r { verified_at = g0.revision }, (x, refl, inl (refl, refl))) ]
@@ -209,10 +209,10 @@ module _ {K V : Type 0} where
   pub ran_is : (g0 g : Held K V) (added : List K) → g.runs ≡ g0.runs ++ added → ran g0 g ≡ added
   ran_is g0 g added e = ap (drop (length g0.runs)) e ∙ drop_at g0.runs added (length g0.runs) refl
 
-  pub walked_from : (q : Queries K V) (g0 : Held K V) (root : K) (g : Held K V) (added : List K) → IsSound q g → Left q g0 g added → Each (IsRun q g0 root) added → Walked q g0 root g
+  pub walked_from : (q : Queries K V) (g0 : Held K V) (root : K) (g : Held K V) (added : List K) → IsSound q g → Left q g0 g root added → Each (IsRun q g0 root) added → Walked q g0 root g
   walked_from q g0 root g added sound left due =
       let e = ran_is g0 g added left.runs in
-      record { sound = sound; leaves = subst (Leaves q g0 g) (sym e) (leaves_from q g0 g added left); due = subst (Each (IsRun q g0 root)) (sym e) due }
+      record { sound = sound; leaves = subst (Leaves q g0 g root) (sym e) (leaves_from q g0 g root added left); due = subst (Each (IsRun q g0 root)) (sym e) due }
 
 module _ {K V : Type 0} (q : Queries K V) (laws : AreLawful q) (g0 : Held K V) (root : K) (g : Held K V) (k : K) (items : List (Frame K)) (steps0 steps : ℕ)
     (w : Walk q g0 root g k (reverse items) steps0 steps) where
@@ -257,7 +257,7 @@ module _ {K V : Type 0} (q : Queries K V) (laws : AreLawful q) (g0 : Held K V) (
         let root_is : k ≡ root = subst (λ l. Leads q g root k (reverse l)) e w.leads in
         let cur : is_current q g' s.0.entry ≡ true = same_current q laws g g' w.sound k i stale s.0 s.0.entry ∙ s.0.current in
         let key : s.0.entry.key ≡ root = s.0.key ∙ root_is in
-        (s.0.entry, (s.0.puts.here, key, cur,
+        (s.0.entry, (subst (λ x. node_of q g' x ≡ Some i) key (s.1.numbered i s.0.entry s.0.puts.here), s.0.puts.here, key, cur,
           current_value q g' laws s.1 i s.0.entry s.0.puts.here cur ∙ ap (λ I. q.val I s.0.entry.key) all_done.1.left.inputs_same ∙ ap (q.val (inputs q g0)) key))
 
   pub waits_counted : (g' : Held K V) (steps' : ℕ) (frame : Frame K) (on : K) → IsStep q g g' k steps steps' (Waits frame on)
@@ -272,4 +272,4 @@ pub holds_already : {K V : Type 0} (q : Queries K V) (laws : AreLawful q) (g : H
 holds_already q laws g sound k i n v =
     let st = sound.numbers k i n in
     let cur : is_current q g st.0 ≡ true = sym (verified_is q g k i st.0 n st.1) ∙ v in
-    (st.0, (st.1, st.2, cur, current_value q g laws sound i st.0 st.1 cur ∙ ap (q.val (inputs q g)) st.2))
+    (st.0, (n, st.1, st.2, cur, current_value q g laws sound i st.0 st.1 cur ∙ ap (q.val (inputs q g)) st.2))

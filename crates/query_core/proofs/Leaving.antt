@@ -23,16 +23,16 @@ module _ {K V : Type 0} where
   IsLeftOrRan now added r new = IsLeft now r new ⊎ (Has added r.key × ((s : Node K V) × ((new ≡ Some s) × (s.key ≡ r.key) × Moves now r s)))
 
   -- `Leaves`, with one fact for each record at entry
-  pub record Left (q : Queries K V) (old new : Held K V) (added : List K) : Type 0 where
+  pub record Left (q : Queries K V) (old new : Held K V) (root : K) (added : List K) : Type 0 where
     pub revision : new.revision ≡ old.revision
     pub runs : new.runs ≡ old.runs ++ added
     pub inputs_same : inputs q new ≡ inputs q old
     pub kept : (i : ℕ) (r : Node K V) → at old i ≡ Some r → IsLeftOrRan old.revision added r (at new i)
     pub fresh : (i : ℕ) (s : Node K V) → at old i ≡ None → at new i ≡ Some s
-        → (s.changed_at ≡ old.revision) × (Has added s.key ⊎ ((q.is_input s.key ≡ true) × (s.value ≡ q.unset s.key)))
+        → (s.changed_at ≡ old.revision) × (Has added s.key ⊎ ((q.is_input s.key ≡ true) × (s.value ≡ q.unset s.key) × IsReached (q.asks (inputs q old)) root s.key))
 
-  pub left_none : (q : Queries K V) (g : Held K V) → Left q g g []
-  left_none q g = record {
+  pub left_none : (q : Queries K V) (g : Held K V) (root : K) → Left q g g root []
+  left_none q g root = record {
       revision = refl;
       runs = sym (append-nil g.runs);
       inputs_same = refl;
@@ -52,7 +52,7 @@ module _ {K V : Type 0} where
             | inr e ↦ (record r { verified_at = now }, (e, (refl, (inl (refl, refl), inr (inl refl))))) ]
         | inr b ↦ (b.1.0, (b.1.1.0, (b.1.1.1, (b.1.1.2, inr (inr b.0))))) ]
 
-  module _ (q : Queries K V) (laws : AreLawful q) (g0 g : Held K V) (sound0 : IsSound q g0) (sound : IsSound q g) (added : List K) (left : Left q g0 g added) where
+  module _ (q : Queries K V) (laws : AreLawful q) (g0 g : Held K V) (sound0 : IsSound q g0) (sound : IsSound q g) (root : K) (added : List K) (left : Left q g0 g root added) where
     not_added : (k : K) → is_verified q g k ≡ false → ¬ Has added k
     not_added k stale h = not_ran q g sound k stale (subst (λ l. Has l k) (sym left.runs) (Has-right g0.runs added k h))
 
@@ -152,15 +152,15 @@ module _ {K V : Type 0} where
             | inr b ↦ inr (more r.key b.0, (b.1.0, (same ∙ b.1.1.0, b.1.1.1, b.1.1.2))) ]
 
       fresh_other : (added' : List K) → ((x : K) → Has added x → Has added' x) → (j : ℕ) (s : Node K V) → at g0 j ≡ None → at g' j ≡ Some s → j ≢ i
-          → (s.changed_at ≡ g0.revision) × (Has added' s.key ⊎ ((q.is_input s.key ≡ true) × (s.value ≡ q.unset s.key)))
+          → (s.changed_at ≡ g0.revision) × (Has added' s.key ⊎ ((q.is_input s.key ≡ true) × (s.value ≡ q.unset s.key) × IsReached (q.asks (inputs q g0)) root s.key))
       fresh_other added' more j s none e n =
           let h = left.fresh j s none (sym (f.puts.others j n) ∙ e) in
           (h.0, elim h.1 [ inl a ↦ inl (more s.key a) | inr b ↦ inr b ])
 
       left_by : (added' : List K) → g'.runs ≡ g0.runs ++ added' → ((x : K) → Has added x → Has added' x)
           → ((r : Node K V) → at g0 i ≡ Some r → IsLeftOrRan g0.revision added' r (Some f.entry))
-          → (at g0 i ≡ None → (f.entry.changed_at ≡ g0.revision) × (Has added' f.entry.key ⊎ ((q.is_input f.entry.key ≡ true) × (f.entry.value ≡ q.unset f.entry.key))))
-          → Left q g0 g' added'
+          → (at g0 i ≡ None → (f.entry.changed_at ≡ g0.revision) × (Has added' f.entry.key ⊎ ((q.is_input f.entry.key ≡ true) × (f.entry.value ≡ q.unset f.entry.key) × IsReached (q.asks (inputs q g0)) root f.entry.key)))
+          → Left q g0 g' root added'
       left_by added' runs more here new = record {
           revision = same_revision;
           runs = runs;
@@ -170,11 +170,11 @@ module _ {K V : Type 0} where
               | inr n ↦ kept_other added' more j r e n ];
           fresh = λ j s none e. elim (cases_eq j i)
               [ inl ji ↦ (let at_i : at g' i ≡ Some s = subst (λ n. at g' n ≡ Some s) ji e in let h = f.puts.here in let same : f.entry ≡ s = cc in
-                  subst (λ (x : Node K V). (x.changed_at ≡ g0.revision) × (Has added' x.key ⊎ ((q.is_input x.key ≡ true) × (x.value ≡ q.unset x.key)))) same (new (subst (λ n. at g0 n ≡ None) ji none)))
+                  subst (λ (x : Node K V). (x.changed_at ≡ g0.revision) × (Has added' x.key ⊎ ((q.is_input x.key ≡ true) × (x.value ≡ q.unset x.key) × IsReached (q.asks (inputs q g0)) root x.key))) same (new (subst (λ n. at g0 n ≡ None) ji none)))
               | inr n ↦ fresh_other added' more j s none e n ];
         }
 
-      pub left_touched : g'.runs ≡ g.runs → (s : Node K V) → at g i ≡ Some s → f.entry ≡ record s { verified_at = g.revision } → Left q g0 g' added
+      pub left_touched : g'.runs ≡ g.runs → (s : Node K V) → at g i ≡ Some s → f.entry ≡ record s { verified_at = g.revision } → Left q g0 g' root added
       left_touched runs s e is =
           let t : Node K V = record s { verified_at = g.revision } in
           left_by added (runs ∙ left.runs) (λ x h. h)
@@ -186,9 +186,9 @@ module _ {K V : Type 0} where
                       ap Some (ap (λ (y : Node K V). record y { verified_at = g.revision }) (sym same) ∙ ap (λ n. record r { verified_at = n }) left.revision)) ])
               | inr b ↦ inr (b.0, (t, (refl, (let x = b.1.1.0 in let same : b.1.0 ≡ s = cc in
                   (ap (λ (y : Node K V). y.key) (sym same) ∙ b.1.1.1)), (let x = b.1.1.0 in let same : b.1.0 ≡ s = cc in subst (λ (y : Node K V). Moves g0.revision r (record y { verified_at = g.revision })) same b.1.1.2)))) ]))
-          (λ none. subst (λ (x : Node K V). (x.changed_at ≡ g0.revision) × (Has added x.key ⊎ ((q.is_input x.key ≡ true) × (x.value ≡ q.unset x.key)))) (sym is) (left.fresh i s none e))
+          (λ none. subst (λ (x : Node K V). (x.changed_at ≡ g0.revision) × (Has added x.key ⊎ ((q.is_input x.key ≡ true) × (x.value ≡ q.unset x.key) × IsReached (q.asks (inputs q g0)) root x.key))) (sym is) (left.fresh i s none e))
 
-      pub left_ran : g'.runs ≡ g.runs ++ f.entry.key ∷ [] → q.is_input f.entry.key ≡ false → IsStamped g.revision (record_of q g f.entry.key) f.entry → Left q g0 g' (added ++ k ∷ [])
+      pub left_ran : g'.runs ≡ g.runs ++ f.entry.key ∷ [] → q.is_input f.entry.key ≡ false → IsStamped g.revision (record_of q g f.entry.key) f.entry → Left q g0 g' root (added ++ k ∷ [])
       left_ran runs isnt stamped =
           let isnt_k : q.is_input k ≡ false = subst (λ x. q.is_input x ≡ false) f.key isnt in
           let has : Has (added ++ k ∷ []) f.entry.key = subst (Has (added ++ k ∷ [])) (sym f.key) (Has-middle added [] k) in
@@ -224,8 +224,8 @@ module _ {K V : Type 0} where
                     | inr b ↦ (let yes = b.0 in let no = subst (λ x. q.is_input x ≡ false) (sym key_s) isnt_k in let bad : ⊥ = cc in absurd bad) ]) ] refl,
               inl has))
 
-      pub left_unset : g'.runs ≡ g.runs → q.is_input f.entry.key ≡ true → at g i ≡ None → f.entry.value ≡ q.unset f.entry.key → f.entry.changed_at ≡ g.revision → Left q g0 g' added
-      left_unset runs is free value changed =
+      pub left_unset : g'.runs ≡ g.runs → q.is_input f.entry.key ≡ true → at g i ≡ None → f.entry.value ≡ q.unset f.entry.key → f.entry.changed_at ≡ g.revision → IsReached (q.asks (inputs q g0)) root k → Left q g0 g' root added
+      left_unset runs is free value changed reached =
           left_by added (runs ∙ left.runs) (λ x h. h)
           (λ r e0. let b = became g0.revision added r (at g i) (left.kept i r e0) in let x = b.1.0 in let bad : ⊥ = cc in absurd bad)
-          (λ none. (changed ∙ left.revision, inr (is, value)))
+          (λ none. (changed ∙ left.revision, inr (is, value, subst (IsReached (q.asks (inputs q g0)) root) (sym f.key) reached)))

@@ -58,23 +58,24 @@ module _ {K V : Type 0} where
     pub stamped : IsStamped old.revision (record_of q old k) entry
     pub runs : new.runs ≡ old.runs
 
-  -- What a demand leaves: its keys run at their nodes, all other records stay, and the only other new records are inputs that aren't set.
-  pub record Leaves (q : Queries K V) (old new : Held K V) (added : List K) : Type 0 where
+  -- What a demand of the root leaves: its keys run at their nodes, all other records stay, and the only other new records are
+  -- those of inputs that it reaches and that aren't set.
+  pub record Leaves (q : Queries K V) (old new : Held K V) (root : K) (added : List K) : Type 0 where
     pub revision : new.revision ≡ old.revision
     pub runs : new.runs ≡ old.runs ++ added
-    pub inputs : inputs q new ≡ inputs q old
+    pub inputs_stay : inputs q new ≡ inputs q old
     pub rest : (i : ℕ) (r : Node K V) → at old i ≡ Some r → ¬ Has added r.key → IsLeft old.revision r (at new i)
     pub run : (i : ℕ) (r : Node K V) → at old i ≡ Some r → Has added r.key
         → (s : Node K V) × ((at new i ≡ Some s) × (s.key ≡ r.key) × Moves old.revision r s)
     pub fresh : (i : ℕ) (s : Node K V) → at old i ≡ None → at new i ≡ Some s
-        → (s.changed_at ≡ old.revision) × (Has added s.key ⊎ ((q.is_input s.key ≡ true) × (s.value ≡ q.unset s.key)))
+        → (s.changed_at ≡ old.revision) × (Has added s.key ⊎ ((q.is_input s.key ≡ true) × (s.value ≡ q.unset s.key) × IsReached (q.asks (inputs q old)) root s.key))
 
   -- the node holds the key's record: it was verified now, and has the value of the key
   abbrev pub IsHolding : Queries K V → Held K V → Held K V → K → ℕ → Type 0
-  IsHolding q old new k node = (r : Node K V) × ((at new node ≡ Some r) × (r.key ≡ k) × (is_current q new r ≡ true) × (r.value ≡ q.val (inputs q old) k))
+  IsHolding q old new k node = (r : Node K V) × ((node_of q new k ≡ Some node) × (at new node ≡ Some r) × (r.key ≡ k) × (is_current q new r ≡ true) × (r.value ≡ q.val (inputs q old) k))
 
   -- what a walk has done, to the graph
   pub record Walked (q : Queries K V) (g0 : Held K V) (root : K) (g : Held K V) : Type 0 where
     pub sound : IsSound q g
-    pub leaves : Leaves q g0 g (ran g0 g)
+    pub leaves : Leaves q g0 g root (ran g0 g)
     pub due : Each (IsRun q g0 root) (ran g0 g)

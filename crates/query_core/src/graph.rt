@@ -3,6 +3,7 @@
 ghost use Rattle.std.specs.Prelude.{◌≡◌, ℕ, ◌+◌, ◌<◌, ◌^◌, [], true, None, Some, OnOk, OnErr, IfSome, IsSome, IfOk, count_by, is_some, List, Option};
 ghost use Rattle.std.specs.Option.{option_map};
 ghost use Rattle.query_core.specs.Graph.{Held, at, node_of};
+ghost use Rattle.query_core.specs.Soundness.{IsSound};
 ghost use Rattle.query_core.specs.Changes.{IsFresh, SetsInput};
 ghost use Rattle.query_core.specs.declared.store.Node.{Node};
 
@@ -17,6 +18,16 @@ use crate::store::Store;
 #[derive(Clone, Copy)]
 pub struct NodeId {
     pub(crate) index: usize,
+}
+
+impl Model for NodeId {
+    ghost use Rattle.std.specs.Prelude.{ℕ};
+
+    ghost Value = { ℕ };
+
+    ghost view = { λ n. n.index };
+
+    ghost inverse = { λ n. record { index = n } };
 }
 
 /// The graph.
@@ -46,6 +57,7 @@ impl<R: Rules> Graph<R> {
         ensures numbers { result.numbers ≡ [] }
         ensures revision { result.revision ≡ 0 }
         ensures runs { result.runs ≡ [] }
+        ensures sound { IsSound R.queries result }
     {
         Graph {
             alloc,
@@ -62,6 +74,7 @@ impl<R: Rules> Graph<R> {
         requires fresh { IsFresh R.queries self.old }
         ensures ok { OnOk result (SetsInput R.queries self.old self.new key value) }
         ensures err { OnErr result (self.new ≡ self.old) }
+        ensures sound { IsSound R.queries self.new }
         ensures still_fresh { IsFresh R.queries self.new }
     {
         let now = self.revision;
@@ -81,6 +94,7 @@ impl<R: Rules> Graph<R> {
         requires fresh { IsFresh R.queries self.old }
         ensures ok { OnOk result (SetsInput R.queries self.old self.new key.now (R.queries.unset key.now)) }
         ensures err { OnErr result (self.new ≡ self.old) }
+        ensures sound { IsSound R.queries self.new }
         ensures still_fresh { IsFresh R.queries self.new }
     {
         let value = rules.unset(self.alloc, key)?;
@@ -92,6 +106,7 @@ impl<R: Rules> Graph<R> {
     pub fn next_revision(&mut self)
         requires { self.old.revision < 2 ^ 63 }
         ensures kept { self.new ≡ record self.old { revision = self.old.revision + 1; runs = [] } }
+        ensures sound { IsSound R.queries self.new }
         ensures fresh { IsFresh R.queries self.new }
     {
         self.revision += 1;
@@ -100,8 +115,8 @@ impl<R: Rules> Graph<R> {
 
     /// The value at a node.
     pub fn value(&self, id: NodeId) -> &R::Value
-        requires { IsSome (at self.now id.index) }
-        ensures { Some result.now ≡ option_map (λ r. r.value) (at self.now id.index) }
+        requires { IsSome (at self.now id) }
+        ensures { Some result.now ≡ option_map (λ r. r.value) (at self.now id) }
     {
         match self.store.node(id.index) {
             Some(node) => &node.value,
@@ -111,7 +126,7 @@ impl<R: Rules> Graph<R> {
 
     /// The node of a key.
     pub fn lookup(&self, key: &R::Key) -> Option<NodeId>
-        ensures { option_map (λ id. id.index) result ≡ node_of R.queries self.now key.now }
+        ensures { result ≡ node_of R.queries self.now key.now }
     {
         let index = self.store.node_of(key)?;
         Some(NodeId { index })

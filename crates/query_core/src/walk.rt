@@ -6,7 +6,7 @@ ghost use Rattle.query_core.specs.Graph.{Held, at, node_of, record_of, inputs, i
 ghost use Rattle.query_core.specs.Soundness.{IsSound, kept};
 ghost use Rattle.query_core.specs.Queries.{ticks};
 ghost use Rattle.query_core.specs.Walk.{IsFrame, IsStage, IsChecking, IsRunning, IsHalt, IsGivenUp, halted, IsLook, IsLookAt, IsSettledTo, IsCollected, IsEntry, IsStep, Finishes, IsOutdated, AreAsked, AreAnswered};
-ghost use Rattle.query_core.specs.Lists.{Each};
+ghost use Rattle.query_core.specs.Lists.{Each, IsOnce};
 ghost use Rattle.query_core.specs.Changes.{IsHolding, IsRun, Leaves, Walked, ran};
 ghost use Rattle.query_core.specs.declared.store.Node.{Node};
 
@@ -336,7 +336,7 @@ impl<R: Rules> Graph<R> {
     fn walk<L: Ledger>(&mut self, rules: &R, key: R::Key, steps: &mut Steps<L>) -> Result<NodeId, AllocError>
         requires { is_verified R.queries self.old key ≡ false }
         ensures walked { Walked R.queries self.old key self.new }
-        ensures ok { IfOk result (λ id. IsHolding R.queries self.old self.new key id.index × (steps.new ≡ steps.old + length (ran self.old self.new))) }
+        ensures ok { IfOk result (λ id. IsHolding R.queries self.old self.new key id × (steps.new ≡ steps.old + length (ran self.old self.new))) }
         ensures err { OnErr result ((steps.old + length (ran self.old self.new) ≤ steps.new) × (steps.new ≤ steps.old + length (ran self.old self.new) + 1)) }
     {
         let mut path: Vec<Frame<R::Key>> = Vec::new(self.alloc);
@@ -360,9 +360,10 @@ impl<R: Rules> Graph<R> {
     /// The node of a key, whose record is verified now and holds the key's value.
     pub fn demand<L: Ledger>(&mut self, rules: &R, key: R::Key, steps: &mut Steps<L>) -> Result<NodeId, AllocError>
         ensures sound { IsSound R.queries self.new }
-        ensures holds { IfOk result (λ id. IsHolding R.queries self.old self.new key id.index) }
-        ensures leaves { Leaves R.queries self.old self.new (ran self.old self.new) }
+        ensures holds { IfOk result (λ id. IsHolding R.queries self.old self.new key id) }
+        ensures leaves { Leaves R.queries self.old self.new key (ran self.old self.new) }
         ensures due { Each (IsRun R.queries self.old key) (ran self.old self.new) }
+        ensures once { IsOnce self.new.runs }
         ensures counted { OnOk result (steps.new ≡ steps.old + length (ran self.old self.new)) }
         ensures given_up { OnErr result ((steps.old + length (ran self.old self.new) ≤ steps.new) × (steps.new ≤ steps.old + length (ran self.old self.new) + 1)) }
         ensures again { is_verified R.queries self.old key ≡ true → IsOk result × (self.new ≡ self.old) × (steps.new ≡ steps.old) }
