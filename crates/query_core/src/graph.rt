@@ -31,6 +31,7 @@ impl Model for NodeId {
 }
 
 /// The graph.
+#[derive(Drop)]
 pub struct Graph<R: Rules> {
     pub(crate) alloc: Global,
     pub(crate) store: Store<R::Key, R::Value>,
@@ -58,6 +59,7 @@ impl<R: Rules> Graph<R> {
         ensures revision { result.revision ≡ 0 }
         ensures runs { result.runs ≡ [] }
         ensures sound { IsSound R.queries result }
+        ensures fresh { IsFresh R.queries result }
     {
         Graph {
             alloc,
