@@ -1,4 +1,6 @@
-// The graph.
+// The query graph: inputs, revisions, and look-ups. The walk of a demand stands in a module of its own.
+
+mod walk;
 
 ghost use Rattle.std.specs.Prelude.{◌≡◌, ℕ, ◌+◌, ◌<◌, ◌^◌, [], true, None, Some, OnOk, OnErr, IfSome, IsSome, IfOk, count_by, is_some, List, Option};
 ghost use Rattle.std.specs.Option.{option_map};
@@ -14,10 +16,10 @@ use crate::keys::{Reads, TryCopy};
 use crate::rules::Rules;
 use crate::store::Store;
 
-/// A node of a graph.
+/// Names the record of a key in the graph that gave it, for as long as that graph keeps the record.
 #[derive(Clone, Copy)]
 pub struct NodeId {
-    pub(crate) index: usize,
+    index: usize,
 }
 
 impl Model for NodeId {
@@ -30,13 +32,16 @@ impl Model for NodeId {
     ghost inverse = { λ n. record { index = n } };
 }
 
-/// The graph.
+/// A query graph for the rules `R`: a record for each key that was set or worked out.
+///
+/// A revision has two parts: inputs are set by `set_input` and `drop_input`, then keys are worked out by `demand`. `next_revision` begins the
+/// next one. After an edit only the keys are worked out again that read something which has changed.
 #[derive(Drop)]
 pub struct Graph<R: Rules> {
-    pub(crate) alloc: Global,
-    pub(crate) store: Store<R::Key, R::Value>,
-    pub(crate) revision: u64,
-    pub(crate) runs: Vec<R::Key>,
+    alloc: Global,
+    store: Store<R::Key, R::Value>,
+    revision: u64,
+    runs: Vec<R::Key>,
     rules: PhantomData<R>,
 }
 
@@ -70,7 +75,10 @@ impl<R: Rules> Graph<R> {
         }
     }
 
-    /// Sets an input. Nothing but inputs was verified in this revision.
+    /// Sets an input; no key may have been demanded in this revision.
+    ///
+    /// Its stamp of change moves to this revision exactly where the value differs from the kept one, or where it had no record. After want of
+    /// memory the graph is as before.
     pub fn set_input(&mut self, key: R::Key, value: R::Value) -> Result<(), AllocError>
         requires input { R.queries.is_input key ≡ true }
         requires fresh { IsFresh R.queries self.old }
@@ -90,7 +98,7 @@ impl<R: Rules> Graph<R> {
         Ok(())
     }
 
-    /// Takes an input's value away: it has the value of inputs that aren't set.
+    /// Takes an input's value away, as `set_input` with the value of inputs that aren't set. After want of memory the graph is as before.
     pub fn drop_input(&mut self, rules: &R, key: &R::Key) -> Result<(), AllocError>
         requires input { R.queries.is_input key.now ≡ true }
         requires fresh { IsFresh R.queries self.old }
@@ -104,7 +112,7 @@ impl<R: Rules> Graph<R> {
         self.set_input(copy, value)
     }
 
-    /// Begins the next revision: inputs may be set, then keys demanded.
+    /// Begins the next revision: inputs may be set, then keys demanded. It takes no memory; each record stays as it is, and `runs` is empty.
     pub fn next_revision(&mut self)
         requires { self.old.revision < 2 ^ 63 }
         ensures kept { self.new ≡ record self.old { revision = self.old.revision + 1; runs = [] } }
@@ -115,7 +123,7 @@ impl<R: Rules> Graph<R> {
         self.runs.clear();
     }
 
-    /// The value at a node.
+    /// The value at a node, as it was worked out or set last.
     pub fn value(&self, id: NodeId) -> &R::Value
         requires { IsSome (at self.now id) }
         ensures { Some result.now ≡ option_map (λ r. r.value) (at self.now id) }
@@ -126,7 +134,7 @@ impl<R: Rules> Graph<R> {
         }
     }
 
-    /// The node of a key.
+    /// The node of a key, or `None` exactly where the key has no record.
     pub fn lookup(&self, key: &R::Key) -> Option<NodeId>
         ensures { result ≡ node_of R.queries self.now key.now }
     {

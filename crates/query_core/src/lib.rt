@@ -6,7 +6,6 @@ mod graph;
 mod keys;
 mod rules;
 mod store;
-mod walk;
 
 pub use graph::{Graph, NodeId};
 pub use keys::{Keys, Reads, TryCopy};

@@ -1,4 +1,4 @@
-// What a graph computes: the rules, and the answers that a run has so far.
+// The rules of a graph, and the answers that a run has so far.
 
 ghost use Rattle.std.specs.Prelude.{◌≡◌, ℕ, ◌+◌, List, IfOk, Option, Ok, Err, MatchResult, true};
 ghost use Rattle.std.specs.Map.{lookup};
@@ -66,11 +66,13 @@ impl<'a, K: Eq + Hash + TryCopy + Drop, V: Drop> Answers<'a, K, V> {
     }
 }
 
-/// The rules.
+/// What a graph computes: which keys are inputs, and how the value of each other key follows from the values of keys that its run asks for.
+///
+/// The meaning is `queries`. It belongs to the type, and not to the value of it that is handed in.
 pub trait Rules {
-    /// What is asked for.
+    /// A question.
     type Key: Eq + Hash + TryCopy + Drop;
-    /// What is answered.
+    /// Its answer.
     type Value: Eq + Drop;
 
     ghost queries: { Queries Self.Key Self.Value };
@@ -83,7 +85,7 @@ pub trait Rules {
     fn unset(&self, alloc: Global, key: &Self::Key) -> Result<Self::Value, AllocError>
         ensures { IfOk result (λ value. value ≡ queries.unset key.now) };
 
-    /// What a run of this key does next.
+    /// What a run of this key does next, after these answers. It counts one step where it is done, and none otherwise.
     fn next<L: Ledger>(
         &self,
         alloc: Global,

@@ -13,8 +13,8 @@ ghost use Rattle.query_core.specs.declared.store.Node.{Node};
 use std::alloc::AllocError;
 use std::sync::ledger::Ledger;
 
+use super::{Graph, NodeId};
 use crate::frame::{Checked, Frame, Halt, Look, Moved, Stage};
-use crate::graph::{Graph, NodeId};
 use crate::keys::{Answered, Keys, Reads, TryCopy};
 use crate::rules::{Answers, Rules, Step};
 use crate::store::Node;
@@ -357,7 +357,11 @@ impl<R: Rules> Graph<R> {
         }
     }
 
-    /// The node of a key, whose record is verified now and holds the key's value.
+    /// The node of a key, whose record is verified now and holds the key's value over the inputs.
+    ///
+    /// What is due on the way runs; each run is one step of the counter and one key of `runs`. A key that was verified in this revision is answered without
+    /// memory. After want of memory the graph is sound, and each record whose key didn't run stands as before or counts as verified now;
+    /// the counter has then risen by the number of runs, or by one more where a value was worked out and couldn't be kept.
     pub fn demand<L: Ledger>(&mut self, rules: &R, key: R::Key, steps: &mut Steps<L>) -> Result<NodeId, AllocError>
         ensures sound { IsSound R.queries self.new }
         ensures holds { IfOk result (λ id. IsHolding R.queries self.old self.new key id) }
