@@ -1,17 +1,17 @@
 -- What the calls of the store say of a graph, and the calls that set inputs.
-use Rattle.std.proofs.Common.{◌≡◌, ◌≢◌, ℕ, ◌+◌, ◌<◌, ◌≤◌, Bool, true, false, ◌||◌, ◌==◌, cond, if◌then◌else◌, List, [], ◌∷◌, ◌++◌, length, refl, ap, sym, ◌∙◌, subst, inl, inr, ◌⊎◌, Option, Some, None, IsSome, append_assoc, append-nil, arith, rules}
+use Rattle.std.proofs.Common.{◌≡◌, ℕ, ◌<◌, ◌≤◌, Bool, true, false, cond, List, [], ◌∷◌, refl, ap, sym, ◌∙◌, subst, inl, inr, ◌⊎◌, Option, Some, None, IsSome, arith}
 use Rattle.std.proofs.lemmas.Bool.{cases_eq}
 use Rattle.std.specs.Map.{lookup}
-use Rattle.std.specs.Option.{option_map, option_map_or}
-use Rattle.query_core.specs.Lists.{Has, Each, IsOnce}
+use Rattle.std.specs.Option.{option_map_or}
+use Rattle.query_core.specs.Lists.{Has}
 use Rattle.query_core.specs.Queries.{Queries, AreLawful}
-use Rattle.query_core.specs.Graph.{Held, at, node_of, record_of, inputs, is_current}
+use Rattle.query_core.specs.Graph.{Held, at, node_of, record_of}
 use Rattle.query_core.specs.Stored.{Stored, Changes, Adds, node_at}
 use Rattle.query_core.specs.Answering.{IsNumbered}
 use Rattle.query_core.specs.Soundness.{IsSound}
 use Rattle.query_core.specs.Changes.{Puts, SetsInput, IsFresh, IsStamped, Moves}
 use Rattle.query_core.specs.declared.store.Node.{Node}
-use Rattle.query_core.proofs.Puts.{Keeps, RunsOn, sound_puts, same_key}
+use Rattle.query_core.proofs.Puts.{Keeps, sound_puts}
 
 pub is_some_from : {X : Type 0} (o : Option X) (x : X) → o ≡ Some x → IsSome o
 is_some_from o x e = rw e refl
@@ -34,20 +34,21 @@ module _ {K V : Type 0} where
   pub no_number : (q : Queries K V) (eq : K → K → Bool) (same : (a b : K) → eq a b ≡ q.same a b) (s : Stored K V) (n : ℕ) (rs : List K) → IsSound q (held s n rs)
       → (k : K) → record_of q (held s n rs) k ≡ None → lookup (eq k) s.numbers ≡ None
   no_number q eq same s n rs sound k e =
-      elim (lookup (eq k) s.numbers) as (λ o. lookup (eq k) s.numbers ≡ o → o ≡ None)
-        [ None ↦ (λ _. refl)
+      elim (lookup (eq k) s.numbers) as (λ o. lookup (eq k) s.numbers ≡ o → o ≡ None) [
+        | None ↦ (λ _. refl)
         | Some i ↦ (λ f. let st = stored_node q eq same s n rs sound k i f in
             let was : record_of q (held s n rs) k ≡ Some st.0 = ap (λ o. option_map_or (at (held s n rs)) o None) (sym (lookup_same eq q.same same k s.numbers) ∙ f) ∙ st.1 in
-            let bad : ⊥ = cc in absurd bad) ] refl
+            let bad : ⊥ = cc in absurd bad)
+      ] refl
 
   -- the store gives each key the number of its node
   pub numbered_of : (q : Queries K V) (laws : AreLawful q) (eq : K → K → Bool) (same : (a b : K) → eq a b ≡ q.same a b) (s : Stored K V) (n : ℕ) (rs : List K) → IsSound q (held s n rs) → IsNumbered eq s
   numbered_of q laws eq same s n rs sound = record {
-      stands = λ k i e. let st = stored_node q eq same s n rs sound k i e in
-          (st.0, (st.1, same k st.0.key ∙ subst (λ x. q.same k x ≡ true) (sym st.2) (laws.same_self k)));
-      only = λ k i r e is. let key : k ≡ r.key = laws.same k r.key (sym (same k r.key) ∙ is) in
-          lookup_same eq q.same same k s.numbers ∙ subst (λ x. node_of q (held s n rs) x ≡ Some i) (sym key) (sound.numbered i r e);
-    }
+    stands = λ k i e. let st = stored_node q eq same s n rs sound k i e in
+        (st.0, (st.1, same k st.0.key ∙ subst (λ x. q.same k x ≡ true) (sym st.2) (laws.same_self k)));
+    only = λ k i r e is. let key : k ≡ r.key = laws.same k r.key (sym (same k r.key) ∙ is) in
+        lookup_same eq q.same same k s.numbers ∙ subst (λ x. node_of q (held s n rs) x ≡ Some i) (sym key) (sound.numbered i r e);
+  }
 
   pub puts_changes : (q : Queries K V) (laws : AreLawful q) (s s' : Stored K V) (n : ℕ) (rs rs' : List K) (sound : IsSound q (held s n rs)) (i : ℕ) (r r' : Node K V)
       → node_at s i ≡ Some r → r'.key ≡ r.key → Changes s s' i r' → Puts q (held s n rs) (held s' n rs') i r'
@@ -57,9 +58,10 @@ module _ {K V : Type 0} where
         here = ch.here;
         others = ch.others;
         numbers = λ k.
-            elim (q.same r'.key k) as (λ b. q.same r'.key k ≡ b → node_of q (held s' n rs') k ≡ cond b (Some i) (node_of q (held s n rs) k))
-              [ true ↦ (λ is. ap (lookup (q.same k)) ch.numbers ∙ subst (λ x. node_of q (held s n rs) x ≡ Some i) (laws.same r'.key k is) own)
-              | false ↦ (λ is. ap (lookup (q.same k)) ch.numbers) ] refl;
+            elim (q.same r'.key k) as (λ b. q.same r'.key k ≡ b → node_of q (held s' n rs') k ≡ cond b (Some i) (node_of q (held s n rs) k)) [
+              | true ↦ (λ is. ap (lookup (q.same k)) ch.numbers ∙ subst (λ x. node_of q (held s n rs) x ≡ Some i) (laws.same r'.key k is) own)
+              | false ↦ (λ is. ap (lookup (q.same k)) ch.numbers)
+            ] refl;
         place = inl own;
         revision = refl;
       }
@@ -67,47 +69,53 @@ module _ {K V : Type 0} where
   pub puts_adds : (q : Queries K V) (eq : K → K → Bool) (same : (a b : K) → eq a b ≡ q.same a b) (s s' : Stored K V) (n : ℕ) (rs rs' : List K) (i : ℕ) (r : Node K V)
       → lookup (eq r.key) s.numbers ≡ None → Adds eq s s' i r → Puts q (held s n rs) (held s' n rs') i r
   puts_adds q eq same s s' n rs rs' i r e ad = record {
-      here = ad.here;
-      others = ad.others;
-      numbers = λ k. sym (lookup_same eq q.same same k s'.numbers) ∙ ad.numbers k ∙ ap (λ b. cond b (Some i) (lookup (eq k) s.numbers)) (same r.key k)
-          ∙ ap (λ l. cond (q.same r.key k) (Some i) l) (lookup_same eq q.same same k s.numbers);
-      place = inr (ad.free, sym (lookup_same eq q.same same r.key s.numbers) ∙ e);
-      revision = refl;
-    }
+    here = ad.here;
+    others = ad.others;
+    numbers = λ k. sym (lookup_same eq q.same same k s'.numbers) ∙ ad.numbers k ∙ ap (λ b. cond b (Some i) (lookup (eq k) s.numbers)) (same r.key k)
+        ∙ ap (λ l. cond (q.same r.key k) (Some i) l) (lookup_same eq q.same same k s.numbers);
+    place = inr (ad.free, sym (lookup_same eq q.same same r.key s.numbers) ∙ e);
+    revision = refl;
+  }
 
   -- the stamp that a comparison of the values gives
   pub moves_if : (eq : V → V → Bool) → ((a b : V) → eq a b ≡ true → a ≡ b) → ((a : V) → eq a a ≡ true) → (now : ℕ) (r s : Node K V)
       → s.changed_at ≡ cond (eq r.value s.value) r.changed_at now → Moves now r s
   moves_if eq means itself now r s e =
-      elim (eq r.value s.value) as (λ b. eq r.value s.value ≡ b → Moves now r s)
-        [ true ↦ (λ is. inl (sym (means r.value s.value is), e ∙ ap (λ b. cond b r.changed_at now) is))
-        | false ↦ (λ is. inr ((λ same. let yes : eq r.value s.value ≡ true = subst (λ x. eq r.value x ≡ true) (sym same) (itself r.value) in let bad : ⊥ = cc in bad),
-            e ∙ ap (λ b. cond b r.changed_at now) is)) ] refl
+      elim (eq r.value s.value) as (λ b. eq r.value s.value ≡ b → Moves now r s) [
+        | true ↦ (λ is. inl (sym (means r.value s.value is), e ∙ ap (λ b. cond b r.changed_at now) is))
+        | false ↦ (λ is. inr (
+          (λ same. let yes : eq r.value s.value ≡ true = subst (λ x. eq r.value x ≡ true) (sym same) (itself r.value) in let bad : ⊥ = cc in bad),
+          e ∙ ap (λ b. cond b r.changed_at now) is,
+        ))
+      ] refl
 
   module _ (q : Queries K V) (laws : AreLawful q) (old : Held K V) (sound : IsSound q old) (fresh : IsFresh q old) where
     pub input_keeps : (i : ℕ) (r : Node K V) → q.is_input r.key ≡ true → r.reads ≡ [] → (r.verified_at ≤ old.revision) × (r.changed_at ≤ old.revision)
         → ((s : Node K V) → at old i ≡ Some s → ((r.value ≡ s.value) × (r.changed_at ≡ s.changed_at)) ⊎ (r.changed_at ≡ old.revision)) → Keeps q old i r
     input_keeps i r is none stamps still = record {
-        current = rw is refl;
-        reads = λ j h. absurd (let bad : ⊥ = subst (λ l. Has l j) none h in bad);
-        inputs = λ _. none;
-        replays = λ isnt first left e. absurd (let bad : ⊥ = cc in bad);
-        stamps = stamps;
-        still = λ j s e at_i at_j has.
-            elim (still s at_i)
-              [ inl p ↦ inl p
-              | inr p ↦ inr (
-                  elim (q.is_input e.key) as (λ b. q.is_input e.key ≡ b → e.verified_at < r.changed_at)
-                    [ true ↦ (λ yes. absurd (let bad : ⊥ = subst (λ l. Has l i) (sound.inputs j e at_j yes) has in bad))
-                    | false ↦ (λ isnt. let lt = fresh j e at_j isnt in omega arith) ] refl) ];
-      }
+      current = rw is refl;
+      reads = λ j h. absurd (let bad : ⊥ = subst (λ l. Has l j) none h in bad);
+      inputs = λ _. none;
+      replays = λ isnt first left e. absurd (let bad : ⊥ = cc in bad);
+      stamps = stamps;
+      still = λ j s e at_i at_j has.
+          elim (still s at_i) [
+            | inl p ↦ inl p
+            | inr p ↦ inr (
+                elim (q.is_input e.key) as (λ b. q.is_input e.key ≡ b → e.verified_at < r.changed_at) [
+                  | true ↦ (λ yes. absurd (let bad : ⊥ = subst (λ l. Has l i) (sound.inputs j e at_j yes) has in bad))
+                  | false ↦ (λ isnt. let lt = fresh j e at_j isnt in omega arith)
+                ] refl)
+          ];
+    }
 
     pub fresh_puts : (new : Held K V) (i : ℕ) (r : Node K V) → Puts q old new i r → q.is_input r.key ≡ true → IsFresh q new
     fresh_puts new i r puts is j d e isnt =
-        elim (cases_eq j i)
-          [ inl ji ↦ absurd (let h : at new i ≡ Some d = subst (λ n. at new n ≡ Some d) ji e in let p = puts.here in
+        elim (cases_eq j i) [
+          | inl ji ↦ absurd (let h : at new i ≡ Some d = subst (λ n. at new n ≡ Some d) ji e in let p = puts.here in
               let same : r ≡ d = cc in let yes : q.is_input d.key ≡ true = subst (λ (x : Node K V). q.is_input x.key ≡ true) same is in let bad : ⊥ = cc in bad)
-          | inr n ↦ subst (λ m. d.verified_at < m) (sym puts.revision) (fresh j d (sym (puts.others j n) ∙ e) isnt) ]
+          | inr n ↦ subst (λ m. d.verified_at < m) (sym puts.revision) (fresh j d (sym (puts.others j n) ∙ e) isnt)
+        ]
 
   -- what setting an input has to show
   pub record SetDone (q : Queries K V) (old new : Held K V) (k : K) (v : V) : Type 0 where
@@ -141,8 +149,8 @@ module _ {K V : Type 0} where
         let small : cond (veq st.0.value v) st.0.changed_at n ≤ n = elim moves [ inl p ↦ (let le = (sound.stamps i st.0 st.1).1 in let e = p.1 in omega arith) | inr p ↦ (let e = p.1 in omega arith) ] in
         set_done i new puts st.2 refl none (omega arith) small (subst (λ o. IsStamped n o new) (sym was) moves)
         (λ e at_e. let same_e : st.0 ≡ e = (let h = st.1 in cc) in
-          subst (λ (x : Node K V). ((new.value ≡ x.value) × (new.changed_at ≡ x.changed_at)) ⊎ (new.changed_at ≡ n)) same_e
-          (elim moves [ inl p ↦ inl p | inr p ↦ inr p.1 ]))
+        subst (λ (x : Node K V). ((new.value ≡ x.value) × (new.changed_at ≡ x.changed_at)) ⊎ (new.changed_at ≡ n)) same_e
+        (elim moves [ inl p ↦ inl p | inr p ↦ inr p.1 ]))
 
     pub set_added : lookup (eq k) s.numbers ≡ None → (i : ℕ) (reads : List ℕ) → reads ≡ [] → Adds eq s s' i (record { key = k; value = v; reads = reads; verified_at = n; changed_at = n })
         → SetDone q (held s n rs) (held s' n rs) k v

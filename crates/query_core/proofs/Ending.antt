@@ -1,22 +1,21 @@
 -- The walk ends, and what it has done then.
-use Rattle.std.proofs.Common.{◌≡◌, ◌≢◌, ℕ, zero, suc, ◌+◌, ◌-◌, ◌*◌, ◌<◌, ◌≤◌, Bool, true, false, cond, List, [], ◌∷◌, ◌++◌, length, take, drop, reverse, refl, ap, sym, ◌∙◌, subst, inl, inr, ◌⊎◌, Option, Some, None, append_assoc, append-nil, arith, rules, Result, Ok, Err, OnErr}
+use Rattle.std.proofs.Common.{◌≡◌, ◌≢◌, ℕ, zero, suc, ◌+◌, ◌-◌, ◌*◌, ◌<◌, ◌≤◌, Bool, true, false, cond, List, [], ◌∷◌, ◌++◌, length, drop, reverse, refl, ap, sym, ◌∙◌, subst, inl, inr, ◌⊎◌, Some, arith, Result, Ok, Err, OnErr}
 use Rattle.std.specs.List.{flat_map}
 use Rattle.std.proofs.lemmas.List.{reverse-append, drop_at, length_push}
-use Rattle.query_core.specs.Lists.{Has, Each, IsOnce}
+use Rattle.query_core.specs.Lists.{Has, Each}
 use Rattle.query_core.specs.Queries.{Queries, AreLawful}
-use Rattle.query_core.specs.Graph.{Held, at, node_of, record_of, inputs, is_current, is_verified}
+use Rattle.query_core.specs.Graph.{Held, node_of, inputs, is_current, is_verified}
 use Rattle.query_core.specs.Soundness.{IsSound}
-use Rattle.query_core.specs.Changes.{Moves, IsLeft, Leaves, IsRun, IsReached, IsHolding, Walked, ran}
+use Rattle.query_core.specs.Changes.{Leaves, IsRun, IsReached, IsHolding, Walked, ran}
 use Rattle.query_core.specs.Changes.IsReached.{itself, along}
-use Rattle.query_core.specs.Walk.{IsFrame, Leads, IsOutdated, Finishes, HowFinished, IsStep, IsGivenUp}
+use Rattle.query_core.specs.Walk.{IsFrame, Leads, IsOutdated, Finishes, IsStep}
 use Rattle.query_core.specs.declared.frame.Frame.{Frame}
 use Rattle.query_core.specs.declared.frame.Moved.TheVariants.{Waits, Done}
-use Rattle.query_core.specs.declared.store.Node.{Node}
 use Rattle.query_core.proofs.Words.{Has-left, Has-right, Each-append}
 use Rattle.query_core.proofs.Values.{current_value}
 use Rattle.query_core.proofs.Reading.{verified_is}
-use Rattle.query_core.proofs.Walking.{verified_here, verified_stays, inputs_stay, leads_rank, leads_reached, leads_stay, same_current, frame_stays}
-use Rattle.query_core.proofs.Leaving.{Left, IsLeftOrRan, left_none, due_before, stale_before, left_touched, left_ran, left_unset}
+use Rattle.query_core.proofs.Walking.{verified_here, verified_stays, leads_rank, leads_reached, leads_stay, same_current, frame_stays}
+use Rattle.query_core.proofs.Leaving.{Left, left_none, due_before, stale_before, left_touched, left_ran, left_unset}
 
 Has-flat : {X Y : Type 0} (f : X → List Y) (xs : List X) (x : X) (y : Y) → Has xs x → Has (f x) y → Has (flat_map f xs) y
 Has-flat f [] x y h m = absurd h
@@ -31,9 +30,10 @@ Has-append_cases (y ∷ xs) ys x (inr h) = elim (Has-append_cases xs ys x h) [ i
 Has-flat_inv : {X Y : Type 0} (f : X → List Y) (xs : List X) (y : Y) → Has (flat_map f xs) y → (x : X) × (Has xs x × Has (f x) y)
 Has-flat_inv f [] y h = absurd h
 Has-flat_inv f (z ∷ xs) y h =
-    elim (Has-append_cases (f z) (flat_map f xs) y h)
-      [ inl a ↦ (z, (inl refl, a))
-      | inr b ↦ (let r = Has-flat_inv f xs y b in (r.0, (inr r.1.0, r.1.1))) ]
+    elim (Has-append_cases (f z) (flat_map f xs) y h) [
+      | inl a ↦ (z, (inl refl, a))
+      | inr b ↦ (let r = Has-flat_inv f xs y b in (r.0, (inr r.1.0, r.1.1)))
+    ]
 
 -- the keys that a key reaches, as often as they are reached
 pub reach : {K : Type 0} → (K → List K) → ℕ → K → List K
@@ -117,8 +117,14 @@ module _ {K V : Type 0} where
 
   pub walk_begins : (q : Queries K V) (g : Held K V) (root k : K) (steps : ℕ) → IsSound q g → k ≡ root → Walk q g root g k [] steps steps
   walk_begins q g root k steps sound e = record {
-      sound0 = sound; sound = sound; added = []; left = left_none q g root; due = tt; counted = omega arith; leads = e;
-    }
+    sound0 = sound;
+    sound = sound;
+    added = [];
+    left = left_none q g root;
+    due = tt;
+    counted = omega arith;
+    leads = e;
+  }
 
   module _ (q : Queries K V) (laws : AreLawful q) (g0 : Held K V) (root : K) (g : Held K V) (k : K) (path : List (Frame K)) (steps0 steps : ℕ) (w : Walk q g0 root g k path steps0 steps) where
     -- a key waits for another one
@@ -126,9 +132,14 @@ module _ {K V : Type 0} where
         → Walk q g0 root g' on (frame ∷ path) steps0 steps'
     walk_waits g' steps' frame on eg es key is_frame has =
         let base : Walk q g0 root g on (frame ∷ path) steps0 steps' = record {
-            sound0 = w.sound0; sound = w.sound; added = w.added; left = w.left; due = w.due; counted = es ∙ w.counted;
-            leads = (subst (λ x. Has (q.asks (inputs q g) x) on) (sym key) has, is_frame, subst (λ x. Leads q g root x path) (sym key) w.leads);
-          } in
+          sound0 = w.sound0;
+          sound = w.sound;
+          added = w.added;
+          left = w.left;
+          due = w.due;
+          counted = es ∙ w.counted;
+          leads = (subst (λ x. Has (q.asks (inputs q g) x) on) (sym key) has, is_frame, subst (λ x. Leads q g root x path) (sym key) w.leads);
+        } in
         subst (λ h. Walk q g0 root h on (frame ∷ path) steps0 steps') (sym eg) base
 
     pub to_do_waits : (g' : Held K V) (on : K) → g' ≡ g → Has (q.asks (inputs q g) k) on → to_do q g0 root g' on < to_do q g0 root g k
@@ -150,24 +161,41 @@ module _ {K V : Type 0} where
 
       pub now : (added : List K) × Now added
       now =
-          elim f.how
-            [ inl h ↦ (w.added, record {
+          elim f.how [
+            | inl h ↦ (
+              w.added,
+              record {
                 left = left_touched q laws g0 g w.sound0 w.sound root w.added w.left g' k i stale f h.0 h.1.0 h.1.1.0 h.1.1.1;
                 due = w.due;
-                counted = (let l = ap length h.0 in let c = w.counted in omega arith) })
-            | inr h ↦ elim h
-                [ inl m ↦ (w.added ++ k ∷ [], record {
-                    left = left_ran q laws g0 g w.sound0 w.sound root w.added w.left g' k i stale f m.0 m.1 m.3;
-                    due = Each-append (IsRun q g0 root) w.added (k ∷ []) w.due (record {
-                        reached = reached_key;
-                        stale = stale_before q laws g0 g w.sound0 w.sound root w.added w.left k stale;
-                        due = due_before q laws g0 g w.sound0 w.sound root w.added w.left k stale (subst (λ x. q.is_input x ≡ false) f.key m.1) (subst (IsOutdated q g) f.key m.2);
-                      }, tt);
-                    counted = (let l = ap length m.0 ∙ length_push g.runs f.entry.key in let l' = length_push w.added k in let c = w.counted in omega arith) })
-                | inr m ↦ (w.added, record {
-                    left = left_unset q laws g0 g w.sound0 w.sound root w.added w.left g' k i stale f m.0 m.1 m.2 m.3 m.4 reached_key;
-                    due = w.due;
-                    counted = (let l = ap length m.0 in let c = w.counted in omega arith) }) ] ]
+                counted = (let l = ap length h.0 in let c = w.counted in omega arith);
+              },
+            )
+            | inr h ↦ elim h [
+              | inl m ↦ (
+                w.added ++ k ∷ [],
+                record {
+                  left = left_ran q laws g0 g w.sound0 w.sound root w.added w.left g' k i stale f m.0 m.1 m.3;
+                  due = Each-append (IsRun q g0 root) w.added (k ∷ []) w.due (
+                    record {
+                      reached = reached_key;
+                      stale = stale_before q laws g0 g w.sound0 w.sound root w.added w.left k stale;
+                      due = due_before q laws g0 g w.sound0 w.sound root w.added w.left k stale (subst (λ x. q.is_input x ≡ false) f.key m.1) (subst (IsOutdated q g) f.key m.2);
+                    },
+                    tt,
+                  );
+                  counted = (let l = ap length m.0 ∙ length_push g.runs f.entry.key in let l' = length_push w.added k in let c = w.counted in omega arith);
+                },
+              )
+              | inr m ↦ (
+                w.added,
+                record {
+                  left = left_unset q laws g0 g w.sound0 w.sound root w.added w.left g' k i stale f m.0 m.1 m.2 m.3 m.4 reached_key;
+                  due = w.due;
+                  counted = (let l = ap length m.0 in let c = w.counted in omega arith);
+                },
+              )
+            ]
+          ]
 
       -- fewer keys aren't verified
       pub to_do_done : (x : K) → q.rank (inputs q g0) x ≤ q.rank (inputs q g0) root → to_do q g0 root g' x < to_do q g0 root g k
@@ -183,11 +211,18 @@ module _ {K V : Type 0} where
       walk_goes_on frame rest e =
           let l = subst (Leads q g root k) e w.leads in
           let lt = laws.ranks (inputs q g) frame.key k l.0 in
-          let n : frame.key ≢ k = (λ s. let r = ap (q.rank (inputs q g)) s in absurd (omega arith)) in
-          (record {
-            sound0 = w.sound0; sound = sound'; added = now.0; left = now.1.left; due = now.1.due; counted = now.1.counted;
-            leads = leads_stay q laws g g' w.sound k i stale f root frame.key rest (omega arith) l.2;
-          }, frame_stays q laws g g' w.sound k i stale f frame n l.1)
+          let n : frame.key ≢ k = (λ s. let r = ap (q.rank (inputs q g)) s in absurd (omega arith)) in (
+            record {
+              sound0 = w.sound0;
+              sound = sound';
+              added = now.0;
+              left = now.1.left;
+              due = now.1.due;
+              counted = now.1.counted;
+              leads = leads_stay q laws g g' w.sound k i stale f root frame.key rest (omega arith) l.2;
+            },
+            frame_stays q laws g g' w.sound k i stale f frame n l.1,
+          )
 
       pub to_do_goes_on : (frame : Frame K) (rest : List (Frame K)) → path ≡ frame ∷ rest → to_do q g0 root g' frame.key < to_do q g0 root g k
       to_do_goes_on frame rest e =
@@ -196,15 +231,16 @@ module _ {K V : Type 0} where
 
   pub leaves_from : (q : Queries K V) (g0 g : Held K V) (root : K) (added : List K) → Left q g0 g root added → Leaves q g0 g root added
   leaves_from q g0 g root added l = record {
-      revision = l.revision;
-      runs = l.runs;
-      inputs_stay = l.inputs_same;
-      rest = λ i r e n. elim (l.kept i r e) [ inl a ↦ a | inr b ↦ absurd (n b.0) ];
-      run = λ i r e h. elim (l.kept i r e)
-          [ inl a ↦ elim a [ inl x ↦ (r, (x, refl, inl (refl, refl))) | inr x ↦ (record r { verified_at = g0.revision }, (x, refl, inl (refl, refl))) ]
-          | inr b ↦ b.1 ];
-      fresh = l.fresh;
-    }
+    revision = l.revision;
+    runs = l.runs;
+    inputs_stay = l.inputs_same;
+    rest = λ i r e n. elim (l.kept i r e) [ inl a ↦ a | inr b ↦ absurd (n b.0) ];
+    run = λ i r e h. elim (l.kept i r e) [
+      | inl a ↦ elim a [ inl x ↦ (r, (x, refl, inl (refl, refl))) | inr x ↦ (record r { verified_at = g0.revision }, (x, refl, inl (refl, refl))) ]
+      | inr b ↦ b.1
+    ];
+    fresh = l.fresh;
+  }
 
   pub ran_is : (g0 g : Held K V) (added : List K) → g.runs ≡ g0.runs ++ added → ran g0 g ≡ added
   ran_is g0 g added e = ap (drop (length g0.runs)) e ∙ drop_at g0.runs added (length g0.runs) refl
@@ -256,9 +292,16 @@ module _ {K V : Type 0} (q : Queries K V) (laws : AreLawful q) (g0 : Held K V) (
     ends_holding e =
         let root_is : k ≡ root = subst (λ l. Leads q g root k (reverse l)) e w.leads in
         let cur : is_current q g' s.0.entry ≡ true = same_current q laws g g' w.sound k i stale s.0 s.0.entry ∙ s.0.current in
-        let key : s.0.entry.key ≡ root = s.0.key ∙ root_is in
-        (s.0.entry, (subst (λ x. node_of q g' x ≡ Some i) key (s.1.numbered i s.0.entry s.0.puts.here), s.0.puts.here, key, cur,
-          current_value q g' laws s.1 i s.0.entry s.0.puts.here cur ∙ ap (λ I. q.val I s.0.entry.key) all_done.1.left.inputs_same ∙ ap (q.val (inputs q g0)) key))
+        let key : s.0.entry.key ≡ root = s.0.key ∙ root_is in (
+          s.0.entry,
+          (
+            subst (λ x. node_of q g' x ≡ Some i) key (s.1.numbered i s.0.entry s.0.puts.here),
+            s.0.puts.here,
+            key,
+            cur,
+            current_value q g' laws s.1 i s.0.entry s.0.puts.here cur ∙ ap (λ I. q.val I s.0.entry.key) all_done.1.left.inputs_same ∙ ap (q.val (inputs q g0)) key,
+          ),
+        )
 
   pub waits_counted : (g' : Held K V) (steps' : ℕ) (frame : Frame K) (on : K) → IsStep q g g' k steps steps' (Waits frame on)
       → (steps0 + length (ran g0 g') ≤ steps') × (steps' ≤ steps0 + length (ran g0 g') + 1)

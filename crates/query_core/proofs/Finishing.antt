@@ -1,11 +1,10 @@
 -- How a key is finished, over the store of a graph.
-use Rattle.std.proofs.Common.{◌≡◌, ◌≢◌, ℕ, ◌+◌, ◌<◌, ◌≤◌, Bool, true, false, ◌||◌, ◌==◌, cond, List, [], ◌∷◌, ◌++◌, length, take, refl, ap, sym, ◌∙◌, subst, inl, inr, ◌⊎◌, Option, Some, None, arith, rules}
+use Rattle.std.proofs.Common.{◌≡◌, ℕ, ◌≤◌, Bool, true, false, cond, List, [], ◌∷◌, ◌++◌, length, refl, sym, ◌∙◌, subst, inl, inr, ◌⊎◌, Some, None, arith}
 use Rattle.std.proofs.lemmas.List.{take_all}
 use Rattle.std.specs.Map.{lookup}
-use Rattle.std.specs.Option.{option_map_or}
-use Rattle.query_core.specs.Lists.{Has, Each, IsOnce}
+use Rattle.query_core.specs.Lists.{Has, Each}
 use Rattle.query_core.specs.Queries.{Queries, AreLawful}
-use Rattle.query_core.specs.Graph.{Held, at, node_of, record_of, inputs, is_current, is_verified}
+use Rattle.query_core.specs.Graph.{Held, at, node_of, record_of, is_verified}
 use Rattle.query_core.specs.Stored.{Stored, Changes, Adds, node_at}
 use Rattle.query_core.specs.Soundness.{IsSound}
 use Rattle.query_core.specs.Changes.{Puts, IsStamped, Moves}
@@ -13,7 +12,7 @@ use Rattle.query_core.specs.Walk.{IsSettled, IsSettledTo, IsOutdated, IsEntry, F
 use Rattle.query_core.specs.declared.store.Node.{Node}
 use Rattle.query_core.proofs.Words.{Each-at}
 use Rattle.query_core.proofs.Reading.{record_is, verified_is, record_none}
-use Rattle.query_core.proofs.Puts.{Keeps, RunsOn, sound_puts, same_key}
+use Rattle.query_core.proofs.Puts.{sound_puts}
 use Rattle.query_core.proofs.Calls.{held, stored_node, puts_changes, puts_adds, moves_if, lookup_same}
 use Rattle.query_core.proofs.Steps.{stamped_current, touch_keeps, enter_keeps, unset_keeps}
 
@@ -68,7 +67,10 @@ module _ {K V : Type 0} where
         record {
           sound = sound_puts q laws (held s n rs) (held s' n rs') i r sound puts keeps (inr (runs_r, isnt_r, subst (λ x. ¬ Has rs x) (sym key) (not_ran q (held s n rs) sound k entry.stale)));
           finishes = record {
-            entry = r; puts = puts; key = key; current = keeps.current;
+            entry = r;
+            puts = puts;
+            key = key;
+            current = keeps.current;
             how = inr (inl (runs_r, isnt_r, subst (IsOutdated q (held s n rs)) (sym key) entry.outdated, subst (λ x. IsStamped n (record_of q (held s n rs) x) r) (sym key) stamped));
           };
         }
@@ -86,8 +88,8 @@ module _ {K V : Type 0} where
         let small : cond (veq st.0.value v) st.0.changed_at n ≤ n = elim moves [ inl p ↦ (let le = (sound.stamps i st.0 st.1).1 in let e = p.1 in omega arith) | inr p ↦ (let e = p.1 in omega arith) ] in
         enter_done i new v reads runs entry puts st.2 refl refl refl small (subst (λ o. IsStamped n o new) (sym was) moves)
         (λ e at_e. let same_e : st.0 ≡ e = (let h = st.1 in cc) in
-          subst (λ (x : Node K V). (x.key ≡ k) × (((new.value ≡ x.value) × (new.changed_at ≡ x.changed_at)) ⊎ (new.changed_at ≡ n))) same_e
-          (st.2, elim moves [ inl p ↦ inl p | inr p ↦ inr p.1 ]))
+        subst (λ (x : Node K V). (x.key ≡ k) × (((new.value ≡ x.value) × (new.changed_at ≡ x.changed_at)) ⊎ (new.changed_at ≡ n))) same_e
+        (st.2, elim moves [ inl p ↦ inl p | inr p ↦ inr p.1 ]))
 
     pub enter_new : (i : ℕ) (v : V) (reads : List ℕ) → rs' ≡ rs ++ k ∷ [] → IsEntry q (held s n rs) k v reads → lookup (eq k) s.numbers ≡ None
         → Adds eq s s' i (record { key = k; value = v; reads = reads; verified_at = n; changed_at = n }) → FinishDone q (held s n rs) (held s' n rs') k i

@@ -1,8 +1,8 @@
 -- What a look at a record says of its key.
-use Rattle.std.proofs.Common.{◌≡◌, ◌≢◌, ℕ, Bool, true, false, List, [], ◌∷◌, refl, ap, sym, ◌∙◌, subst, inl, inr, ◌⊎◌, Option, Some, None, arith}
+use Rattle.std.proofs.Common.{◌≡◌, ℕ, false, ap, ◌∙◌, Some, None}
 use Rattle.std.specs.Option.{option_map_or}
-use Rattle.query_core.specs.Queries.{Queries, AreLawful}
-use Rattle.query_core.specs.Graph.{Held, at, node_of, record_of, inputs, is_current, is_verified}
+use Rattle.query_core.specs.Queries.{Queries}
+use Rattle.query_core.specs.Graph.{Held, at, node_of, record_of, is_current, is_verified}
 use Rattle.query_core.specs.declared.store.Node.{Node}
 
 module _ {K V : Type 0} where

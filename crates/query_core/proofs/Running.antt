@@ -1,19 +1,19 @@
 -- What a run's next step means, and what a look at a stale read means.
-use Rattle.std.proofs.Common.{◌≡◌, ◌≢◌, ℕ, zero, suc, ◌+◌, ◌-◌, ◌<◌, ◌≤◌, Bool, true, false, List, [], ◌∷◌, ◌++◌, length, take, drop, refl, ap, sym, ◌∙◌, subst, inl, inr, ◌⊎◌, Option, Some, None, append_assoc, append-nil, arith, rules}
-use Rattle.std.proofs.lemmas.List.{length-append, take-append-drop, append_cancel_left}
+use Rattle.std.proofs.Common.{◌≡◌, ℕ, zero, suc, ◌-◌, ◌<◌, ◌≤◌, false, List, [], ◌∷◌, ◌++◌, length, take, ap, sym, ◌∙◌, subst, inr, Some, append_assoc, append-nil, arith}
+use Rattle.std.proofs.lemmas.List.{length-append}
 use Rattle.std.specs.List.{slice_get}
-use Rattle.query_core.specs.Lists.{Has, Each, IsOnce}
-use Rattle.query_core.specs.Queries.{Queries, AreLawful, answers, GoesOn}
-use Rattle.query_core.specs.Graph.{Held, at, node_of, record_of, inputs, is_current, is_verified}
+use Rattle.query_core.specs.Lists.{Has, Each}
+use Rattle.query_core.specs.Queries.{Queries, AreLawful, GoesOn}
+use Rattle.query_core.specs.Graph.{Held, at, inputs, is_verified}
 use Rattle.query_core.specs.Soundness.{kept, IsUnchanged, IsSound}
-use Rattle.query_core.specs.Walk.{IsSettled, IsSettledTo, IsOutdated, AreAnswered, AreAsked, IsRunning, IsChecking, IsLook}
-use Rattle.query_core.specs.declared.frame.Checked.TheVariants.{Unchanged, Changed, Stale}
+use Rattle.query_core.specs.Walk.{IsSettled, IsSettledTo, IsOutdated, AreAnswered, IsRunning, IsChecking, IsLook}
+use Rattle.query_core.specs.declared.frame.Checked.TheVariants.{Changed, Stale}
 use Rattle.query_core.specs.declared.store.Node.{Node}
 use Rattle.query_core.specs.declared.rules.Step.{Step}
 use Rattle.query_core.specs.declared.rules.Step.TheVariants.{Ask, Done}
-use Rattle.query_core.proofs.Words.{Has-left, Has-right, Has-middle, Each-at, Each-map}
+use Rattle.query_core.proofs.Words.{Has-middle, Each-map}
 use Rattle.query_core.proofs.Reading.{record_is, verified_is}
-use Rattle.query_core.proofs.Values.{current_value, follow, follow_none, follow_one, IsGood, Follows}
+use Rattle.query_core.proofs.Values.{current_value, follow, follow_none, follow_one, IsGood}
 use Rattle.query_core.proofs.Steps.{answered_kept}
 
 pub answered_more : {K V : Type 0} (q : Queries K V) (g : Held K V) (js : List ℕ) (ks more : List K) → AreAnswered q g ks js → AreAnswered q g (ks ++ more) js
@@ -58,10 +58,10 @@ module _ {K V : Type 0} (q : Queries K V) (laws : AreLawful q) (g : Held K V) (s
   settled_follow i r e isnt p j d settled got at_j =
       let h = split_at r.reads p j got in
       let good : Each (IsGood q g r.verified_at r.key) (take p r.reads) =
-          Each-map (IsSettled q g r.verified_at) (IsGood q g r.verified_at r.key) (take p r.reads)
-          (λ j' m s d' at_d'. let same : s.0 ≡ d' = (let x = s.1.0 in cc) in
-            subst (λ (x : Node K V). (x.changed_at ≤ r.verified_at) × (Has (q.asks (inputs q g) r.key) x.key → x.value ≡ q.val (inputs q g) x.key)) same
-            (s.1.2, (λ _. current_value q g laws sound j' s.0 s.1.0 s.1.1))) settled.1 in
+      Each-map (IsSettled q g r.verified_at) (IsGood q g r.verified_at r.key) (take p r.reads)
+      (λ j' m s d' at_d'. let same : s.0 ≡ d' = (let x = s.1.0 in cc) in
+      subst (λ (x : Node K V). (x.changed_at ≤ r.verified_at) × (Has (q.asks (inputs q g) r.key) x.key → x.value ≡ q.val (inputs q g) x.key)) same
+      (s.1.2, (λ _. current_value q g laws sound j' s.0 s.1.0 s.1.1))) settled.1 in
       let un : Each (IsUnchanged g r.verified_at) (take p r.reads) = Each-map (IsGood q g r.verified_at r.key) (IsUnchanged g r.verified_at) (take p r.reads) (λ j' m f d' at_d'. (f d' at_d').0) good in
       let f = follow q g laws sound i r e isnt (take p r.reads) [] (j ∷ h.0) h.1 tt good (follow_none q g r.key) in
       let one = follow_one q g laws sound i r e isnt (take p r.reads) j h.0 d h.1 at_j un f in
@@ -79,10 +79,11 @@ module _ {K V : Type 0} (q : Queries K V) (laws : AreLawful q) (g : Held K V) (s
       let j = l.1.0 in let d = l.1.1.0 in let got = l.1.1.1.0 in let at_j = l.1.1.1.1 in
       let key : d.key ≡ on = key_is r d j e got at_j in
       let isnt : q.is_input r.key ≡ false = subst (λ x. q.is_input x ≡ false) (sym own) checking.0 in
-      let has = settled_follow node r e isnt p j d l.0 got at_j in
-      ((checking.0, (r, (checking.1.1.0, e, l.0))),
+      let has = settled_follow node r e isnt p j d l.0 got at_j in (
+        (checking.0, (r, (checking.1.1.0, e, l.0))),
         subst (Has (q.asks (inputs q g) k)) key (subst (λ x. Has (q.asks (inputs q g) x) d.key) own has),
-        subst (λ x. is_verified q g x ≡ false) key (verified_is q g d.key j d (sound.numbered j d at_j) at_j ∙ l.1.1.1.2))
+        subst (λ x. is_verified q g x ≡ false) key (verified_is q g d.key j d (sound.numbered j d at_j) at_j ∙ l.1.1.1.2),
+      )
 
   pub look_outdated : (k : K) (node place : ℕ) → IsChecking q g k node place → ((r : Node K V) → at g node ≡ Some r → IsLook q g r Changed) → IsOutdated q g k
   look_outdated k node place checking look =

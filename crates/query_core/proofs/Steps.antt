@@ -1,22 +1,19 @@
 -- What the steps of a walk keep: a record is verified, a run is entered, an input that isn't set is made.
-use Rattle.std.proofs.Common.{◌≡◌, ◌≢◌, ℕ, zero, suc, ◌+◌, ◌-◌, ◌<◌, ◌≤◌, Bool, true, false, ◌||◌, ◌==◌, cond, if◌then◌else◌, List, [], ◌∷◌, ◌++◌, length, take, drop, map, refl, ap, sym, ◌∙◌, subst, inl, inr, ◌⊎◌, Option, Some, None, append_assoc, append-nil, arith, rules, eq-eqb, MatchOption, get_or, IsSome}
+use Rattle.std.proofs.Common.{◌≡◌, ◌≢◌, ℕ, zero, suc, ◌<◌, ◌≤◌, true, false, ◌||◌, ◌==◌, List, [], ◌∷◌, ◌++◌, length, refl, ap, sym, ◌∙◌, subst, inl, inr, ◌⊎◌, Some, None, arith, eq-eqb, get_or, IsSome}
 use Rattle.std.specs.List.{slice_get}
-use Rattle.std.proofs.lemmas.Bool.{cases_eq}
-use Rattle.std.specs.Option.{option_map, option_map_or}
-use Rattle.query_core.specs.Lists.{Has, Each, IsOnce}
+use Rattle.query_core.specs.Lists.{Has, Each}
 use Rattle.query_core.specs.Queries.{Queries, AreLawful, answers, GoesOn, next_key, done_with}
 use Rattle.query_core.specs.Graph.{Held, at, node_of, record_of, inputs, is_current, is_verified}
 use Rattle.query_core.specs.Soundness.{kept, IsUnchanged, Replays, IsSound}
-use Rattle.query_core.specs.Changes.{Puts, IsStamped, Moves}
-use Rattle.query_core.specs.Walk.{IsVerifiedAt, IsSettled, IsSettledTo, HasMoved, IsOutdated, AreAnswered, AreAsked, IsStage, IsLook, IsEntry, Finishes, HowFinished}
-use Rattle.query_core.specs.declared.frame.Checked.TheVariants.{Unchanged, Changed, Stale}
+use Rattle.query_core.specs.Walk.{IsSettled, IsSettledTo, HasMoved, IsOutdated, AreAnswered, AreAsked, IsLook, IsEntry}
+use Rattle.query_core.specs.declared.frame.Checked.TheVariants.{Changed, Stale}
 use Rattle.query_core.specs.declared.store.Node.{Node}
 use Rattle.query_core.specs.declared.rules.Step.{Step}
 use Rattle.query_core.specs.declared.rules.Step.TheVariants.{Ask, Done}
-use Rattle.query_core.proofs.Words.{Has-left, Has-right, Has-middle, Each-at, Each-from, Each-append, Each-map, Each-left, kept-push, kept-append, kept-one, has_at, get_at}
-use Rattle.query_core.proofs.Reading.{record_is, verified_is, record_none}
-use Rattle.query_core.proofs.Values.{or_false, current_stamp, current_value, goes}
-use Rattle.query_core.proofs.Puts.{Keeps, RunsOn, sound_puts, same_key}
+use Rattle.query_core.proofs.Words.{Each-at, Each-map, Each-left, kept-append, kept-one, has_at, get_at}
+use Rattle.query_core.proofs.Reading.{verified_is, record_none}
+use Rattle.query_core.proofs.Values.{current_value}
+use Rattle.query_core.proofs.Puts.{Keeps}
 
 len_back : {K : Type 0} (first left : List ℕ) (a b : List K) → length (first ++ left) ≡ length (a ++ b) → length first ≡ length a → length left ≡ length b
 len_back [] left [] b e f = e
@@ -36,7 +33,7 @@ module _ {K V : Type 0} where
   before_now q g sound i r e c =
       let le = sound.stamps i r e in
       let ne : r.verified_at ≢ g.revision = (λ s. let t : (r.verified_at == g.revision) ≡ true = eq-eqb r.verified_at g.revision s in
-        let u : is_current q g r ≡ true = elim (q.is_input r.key) as (λ b. (b || (r.verified_at == g.revision)) ≡ true) [ true ↦ refl | false ↦ t ] in let bad : ⊥ = cc in bad) in
+      let u : is_current q g r ≡ true = elim (q.is_input r.key) as (λ b. (b || (r.verified_at == g.revision)) ≡ true) [ true ↦ refl | false ↦ t ] in let bad : ⊥ = cc in bad) in
       omega arith
 
   pub stamped_current : (q : Queries K V) (g : Held K V) (r : Node K V) → r.verified_at ≡ g.revision → is_current q g r ≡ true
@@ -47,16 +44,17 @@ module _ {K V : Type 0} where
   reader_before q g sound i j s e at_i c at_j has =
       before_now q g sound j e at_j
       (elim (is_current q g e) as (λ b. is_current q g e ≡ b → b ≡ false)
-        [ true ↦ (λ yes. let cur = sound.verified j i e s at_j yes has at_i in let bad : ⊥ = cc in absurd bad) | false ↦ (λ _. refl) ] refl)
+      [ true ↦ (λ yes. let cur = sound.verified j i e s at_j yes has at_i in let bad : ⊥ = cc in absurd bad) | false ↦ (λ _. refl) ] refl)
 
   -- how work begins
   pub no_record : (q : Queries K V) (g : Held K V) (sound : IsSound q g) (k : K) → is_verified q g k ≡ false → q.is_input k ≡ true → record_of q g k ≡ None
   no_record q g sound k stale is =
-      elim (node_of q g k) as (λ o. node_of q g k ≡ o → record_of q g k ≡ None)
-        [ None ↦ (λ n. record_none q g k n)
+      elim (node_of q g k) as (λ o. node_of q g k ≡ o → record_of q g k ≡ None) [
+        | None ↦ (λ n. record_none q g k n)
         | Some i ↦ (λ n. let st = sound.numbers k i n in
             let cur : is_current q g st.0 ≡ true = ap (λ b. b || (st.0.verified_at == g.revision)) (subst (λ x. q.is_input x ≡ true) (sym st.2) is) in
-            let no = not_current q g sound k i st.0 stale st.1 st.2 in let bad : ⊥ = cc in absurd bad) ] refl
+            let no = not_current q g sound k i st.0 stale st.1 st.2 in let bad : ⊥ = cc in absurd bad)
+      ] refl
 
   pub stage_check : (q : Queries K V) (g : Held K V) (sound : IsSound q g) (k : K) (i : ℕ) → q.is_input k ≡ false → node_of q g k ≡ Some i
       → (q.is_input k ≡ false) × ((r : Node K V) × ((node_of q g k ≡ Some i) × (at g i ≡ Some r) × IsSettledTo q g r 0))
@@ -123,16 +121,18 @@ module _ {K V : Type 0} where
         let c = not_current q g sound k i r stale e key in
         record {
           current = stamped_current q g (record r { verified_at = g.revision }) refl;
-          reads = λ j h. let s = Each-at (IsSettled q g r.verified_at) r.reads j settled h in
-              ((λ ji. let bad : ⊥ = (let p = subst (λ n. at g n ≡ Some s.0) ji s.1.0 in let cur = s.1.1 in let same : s.0 ≡ r = cc in
-                let cr : is_current q g r ≡ true = subst (λ (x : Node K V). is_current q g x ≡ true) same cur in cc) in bad), (s.0, (s.1.0, s.1.1)));
+          reads = λ j h. let s = Each-at (IsSettled q g r.verified_at) r.reads j settled h in (
+            (λ ji. let bad : ⊥ = (let p = subst (λ n. at g n ≡ Some s.0) ji s.1.0 in let cur = s.1.1 in let same : s.0 ≡ r = cc in
+                let cr : is_current q g r ≡ true = subst (λ (x : Node K V). is_current q g x ≡ true) same cur in cc) in bad),
+            (s.0, (s.1.0, s.1.1)),
+          );
           inputs = λ is. absurd (let no = subst (λ x. q.is_input x ≡ false) (sym key) isnt in let bad : ⊥ = cc in bad);
           replays = λ no first left s.
               sound.replays i r e no first left s
               (Each-left (IsUnchanged g r.verified_at) first left
-                (subst (Each (IsUnchanged g r.verified_at)) s
-                  (Each-map (IsSettled q g r.verified_at) (IsUnchanged g r.verified_at) r.reads
-                    (λ j m h d at_d. let same : h.0 ≡ d = (let p = h.1.0 in cc) in subst (λ (x : Node K V). x.changed_at ≤ r.verified_at) same h.1.2) settled)));
+              (subst (Each (IsUnchanged g r.verified_at)) s
+              (Each-map (IsSettled q g r.verified_at) (IsUnchanged g r.verified_at) r.reads
+              (λ j m h d at_d. let same : h.0 ≡ d = (let p = h.1.0 in cc) in subst (λ (x : Node K V). x.changed_at ≤ r.verified_at) same h.1.2) settled)));
           stamps = ((omega arith), (sound.stamps i r e).1);
           still = λ j s x at_i at_j has. inl (let same : r ≡ s = cc in (ap (λ (y : Node K V). y.value) same, ap (λ (y : Node K V). y.changed_at) same));
         }
@@ -145,9 +145,11 @@ module _ {K V : Type 0} where
         record {
           current = stamped_current q g r va;
           reads = λ j h.
-              let s = answered_at q g reads (q.asks (inputs q g) k) j entry.answered (subst (λ l. Has l j) reads_is h) in
-              ((λ ji. let p = subst (λ n. at g n ≡ Some s.0) ji s.1.0 in
-                let no = not_current q g sound k i s.0 entry.stale p (was s.0 p).0 in let yes = s.1.1 in let bad : ⊥ = cc in bad), (s.0, (s.1.0, s.1.1)));
+              let s = answered_at q g reads (q.asks (inputs q g) k) j entry.answered (subst (λ l. Has l j) reads_is h) in (
+                (λ ji. let p = subst (λ n. at g n ≡ Some s.0) ji s.1.0 in
+                    let no = not_current q g sound k i s.0 entry.stale p (was s.0 p).0 in let yes = s.1.1 in let bad : ⊥ = cc in bad),
+                (s.0, (s.1.0, s.1.1)),
+              );
           inputs = λ is. absurd (let no = subst (λ x. q.is_input x ≡ false) (sym key) entry.no_input in let bad : ⊥ = cc in bad);
           replays = λ no first left s.
               let a : AreAnswered q g (q.asks (inputs q g) k) (first ++ left) = subst (AreAnswered q g (q.asks (inputs q g) k)) (sym reads_is ∙ s) entry.answered in
@@ -158,13 +160,14 @@ module _ {K V : Type 0} where
               let base : Replays g left (q.val (inputs q g) k) (q.step k (answers (q.val (inputs q g)) c.front)) = replay_front q g c.back left (q.val (inputs q g) k) (q.step k (answers (q.val (inputs q g)) c.front)) c.behind len law in
               subst (λ x. Replays g left r.value (q.step x (kept g first))) (sym key)
               (subst (λ l. Replays g left r.value (q.step k l)) (sym kept_is)
-                (subst (λ x. Replays g left x (q.step k (answers (q.val (inputs q g)) c.front))) (sym (value ∙ entry.value_is)) base));
+              (subst (λ x. Replays g left x (q.step k (answers (q.val (inputs q g)) c.front))) (sym (value ∙ entry.value_is)) base));
           stamps = ((omega arith), ca);
           still = λ j s e at_i at_j has.
               let w = was s at_i in
-              elim w.1
-                [ inl p ↦ inl p
-                | inr n ↦ inr (let lt = reader_before q g sound i j s e at_i (not_current q g sound k i s entry.stale at_i w.0) at_j has in omega arith) ];
+              elim w.1 [
+                | inl p ↦ inl p
+                | inr n ↦ inr (let lt = reader_before q g sound i j s e at_i (not_current q g sound k i s entry.stale at_i w.0) at_j has in omega arith)
+              ];
         }
 
     -- an input that isn't set is made

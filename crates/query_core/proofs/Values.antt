@@ -1,13 +1,13 @@
 -- A record that was verified now holds the value of its key, and its reads are what its key reads.
-use Rattle.std.proofs.Common.{◌≡◌, ◌≢◌, ℕ, zero, suc, ◌+◌, ◌<◌, ◌≤◌, Bool, true, false, ◌||◌, ◌==◌, List, [], ◌∷◌, ◌++◌, length, refl, ap, sym, ◌∙◌, subst, inl, inr, ◌⊎◌, Option, Some, None, append_assoc, append-nil, arith, rules}
-use Rattle.query_core.specs.Lists.{Has, Each, IsOnce}
+use Rattle.std.proofs.Common.{◌≡◌, ℕ, zero, suc, ◌+◌, ◌<◌, ◌≤◌, Bool, true, false, ◌||◌, ◌==◌, List, [], ◌∷◌, ◌++◌, refl, ap, sym, ◌∙◌, subst, Some, append_assoc, append-nil, arith}
+use Rattle.query_core.specs.Lists.{Has, Each}
 use Rattle.query_core.specs.Queries.{Queries, AreLawful, answers, GoesOn, next_key, done_with}
-use Rattle.query_core.specs.Graph.{Held, at, node_of, record_of, inputs, is_current}
-use Rattle.query_core.specs.Soundness.{kept, IsUnchanged, Replays, IsSound}
+use Rattle.query_core.specs.Graph.{Held, at, inputs, is_current}
+use Rattle.query_core.specs.Soundness.{kept, IsUnchanged, IsSound}
 use Rattle.query_core.specs.declared.store.Node.{Node}
 use Rattle.query_core.specs.declared.rules.Step.{Step}
 use Rattle.query_core.specs.declared.rules.Step.TheVariants.{Ask, Done}
-use Rattle.query_core.proofs.Words.{Has-middle, Each-at, Each-from, Each-append, Each-map, kept-push, answers-push}
+use Rattle.query_core.proofs.Words.{Has-middle, Each-from, Each-append, Each-map, kept-push, answers-push}
 
 pub or_false : (a b : Bool) → (a || b) ≡ true → a ≡ false → b ≡ true
 or_false false b h e = h
@@ -46,11 +46,11 @@ module _ {K V : Type 0} where
   pub follow_push : (q : Queries K V) (g : Held K V) (k : K) (a : List ℕ) (j : ℕ) (d : Node K V) → at g j ≡ Some d → (f : Follows q g k a)
       → (more : List K) → f.left ≡ d.key ∷ more → d.value ≡ q.val (inputs q g) d.key → Follows q g k (a ++ j ∷ [])
   follow_push q g k a j d ej f more s v = record {
-      first = f.first ++ d.key ∷ [];
-      left = more;
-      asks = f.asks ∙ ap (λ l. f.first ++ l) s ∙ sym (append_assoc f.first (d.key ∷ []) more);
-      kept = kept-push g a j d ej ∙ ap (λ l. l ++ (d.key, d.value) ∷ []) f.kept ∙ ap (λ x. answers (q.val (inputs q g)) f.first ++ (d.key, x) ∷ []) v ∙ sym (answers-push (q.val (inputs q g)) f.first d.key);
-    }
+    first = f.first ++ d.key ∷ [];
+    left = more;
+    asks = f.asks ∙ ap (λ l. f.first ++ l) s ∙ sym (append_assoc f.first (d.key ∷ []) more);
+    kept = kept-push g a j d ej ∙ ap (λ l. l ++ (d.key, d.value) ∷ []) f.kept ∙ ap (λ x. answers (q.val (inputs q g)) f.first ++ (d.key, x) ∷ []) v ∙ sym (answers-push (q.val (inputs q g)) f.first d.key);
+  }
 
   pub follow_none : (q : Queries K V) (g : Held K V) (k : K) → Follows q g k []
   follow_none q g k = record { first = []; left = q.asks (inputs q g) k; asks = refl; kept = refl }
@@ -99,17 +99,18 @@ module _ {K V : Type 0} where
   values_at q g laws sound n i r e c lt ih isnt =
       Each-from (IsGood q g r.verified_at r.key) r.reads
       (λ j m d ej.
-        let stamp = current_stamp q g r c isnt in
-        let now = sound.stamps j d ej in
-        ((omega arith), (λ has. let rk = laws.ranks (inputs q g) r.key d.key has in ih j d ej (sound.verified i j r d e c m ej) (omega arith))))
+      let stamp = current_stamp q g r c isnt in
+      let now = sound.stamps j d ej in
+      ((omega arith), (λ has. let rk = laws.ranks (inputs q g) r.key d.key has in ih j d ej (sound.verified i j r d e c m ej) (omega arith))))
 
   below : (q : Queries K V) (g : Held K V) (laws : AreLawful q) (sound : IsSound q g) (n : ℕ) (i : ℕ) (r : Node K V) → at g i ≡ Some r → is_current q g r ≡ true → q.rank (inputs q g) r.key < n
       → HoldsValue q g r
   below q g laws sound zero i r e c lt = absurd (omega arith)
   below q g laws sound (suc n) i r e c lt =
-      elim (q.is_input r.key) as (λ b. q.is_input r.key ≡ b → HoldsValue q g r)
-        [ true ↦ (λ is. sym (input_value q g laws sound i r e is) ∙ sym (laws.inputs (inputs q g) r.key is))
-        | false ↦ (λ isnt. (follow_all q g laws sound i r e isnt (values_at q g laws sound n i r e c (omega arith) (below q g laws sound n) isnt)).0) ] refl
+      elim (q.is_input r.key) as (λ b. q.is_input r.key ≡ b → HoldsValue q g r) [
+        | true ↦ (λ is. sym (input_value q g laws sound i r e is) ∙ sym (laws.inputs (inputs q g) r.key is))
+        | false ↦ (λ isnt. (follow_all q g laws sound i r e isnt (values_at q g laws sound n i r e c (omega arith) (below q g laws sound n) isnt)).0)
+      ] refl
 
   -- a record that was verified now holds the value of its key
   pub current_value : (q : Queries K V) (g : Held K V) (laws : AreLawful q) (sound : IsSound q g) (i : ℕ) (r : Node K V) → at g i ≡ Some r → is_current q g r ≡ true → HoldsValue q g r

@@ -1,32 +1,30 @@
 -- The walk as a whole: what stands in its path, what it has left of the graph at entry, and that it ends.
-use Rattle.std.proofs.Common.{◌≡◌, ◌≢◌, ℕ, zero, suc, ◌+◌, ◌-◌, ◌*◌, ◌<◌, ◌≤◌, Bool, true, false, not, ◌||◌, ◌==◌, cond, if◌then◌else◌, List, [], ◌∷◌, ◌++◌, length, take, drop, reverse, refl, ap, sym, ◌∙◌, subst, inl, inr, ◌⊎◌, Option, Some, None, append_assoc, append-nil, arith, rules, MatchOption}
+use Rattle.std.proofs.Common.{◌≡◌, ◌≢◌, ℕ, ◌≤◌, true, false, ◌||◌, ◌==◌, cond, if◌then◌else◌, List, [], ◌∷◌, take, refl, ap, sym, ◌∙◌, subst, inl, inr, Some, None, arith}
 use Rattle.std.proofs.lemmas.Bool.{cases_eq}
 use Rattle.std.specs.Option.{option_map_or}
-use Rattle.query_core.specs.Lists.{Has, Each, IsOnce}
+use Rattle.query_core.specs.Lists.{Has}
 use Rattle.query_core.specs.Queries.{Queries, AreLawful}
 use Rattle.query_core.specs.Graph.{Held, at, node_of, record_of, inputs, is_current, is_verified}
 use Rattle.query_core.specs.Soundness.{IsSound}
-use Rattle.query_core.specs.Due.{IsDue, HasChangedRead}
-use Rattle.query_core.specs.Changes.{Puts, IsStamped, Moves, IsLeft, Leaves, IsRun, IsReached}
+use Rattle.query_core.specs.Changes.{IsReached}
 use Rattle.query_core.specs.Changes.IsReached.{itself, along}
-use Rattle.query_core.specs.Walk.{IsSettled, IsSettledTo, HasMoved, IsOutdated, AreAnswered, AreAsked, IsRunning, IsChecking, IsStage, IsFrame, Leads, Finishes, HowFinished}
+use Rattle.query_core.specs.Walk.{IsSettled, HasMoved, IsOutdated, AreAnswered, IsStage, IsFrame, Leads, Finishes}
 use Rattle.query_core.specs.declared.frame.Frame.{Frame}
 use Rattle.query_core.specs.declared.frame.Stage.{Stage}
 use Rattle.query_core.specs.declared.frame.Stage.TheVariants.{Unset, Check, Run}
 use Rattle.query_core.specs.declared.store.Node.{Node}
-use Rattle.query_core.proofs.Words.{Has-left, Has-right, Has-append, Has-middle, Each-at, Each-map, Each-append}
-use Rattle.query_core.proofs.Reading.{record_is, verified_is, record_none}
-use Rattle.query_core.proofs.Values.{current_value, current_stamp}
-use Rattle.query_core.proofs.Steps.{not_current, stamped_current, no_record}
-use Rattle.query_core.proofs.Finishing.{not_ran}
+use Rattle.query_core.proofs.Words.{Each-map}
+use Rattle.query_core.proofs.Reading.{record_is, verified_is}
+use Rattle.query_core.proofs.Steps.{not_current, no_record}
 
 module _ {K V : Type 0} (q : Queries K V) (laws : AreLawful q) (g g' : Held K V) (sound : IsSound q g) (k : K) (i : ℕ) (stale : is_verified q g k ≡ false) (f : Finishes q g g' k i) where
   -- the node's record, if there is one, is the key's
   pub key_there : (s : Node K V) → at g i ≡ Some s → s.key ≡ k
   key_there s e =
-      elim f.puts.place
-        [ inl p ↦ (let n = sound.numbers f.entry.key i p in let same : n.0 ≡ s = (let h = n.1 in cc) in subst (λ (x : Node K V). x.key ≡ f.entry.key) same n.2 ∙ f.key)
-        | inr p ↦ absurd (let bad : ⊥ = (let h = p.0 in cc) in bad) ]
+      elim f.puts.place [
+        | inl p ↦ (let n = sound.numbers f.entry.key i p in let same : n.0 ≡ s = (let h = n.1 in cc) in subst (λ (x : Node K V). x.key ≡ f.entry.key) same n.2 ∙ f.key)
+        | inr p ↦ absurd (let bad : ⊥ = (let h = p.0 in cc) in bad)
+      ]
 
   other_node : (x : K) → x ≢ k → node_of q g' x ≡ node_of q g x
   other_node x n =
@@ -48,9 +46,10 @@ module _ {K V : Type 0} (q : Queries K V) (laws : AreLawful q) (g g' : Held K V)
   pub other_record : (x : K) → x ≢ k → record_of q g' x ≡ record_of q g x
   other_record x n =
       ap (λ o. option_map_or (at g') o None) (other_node x n) ∙
-      elim (node_of q g x) as (λ o. node_of q g x ≡ o → option_map_or (at g') o None ≡ option_map_or (at g) o None)
-        [ None ↦ (λ _. refl)
-        | Some j ↦ (λ e. let st = sound.numbers x j e in keeps_at j st.0 st.1 (λ s. n (sym st.2 ∙ s)) ∙ sym st.1) ] refl
+      elim (node_of q g x) as (λ o. node_of q g x ≡ o → option_map_or (at g') o None ≡ option_map_or (at g) o None) [
+        | None ↦ (λ _. refl)
+        | Some j ↦ (λ e. let st = sound.numbers x j e in keeps_at j st.0 st.1 (λ s. n (sym st.2 ∙ s)) ∙ sym st.1)
+      ] refl
 
   pub other_verified : (x : K) → x ≢ k → is_verified q g' x ≡ is_verified q g x
   other_verified x n =
@@ -76,28 +75,31 @@ module _ {K V : Type 0} (q : Queries K V) (laws : AreLawful q) (g g' : Held K V)
   entry_unset : q.is_input k ≡ true → f.entry.value ≡ q.unset k
   entry_unset is =
       let is_e : q.is_input f.entry.key ≡ true = subst (λ x. q.is_input x ≡ true) (sym f.key) is in
-      elim f.how
-        [ inl h ↦ (let no = not_current q g sound k i h.1.0 stale h.1.1.0 (key_there h.1.0 h.1.1.0) in
+      elim f.how [
+        | inl h ↦ (let no = not_current q g sound k i h.1.0 stale h.1.1.0 (key_there h.1.0 h.1.1.0) in
             let yes : is_current q g h.1.0 ≡ true = ap (λ b. b || (h.1.0.verified_at == g.revision)) (subst (λ x. q.is_input x ≡ true) (sym (key_there h.1.0 h.1.1.0)) is) in let bad : ⊥ = cc in absurd bad)
-        | inr h ↦ elim h [ inl m ↦ (let no = m.1 in let bad : ⊥ = cc in absurd bad) | inr m ↦ m.3 ∙ ap q.unset f.key ] ]
+        | inr h ↦ elim h [ inl m ↦ (let no = m.1 in let bad : ⊥ = cc in absurd bad) | inr m ↦ m.3 ∙ ap q.unset f.key ]
+      ]
 
   input_stays : (x : K) → q.is_input x ≡ true → inputs q g' x ≡ inputs q g x
   input_stays x is =
-      elim (q.same k x) as (λ b. q.same k x ≡ b → inputs q g' x ≡ inputs q g x)
-        [ true ↦ (λ e. let kx : k ≡ x = laws.same k x e in
+      elim (q.same k x) as (λ b. q.same k x ≡ b → inputs q g' x ≡ inputs q g x) [
+        | true ↦ (λ e. let kx : k ≡ x = laws.same k x e in
             let is_k : q.is_input k ≡ true = subst (λ y. q.is_input y ≡ true) (sym kx) is in
             let now : inputs q g' k ≡ q.unset k = read_input g' k is_k ∙ ap (λ o. option_map_or (λ (r : Node K V). r.value) o (q.unset k)) (record_is q g' k i f.entry node_here f.puts.here) ∙ entry_unset is_k in
             let was : inputs q g k ≡ q.unset k = read_input g k is_k ∙ ap (λ o. option_map_or (λ (r : Node K V). r.value) o (q.unset k)) (no_record q g sound k stale is_k) in
             subst (λ y. inputs q g' y ≡ inputs q g y) kx (now ∙ sym was))
         | false ↦ (λ e. let n : x ≢ k = (λ s. let yes : q.same k x ≡ true = subst (λ y. q.same k y ≡ true) (sym s) (laws.same_self k) in let bad : ⊥ = cc in bad) in
-            read_input g' x is ∙ ap (λ o. option_map_or (λ (r : Node K V). r.value) o (q.unset x)) (other_record x n) ∙ sym (read_input g x is)) ] refl
+            read_input g' x is ∙ ap (λ o. option_map_or (λ (r : Node K V). r.value) o (q.unset x)) (other_record x n) ∙ sym (read_input g x is))
+      ] refl
 
   input_at : (x : K) → inputs q g' x ≡ inputs q g x
   input_at x =
-      elim (q.is_input x) as (λ b. q.is_input x ≡ b → inputs q g' x ≡ inputs q g x)
-        [ false ↦ (λ isnt. ap (λ b. if b then option_map_or (λ (r : Node K V). r.value) (record_of q g' x) (q.unset x) else q.unset x) isnt
+      elim (q.is_input x) as (λ b. q.is_input x ≡ b → inputs q g' x ≡ inputs q g x) [
+        | false ↦ (λ isnt. ap (λ b. if b then option_map_or (λ (r : Node K V). r.value) (record_of q g' x) (q.unset x) else q.unset x) isnt
             ∙ sym (ap (λ b. if b then option_map_or (λ (r : Node K V). r.value) (record_of q g x) (q.unset x) else q.unset x) isnt))
-        | true ↦ (λ is. input_stays x is) ] refl
+        | true ↦ (λ is. input_stays x is)
+      ] refl
 
   -- the inputs stay as they were
   pub inputs_stay : inputs q g' ≡ inputs q g
@@ -117,18 +119,27 @@ module _ {K V : Type 0} (q : Queries K V) (laws : AreLawful q) (g g' : Held K V)
 
   outdated_stays : (x : K) → x ≢ k → IsOutdated q g x → IsOutdated q g' x
   outdated_stays x n h =
-      elim h
-        [ inl e ↦ inl (other_record x n ∙ e)
-        | inr e ↦ inr (e.0, (other_record x n ∙ e.1.0, (e.1.1.0, (e.1.1.1.0, moved_stays e.0.verified_at e.1.1.0 e.1.1.1.1)))) ]
+      elim h [
+        | inl e ↦ inl (other_record x n ∙ e)
+        | inr e ↦ inr (e.0, (other_record x n ∙ e.1.0, (e.1.1.0, (e.1.1.1.0, moved_stays e.0.verified_at e.1.1.0 e.1.1.1.1))))
+      ]
 
   stage_stays : (x : K) (stage : Stage K) → x ≢ k → IsStage q g x stage → IsStage q g' x stage
   stage_stays x Unset n h = (h.0, other_record x n ∙ h.1)
   stage_stays x (Check node place) n h =
       let r = h.1.0 in
       let st = sound.numbers x node h.1.1.0 in
-      let own : r.key ≡ x = (let e = h.1.1.1 in let p = st.1 in let s : st.0 ≡ r = cc in subst (λ (y : Node K V). y.key ≡ x) s st.2) in
-      (h.0, (r, (other_node x n ∙ h.1.1.0, keeps_at node r h.1.1.1 (λ s. n (sym own ∙ s)),
-        (h.1.1.2.0, Each-map (IsSettled q g r.verified_at) (IsSettled q g' r.verified_at) (take place r.reads) (λ j m s. settled_stays r.verified_at j s) h.1.1.2.1))))
+      let own : r.key ≡ x = (let e = h.1.1.1 in let p = st.1 in let s : st.0 ≡ r = cc in subst (λ (y : Node K V). y.key ≡ x) s st.2) in (
+        h.0,
+        (
+          r,
+          (
+            other_node x n ∙ h.1.1.0,
+            keeps_at node r h.1.1.1 (λ s. n (sym own ∙ s)),
+            (h.1.1.2.0, Each-map (IsSettled q g r.verified_at) (IsSettled q g' r.verified_at) (take place r.reads) (λ j m s. settled_stays r.verified_at j s) h.1.1.2.1),
+          ),
+        ),
+      )
   stage_stays x (Run asked answered) n h =
       (h.0, outdated_stays x n h.1, (h.2.0, ap (λ I. q.asks I x) inputs_stay ∙ h.2.1), answered_stays asked answered h.3)
 
@@ -151,7 +162,8 @@ module _ {K V : Type 0} where
   leads_stay q laws g g' sound k i stale f root x [] le l = l
   leads_stay q laws g g' sound k i stale f root x (p ∷ ps) le l =
       let lt = laws.ranks (inputs q g) p.key x l.0 in
-      let n : p.key ≢ k = (λ s. let e = ap (q.rank (inputs q g)) s in absurd (omega arith)) in
-      (subst (λ I. Has (q.asks I p.key) x) (sym (inputs_stay q laws g g' sound k i stale f)) l.0,
+      let n : p.key ≢ k = (λ s. let e = ap (q.rank (inputs q g)) s in absurd (omega arith)) in (
+        subst (λ I. Has (q.asks I p.key) x) (sym (inputs_stay q laws g g' sound k i stale f)) l.0,
         frame_stays q laws g g' sound k i stale f p n l.1,
-        leads_stay q laws g g' sound k i stale f root p.key ps (omega arith) l.2)
+        leads_stay q laws g g' sound k i stale f root p.key ps (omega arith) l.2,
+      )

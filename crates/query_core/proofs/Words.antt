@@ -1,10 +1,10 @@
 -- Lemmas on the words for lists, and on what a graph keeps of a list of nodes.
-use Rattle.std.proofs.Common.{◌≡◌, ◌≢◌, ℕ, zero, suc, ◌+◌, ◌<◌, length, get_or, arith, List, [], ◌∷◌, ◌++◌, refl, ap, sym, ◌∙◌, subst, inl, inr, ◌⊎◌, map, Option, Some, None, append_assoc, append-nil}
+use Rattle.std.proofs.Common.{◌≡◌, ℕ, zero, suc, ◌<◌, length, get_or, arith, List, [], ◌∷◌, ◌++◌, refl, ap, sym, ◌∙◌, subst, inl, inr, ◌⊎◌, Option, Some, None}
 use Rattle.std.specs.Prelude.{filter_map, slice_get}
 use Rattle.std.specs.List.{cons_option}
 use Rattle.std.specs.Option.{option_map}
 use Rattle.query_core.specs.Lists.{Has, Each, IsOnce}
-use Rattle.query_core.specs.Queries.{Queries, answers}
+use Rattle.query_core.specs.Queries.{answers}
 use Rattle.query_core.specs.Graph.{Held, at}
 use Rattle.query_core.specs.Soundness.{kept}
 use Rattle.query_core.specs.declared.store.Node.{Node}

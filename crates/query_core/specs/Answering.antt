@@ -1,5 +1,5 @@
 -- How the answers of a run are found.
-use Rattle.std.specs.Prelude.{◌≡◌, ℕ, Bool, true, List, Option, Some, None, filter_map}
+use Rattle.std.specs.Prelude.{◌≡◌, ℕ, Bool, true, List, Some, filter_map}
 use Rattle.std.specs.Map.{lookup}
 use Rattle.std.specs.Option.{option_map}
 use Rattle.query_core.specs.Stored.{Stored, node_at}

@@ -1,5 +1,5 @@
 -- When a key is due.
-use Rattle.std.specs.Prelude.{◌≡◌, ◌≢◌, ℕ, ◌<◌, Option, Some, None, ◌⊎◌}
+use Rattle.std.specs.Prelude.{◌≡◌, ◌≢◌, ℕ, ◌<◌, Some, None, ◌⊎◌}
 use Rattle.query_core.specs.Lists.{Has}
 use Rattle.query_core.specs.Queries.{Queries}
 use Rattle.query_core.specs.Graph.{Held, at, record_of, inputs}

@@ -1,5 +1,5 @@
 -- When a graph is sound.
-use Rattle.std.specs.Prelude.{◌≡◌, ℕ, ◌≤◌, Bool, true, false, List, [], ◌∷◌, ◌++◌, Option, Some, None, filter_map}
+use Rattle.std.specs.Prelude.{◌≡◌, ℕ, ◌≤◌, true, false, List, [], ◌∷◌, ◌++◌, Some, filter_map}
 use Rattle.std.specs.Option.{option_map}
 use Rattle.query_core.specs.Lists.{Has, Each, IsOnce}
 use Rattle.query_core.specs.Queries.{Queries, next_key, done_with}

@@ -9,12 +9,11 @@ ghost use Rattle.query_core.specs.Soundness.{IsSound};
 ghost use Rattle.query_core.specs.Changes.{IsFresh, SetsInput};
 ghost use Rattle.query_core.specs.declared.store.Node.{Node};
 
-use std::alloc::{AllocError, Global};
-use std::marker::{Model, PhantomData};
-
 use crate::keys::{Reads, TryCopy};
 use crate::rules::Rules;
 use crate::store::Store;
+use std::alloc::{AllocError, Global};
+use std::marker::{Model, PhantomData};
 
 /// Names the record of a key in the graph that gave it, for as long as that graph keeps the record.
 #[derive(Clone, Copy)]

@@ -35,7 +35,9 @@ impl<K> Keys<K> {
     pub fn new(alloc: Global) -> Keys<K>
         ensures { result ≡ [] }
     {
-        Keys { items: Vec::new(alloc) }
+        Keys {
+            items: Vec::new(alloc),
+        }
     }
 
     /// The list of these keys.
@@ -90,7 +92,9 @@ impl Reads {
     pub(crate) fn new(alloc: Global) -> Reads
         ensures { result ≡ [] }
     {
-        Reads { items: Vec::new(alloc) }
+        Reads {
+            items: Vec::new(alloc),
+        }
     }
 
     /// The nodes.

@@ -6,15 +6,13 @@ ghost use Rattle.std.specs.Option.{option_copied};
 ghost use Rattle.query_core.specs.Answering.{pairs_at, IsNumbered};
 ghost use Rattle.query_core.specs.Queries.{Queries, AreLawful, ticks};
 
+use crate::keys::{Answered, Keys, TryCopy};
+use crate::store::Store;
 use std::alloc::{AllocError, Global};
 use std::hash::Hash;
 use std::marker::Model;
-
-use steps::Steps;
 use std::sync::ledger::Ledger;
-
-use crate::keys::{Answered, Keys, TryCopy};
-use crate::store::Store;
+use steps::Steps;
 
 /// What a run does next.
 #[derive(Drop)]

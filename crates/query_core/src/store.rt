@@ -7,13 +7,12 @@ ghost use Rattle.query_core.specs.Stored.{Stored, Changes, Adds, node_at};
 ghost use Rattle.query_core.specs.declared.store.Node.{Node};
 ghost use Rattle.std.specs.Prelude.{if◌then◌else◌, Bool};
 
+use crate::keys::{Reads, TryCopy};
 use indexmap::IndexMap;
 use slab::Slab;
 use std::alloc::{AllocError, Global};
 use std::hash::Hash;
 use std::marker::Model;
-
-use crate::keys::{Reads, TryCopy};
 
 /// The record of a key.
 #[derive(Drop)]
@@ -78,7 +77,13 @@ impl<K: Eq + Hash + TryCopy + Drop, V: Drop> Store<K, V> {
     }
 
     /// Adds the record of a key that has none.
-    pub(crate) fn add(&mut self, record_key: K, value: V, reads: Reads, now: u64) -> Result<usize, AllocError>
+    pub(crate) fn add(
+        &mut self,
+        record_key: K,
+        value: V,
+        reads: Reads,
+        now: u64,
+    ) -> Result<usize, AllocError>
         requires { lookup (K.eq record_key) self.old.numbers ≡ None }
         ensures ok { IfOk result (λ i. Adds K.eq self.old self.new i (record { key = record_key; value = value; reads = reads; verified_at = now; changed_at = now })) }
         ensures err { OnErr result (self.new ≡ self.old) }
@@ -87,13 +92,15 @@ impl<K: Eq + Hash + TryCopy + Drop, V: Drop> Store<K, V> {
         let copy = record_key.try_copy()?;
         let node = self.nodes.vacant_key();
         self.numbers.insert(copy, node).map_err(AllocError::from)?;
-        Ok(self.nodes.insert_reserved(Node {
-            key: record_key,
-            value,
-            reads,
-            verified_at: now,
-            changed_at: now,
-        }))
+        Ok(
+            self.nodes.insert_reserved(Node {
+                key: record_key,
+                value,
+                reads,
+                verified_at: now,
+                changed_at: now,
+            }),
+        )
     }
 
     /// Marks the record as verified in the revision `now`.
@@ -116,7 +123,11 @@ impl<K: Eq + Hash + TryCopy + Drop, V: Eq + Drop> Store<K, V> {
             (record { key = r.key; value = value; reads = reads; verified_at = now; changed_at = (if V.eq r.value value then r.changed_at else now) }) }
     {
         if let Some(kept) = self.nodes.get_mut(node) {
-            let changed_at = if kept.value == value { kept.changed_at } else { now };
+            let changed_at = if kept.value == value {
+                kept.changed_at
+            } else {
+                now
+            };
             kept.value = value;
             kept.reads = reads;
             kept.verified_at = now;

@@ -10,14 +10,13 @@ ghost use Rattle.query_core.specs.Lists.{Each, IsOnce};
 ghost use Rattle.query_core.specs.Changes.{IsHolding, IsRun, Leaves, Walked, ran};
 ghost use Rattle.query_core.specs.declared.store.Node.{Node};
 
-use std::alloc::AllocError;
-use std::sync::ledger::Ledger;
-
 use super::{Graph, NodeId};
 use crate::frame::{Checked, Frame, Halt, Look, Moved, Stage};
 use crate::keys::{Answered, Keys, Reads, TryCopy};
 use crate::rules::{Answers, Rules, Step};
 use crate::store::Node;
+use std::alloc::AllocError;
+use std::sync::ledger::Ledger;
 use steps::Steps;
 
 impl<R: Rules> Graph<R> {
@@ -138,7 +137,12 @@ impl<R: Rules> Graph<R> {
     }
 
     /// Takes the answers to what was asked, as far as it is verified, and gives the first key that isn't.
-    fn collect(&self, rules: &R, asked: &Keys<R::Key>, answered: &mut Answered) -> Result<Option<R::Key>, AllocError>
+    fn collect(
+        &self,
+        rules: &R,
+        asked: &Keys<R::Key>,
+        answered: &mut Answered,
+    ) -> Result<Option<R::Key>, AllocError>
         requires { AreAnswered R.queries self.now asked.now answered.old }
         ensures { IfOk result (IsCollected R.queries self.now asked.now answered.new) }
     {
@@ -316,7 +320,12 @@ impl<R: Rules> Graph<R> {
     }
 
     /// A step of the walk: the key is finished, or waits for another one.
-    fn advance<L: Ledger>(&mut self, rules: &R, frame: Frame<R::Key>, steps: &mut Steps<L>) -> Result<Moved<R::Key>, AllocError>
+    fn advance<L: Ledger>(
+        &mut self,
+        rules: &R,
+        frame: Frame<R::Key>,
+        steps: &mut Steps<L>,
+    ) -> Result<Moved<R::Key>, AllocError>
         requires { IsFrame R.queries self.old frame }
         ensures ok { IfOk result (IsStep R.queries self.old self.new frame.key steps.old steps.new) }
         ensures err { OnErr result (IsGivenUp self.old self.new steps.old steps.new) }
@@ -333,7 +342,12 @@ impl<R: Rules> Graph<R> {
     }
 
     /// Walks from a key that isn't verified, on a path of its own.
-    fn walk<L: Ledger>(&mut self, rules: &R, key: R::Key, steps: &mut Steps<L>) -> Result<NodeId, AllocError>
+    fn walk<L: Ledger>(
+        &mut self,
+        rules: &R,
+        key: R::Key,
+        steps: &mut Steps<L>,
+    ) -> Result<NodeId, AllocError>
         requires { is_verified R.queries self.old key ≡ false }
         ensures walked { Walked R.queries self.old key self.new }
         ensures ok { IfOk result (λ id. IsHolding R.queries self.old self.new key id × (steps.new ≡ steps.old + length (ran self.old self.new))) }
@@ -362,7 +376,12 @@ impl<R: Rules> Graph<R> {
     /// What is due on the way runs; each run is one step of the counter and one key of `runs`. A key that was verified in this revision is answered without
     /// memory. After want of memory the graph is sound, and each record whose key didn't run stands as before or counts as verified now;
     /// the counter has then risen by the number of runs, or by one more where a value was worked out and couldn't be kept.
-    pub fn demand<L: Ledger>(&mut self, rules: &R, key: R::Key, steps: &mut Steps<L>) -> Result<NodeId, AllocError>
+    pub fn demand<L: Ledger>(
+        &mut self,
+        rules: &R,
+        key: R::Key,
+        steps: &mut Steps<L>,
+    ) -> Result<NodeId, AllocError>
         ensures sound { IsSound R.queries self.new }
         ensures holds { IfOk result (λ id. IsHolding R.queries self.old self.new key id) }
         ensures leaves { Leaves R.queries self.old self.new key (ran self.old self.new) }

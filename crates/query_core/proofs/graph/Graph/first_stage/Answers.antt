@@ -1,4 +1,4 @@
-use Rattle.std.proofs.Common.{sym, ◌∙◌, inl}
+use Rattle.std.proofs.Common.{sym, inl}
 use Rattle.query_core.proofs.graph.Graph.first_stage.Goals as goal
 use Rattle.query_core.proofs.Steps.{no_record, stage_check, stage_run}
 use Rattle.query_core.proofs.Reading.{record_none}

@@ -1,4 +1,3 @@
-use Rattle.std.proofs.Common.{◌≤◌}
 use Rattle.query_core.specs.Walk.{IsSettledTo}
 use Rattle.query_core.proofs.graph.Graph.look.Given as goal
 

@@ -1,4 +1,4 @@
-use Rattle.std.proofs.Common.{sym, ◌∙◌}
+use Rattle.std.proofs.Common.{sym}
 use Rattle.query_core.proofs.graph.Graph.look_at.Goals as goal
 
 pub returns-then-not-is_current : goal.returns-then-not-is_current

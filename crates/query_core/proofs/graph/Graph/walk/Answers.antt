@@ -1,17 +1,17 @@
-use Rattle.std.proofs.Common.{subst, sym, ap, refl, ◌∙◌, append-nil, ◌≤◌, ◌+◌, length, ◌≡◌, ◌++◌, ◌∷◌, []}
+use Rattle.std.proofs.Common.{subst, sym, ap, ◌∙◌, append-nil, ◌≤◌, ◌+◌, length, ◌++◌, ◌∷◌, []}
 use Rattle.std.proofs.lemmas.List.{nil_from_length}
 use Rattle.query_core.specs.Soundness.{IsSound}
 use Rattle.query_core.specs.Changes.{ran}
-use Rattle.query_core.specs.Walk.{IsStep, IsFrame}
-use Rattle.query_core.proofs.Ending.{walk_begins, waits_on, waits_less, given_up, ran_length, goes_on, goes_on_less, ends_walked, ends_counted, ends_holding, waits_counted, on_err}
+use Rattle.query_core.specs.Walk.{IsStep}
+use Rattle.query_core.proofs.Ending.{walk_begins, waits_on, waits_less, given_up, goes_on, goes_on_less, ends_walked, ends_counted, ends_holding, waits_counted, on_err}
 use Rattle.query_core.proofs.graph.Graph.walk.Goals as goal
 
 pub steps-init : goal.steps-init
 steps-init g c = record {
-    walk = rw c.new-path.ensures.items
-        (walk_begins g.R.Rules.queries c.args.self.now c.args.key c.begin-top.result.key c.args.steps.now (subst (IsSound g.R.Rules.queries) c.self.view_is c.self.invariant) c.begin-top.ensures.key);
-    frame = c.begin-top.ensures.frame;
-  }
+  walk = rw c.new-path.ensures.items
+      (walk_begins g.R.Rules.queries c.args.self.now c.args.key c.begin-top.result.key c.args.steps.now (subst (IsSound g.R.Rules.queries) c.self.view_is c.self.invariant) c.begin-top.ensures.key);
+  frame = c.begin-top.ensures.frame;
+}
 
 pub returns-in_err-moved-clause-walked : goal.returns-in_err-moved-clause-walked
 returns-in_err-moved-clause-walked g c =
@@ -34,7 +34,7 @@ pub steps-preserved-in-Waits : goal.steps-preserved-in-Waits
 steps-preserved-in-Waits g c =
     record {
       walk = waits_on g.R.Rules.queries g.met.R.Rules.lawful c.args.self.now c.args.key c.steps.self c.steps.top.key c.steps.path.items c.args.steps.now c.steps.steps c.steps.invariant.walk c.advance.new.self c.advance.new.steps c.in-Waits.frame c.in-Waits.on c.push_reserved.new.self.items c.begin-top-in-Waits.result (subst (IsStep g.R.Rules.queries c.steps.self c.advance.new.self c.steps.top.key c.steps.steps c.advance.new.steps) c.in-Waits.is c.in_ok-moved.ensures.ok)
-        (c.push_reserved.ensures.items ∙ ap (λ l. l ++ c.in-Waits.frame ∷ []) c.in_ok-reserve-in-Waits.ensures.items) c.begin-top-in-Waits.ensures.key;
+          (c.push_reserved.ensures.items ∙ ap (λ l. l ++ c.in-Waits.frame ∷ []) c.in_ok-reserve-in-Waits.ensures.items) c.begin-top-in-Waits.ensures.key;
       frame = c.begin-top-in-Waits.ensures.frame;
     }
 

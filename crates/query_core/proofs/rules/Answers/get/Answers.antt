@@ -17,4 +17,4 @@ pub returns : goal.returns
 returns g c =
     rw (← c.self.view_is)
     (sym (pairs_among g.K.PartialEq.eq c.self.inside.store.now c.args.key.now c.self.inside.answered.now c.in_ok-node.node c.in_ok-kept.kept.now c.self.invariant (sym c.in_ok-node.ensures)
-      (sym c.in_ok-kept.ensures) (sym c.if-not-contains.ensures)))
+    (sym c.in_ok-kept.ensures) (sym c.if-not-contains.ensures)))
