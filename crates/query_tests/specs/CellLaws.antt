@@ -146,11 +146,13 @@ differ a b n = elim (same_cell a b) as (λ x. same_cell a b ≡ x → x ≡ fals
 lookup_answers : (f : Cell → ℕ) (cs : List Cell) (c : Cell) → Has cs c → lookup (same_cell c) (answers f cs) ≡ Some (f c)
 lookup_answers f [] c h = absurd h
 lookup_answers f (d ∷ cs) c h =
-    elim (same_cell c d) as (λ b. same_cell c d ≡ b → cond b (Some (f d)) (lookup (same_cell c) (answers f cs)) ≡ Some (f c))
-      [ true ↦ (λ e. ap (λ x. Some (f x)) (sym (same_means c d e)))
-      | false ↦ (λ e. elim h
-          [ inl s ↦ (let yes : same_cell c d ≡ true = subst (λ x. same_cell c x ≡ true) (sym s) (same_itself c) in let bad : ⊥ = cc in absurd bad)
-          | inr m ↦ lookup_answers f cs c m ]) ] refl
+    elim (same_cell c d) as (λ b. same_cell c d ≡ b → cond b (Some (f d)) (lookup (same_cell c) (answers f cs)) ≡ Some (f c)) [
+      | true ↦ (λ e. ap (λ x. Some (f x)) (sym (same_means c d e)))
+      | false ↦ (λ e. elim h [
+        | inl s ↦ (let yes : same_cell c d ≡ true = subst (λ x. same_cell c x ≡ true) (sym s) (same_itself c) in let bad : ⊥ = cc in absurd bad)
+        | inr m ↦ lookup_answers f cs c m
+      ])
+    ] refl
 
 lookup_absent : (f : Cell → ℕ) (cs : List Cell) (c : Cell) → ¬ Has cs c → lookup (same_cell c) (answers f cs) ≡ None
 lookup_absent f [] c n = refl
@@ -196,9 +198,10 @@ rest_is f first (c ∷ cs) o =
 in_halves : (n : ℕ) (c : Cell) → Has (halves n) c → (i : ℕ) × ((i < n) × (Half i ≡ c))
 in_halves zero c h = absurd h
 in_halves (suc n) c h =
-    elim (append_cases (halves n) (Half n ∷ []) c h)
-      [ inl a ↦ (let r = in_halves n c a in (r.0, ((let l = r.1.0 in omega arith), r.1.1)))
-      | inr b ↦ elim b [ inl e ↦ (n, ((omega arith), e)) | inr x ↦ absurd x ] ]
+    elim (append_cases (halves n) (Half n ∷ []) c h) [
+      | inl a ↦ (let r = in_halves n c a in (r.0, ((let l = r.1.0 in omega arith), r.1.1)))
+      | inr b ↦ elim b [ inl e ↦ (n, ((omega arith), e)) | inr x ↦ absurd x ]
+    ]
 
 once_halves : (n : ℕ) → IsOnce (halves n)
 once_halves zero = tt
@@ -231,7 +234,7 @@ final_is given (Chain n) e =
     found (worth given) ((if n == 0 then Half 0 else Chain (n - 1)) ∷ []) (if n == 0 then Half 0 else Chain (n - 1)) (inl refl) ∙ worth_before given n
 final_is given (Wide n) e =
     elim (n == 0) as (λ b. (n == 0) ≡ b → (if b then 0 else answer_or_zero (answers (worth given) (halves n)) (Half (n - 1))) ≡ (if b then 0 else given (Input (n - 1)) / 2))
-      [ true ↦ (λ _. refl) | false ↦ (λ s. found (worth given) (halves n) (Half (n - 1)) (last_half n s)) ] refl
+    [ true ↦ (λ _. refl) | false ↦ (λ s. found (worth given) (halves n) (Half (n - 1)) (last_half n s)) ] refl
 final_is given Left e = found (worth given) (Half 0 ∷ []) (Half 0) (inl refl)
 final_is given Right e = found (worth given) (Half 0 ∷ []) (Half 0) (inl refl)
 final_is given Top e = found (worth given) (Left ∷ Right ∷ []) Right (inr (inl refl))
@@ -249,7 +252,7 @@ cell_steps given c e first left s =
 level_before : (n : ℕ) → level (if n == 0 then Half 0 else Chain (n - 1)) < n + 2
 level_before n =
     elim (n == 0) as (λ b. (n == 0) ≡ b → level (if b then Half 0 else Chain (n - 1)) < n + 2)
-      [ true ↦ (λ _. omega arith) | false ↦ (λ e. let p : 0 < n = grind (arith, e) in omega arith) ] refl
+    [ true ↦ (λ _. omega arith) | false ↦ (λ e. let p : 0 < n = grind (arith, e) in omega arith) ] refl
 
 cell_ranks : (given : Cell → ℕ) (c d : Cell) → Has (reads_of c) d → level d < level c
 cell_ranks given (Input n) d h = absurd h
@@ -268,8 +271,13 @@ cell_ranks given Top d (inr (inr x)) = absurd x
 
 pub cells_lawful : AreLawful cells
 cells_lawful = record {
-    same = same_means; same_self = same_itself; inputs = input_value; inputs_read = λ given c e. input_reads given c e; steps = cell_steps; ranks = cell_ranks;
-  }
+  same = same_means;
+  same_self = same_itself;
+  inputs = input_value;
+  inputs_read = λ given c e. input_reads given c e;
+  steps = cell_steps;
+  ranks = cell_ranks;
+}
 
 pub lookup_is : (c : Cell) (es : List (Cell × ℕ)) → lookup (eq-value.it c) es ≡ lookup (same_cell c) es
 lookup_is c [] = refl
@@ -281,13 +289,15 @@ one_more had cs place c lt e = drop_more cs place c lt ∙ ap (λ x. x ∷ drop 
 pub goes_past : (had : List (Cell × ℕ)) (cs : List Cell) (place : ℕ) (c : Cell) → place < length cs → c ≡ get_or cs place c → is_some (lookup (same_cell c) had) ≡ true
     → rest_of had (drop place cs) ≡ rest_of had cs → rest_of had (drop (place + 1) cs) ≡ rest_of had cs
 goes_past had cs place c lt e some so_far =
-    elim (lookup (same_cell c) had) as (λ o. lookup (same_cell c) had ≡ o → rest_of had (drop (place + 1) cs) ≡ rest_of had cs)
-      [ None ↦ (λ n. let z = ap is_some n in let bad : ⊥ = cc in absurd bad)
-      | Some v ↦ (λ s. sym (ap (λ o. elim o [ None ↦ c ∷ drop (place + 1) cs | Some w ↦ rest_of had (drop (place + 1) cs) ]) s) ∙ sym (ap (rest_of had) (one_more had cs place c lt e)) ∙ so_far) ] refl
+    elim (lookup (same_cell c) had) as (λ o. lookup (same_cell c) had ≡ o → rest_of had (drop (place + 1) cs) ≡ rest_of had cs) [
+      | None ↦ (λ n. let z = ap is_some n in let bad : ⊥ = cc in absurd bad)
+      | Some v ↦ (λ s. sym (ap (λ o. elim o [ None ↦ c ∷ drop (place + 1) cs | Some w ↦ rest_of had (drop (place + 1) cs) ]) s) ∙ sym (ap (rest_of had) (one_more had cs place c lt e)) ∙ so_far)
+    ] refl
 
 pub stops_at : (had : List (Cell × ℕ)) (cs : List Cell) (place : ℕ) (c : Cell) → place < length cs → c ≡ get_or cs place c → is_some (lookup (same_cell c) had) ≡ false
     → rest_of had (drop place cs) ≡ rest_of had cs → drop place cs ≡ rest_of had cs
 stops_at had cs place c lt e none so_far =
-    elim (lookup (same_cell c) had) as (λ o. lookup (same_cell c) had ≡ o → drop place cs ≡ rest_of had cs)
-      [ Some v ↦ (λ s. let z = ap is_some s in let bad : ⊥ = cc in absurd bad)
-      | None ↦ (λ n. let more = one_more had cs place c lt e in more ∙ sym (stops had c (drop (place + 1) cs) n) ∙ sym (ap (rest_of had) more) ∙ so_far) ] refl
+    elim (lookup (same_cell c) had) as (λ o. lookup (same_cell c) had ≡ o → drop place cs ≡ rest_of had cs) [
+      | Some v ↦ (λ s. let z = ap is_some s in let bad : ⊥ = cc in absurd bad)
+      | None ↦ (λ n. let more = one_more had cs place c lt e in more ∙ sym (stops had c (drop (place + 1) cs) n) ∙ sym (ap (rest_of had) more) ∙ so_far)
+    ] refl

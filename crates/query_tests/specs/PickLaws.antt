@@ -104,7 +104,7 @@ pick_steps given (a ∷ b ∷ []) left e =
     let el : [] ≡ left = cc in
     subst (λ x. GoesOn left (given (chosen (given In0))) (pick.step Pick (answers (pick.val given) (x ∷ b ∷ [])))) ea
     (subst (λ x. GoesOn left (given (chosen (given In0))) (pick.step Pick (answers (pick.val given) (In0 ∷ x ∷ [])))) eb
-      (subst (GoesOn left (given (chosen (given In0)))) (sym (after_two given)) (sym el, refl)))
+    (subst (GoesOn left (given (chosen (given In0)))) (sym (after_two given)) (sym el, refl)))
 pick_steps given (a ∷ b ∷ c ∷ rest) left e = let bad : ⊥ = cc in absurd bad
 
 steps_of : (given : PickKey → ℕ) (k : PickKey) → is_input_key k ≡ false → (first left : List PickKey) → pick.asks given k ≡ first ++ left → GoesOn left (pick.val given k) (pick.step k (answers (pick.val given) first))
@@ -123,8 +123,13 @@ pick_ranks given Pick d (inr (inr h)) = absurd h
 
 pub pick_lawful : AreLawful pick
 pick_lawful = record {
-    same = same_means; same_self = same_itself; inputs = input_value; inputs_read = input_reads; steps = steps_of; ranks = pick_ranks;
-  }
+  same = same_means;
+  same_self = same_itself;
+  inputs = input_value;
+  inputs_read = input_reads;
+  steps = steps_of;
+  ranks = pick_ranks;
+}
 
 lookup_is : (k : PickKey) (es : List (PickKey × ℕ)) → lookup (eq-value.it k) es ≡ lookup (same_key k) es
 lookup_is k [] = refl

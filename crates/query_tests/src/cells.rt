@@ -57,7 +57,11 @@ fn first_halves(alloc: Global, number: u32) -> Result<Vec<Cell>, AllocError>
 fn before(number: u32) -> Cell
     ensures { result ≡ (if number == 0 then Half 0 else Chain (number - 1)) }
 {
-    if number == 0 { Cell::Half(0) } else { Cell::Chain(number - 1) }
+    if number == 0 {
+        Cell::Half(0)
+    } else {
+        Cell::Chain(number - 1)
+    }
 }
 
 /// One cell, as a list.
@@ -141,6 +145,7 @@ fn value(cell: Cell, answers: &Answers<'_, Cell, u32>) -> u32
 
 impl Rules for CellRules {
     type Key = Cell;
+
     type Value = u32;
 
     ghost queries = { cells };

@@ -18,20 +18,64 @@ mod tests {
     use std::sync::ledger::Blank;
 
     static TURNS: [Turn; 5] = [
-        Turn { input: Input::In2, value: 8, demands: true },
-        Turn { input: Input::In0, value: 1, demands: true },
-        Turn { input: Input::In1, value: 6, demands: true },
-        Turn { input: Input::In0, value: 0, demands: false },
-        Turn { input: Input::In0, value: 1, demands: true },
+        Turn {
+            input: Input::In2,
+            value: 8,
+            demands: true,
+        },
+        Turn {
+            input: Input::In0,
+            value: 1,
+            demands: true,
+        },
+        Turn {
+            input: Input::In1,
+            value: 6,
+            demands: true,
+        },
+        Turn {
+            input: Input::In0,
+            value: 0,
+            demands: false,
+        },
+        Turn {
+            input: Input::In0,
+            value: 1,
+            demands: true,
+        },
     ];
 
     static WANTED: [Outcome; 6] = [
-        Outcome { value: Some(5), runs: 1, records: 4 },
-        Outcome { value: Some(5), runs: 0, records: 4 },
-        Outcome { value: Some(8), runs: 1, records: 4 },
-        Outcome { value: Some(8), runs: 0, records: 4 },
-        Outcome { value: None, runs: 0, records: 4 },
-        Outcome { value: Some(8), runs: 1, records: 4 },
+        Outcome {
+            value: Some(5),
+            runs: 1,
+            records: 4,
+        },
+        Outcome {
+            value: Some(5),
+            runs: 0,
+            records: 4,
+        },
+        Outcome {
+            value: Some(8),
+            runs: 1,
+            records: 4,
+        },
+        Outcome {
+            value: Some(8),
+            runs: 0,
+            records: 4,
+        },
+        Outcome {
+            value: None,
+            runs: 0,
+            records: 4,
+        },
+        Outcome {
+            value: Some(8),
+            runs: 1,
+            records: 4,
+        },
     ];
 
     // The last turn runs `Pick` again, since the stamp of the first input moved twice.
@@ -46,19 +90,63 @@ mod tests {
 
     static EDITS: [Edit; 11] = [
         // a diamond: both sides and the top run once, and an edit that leaves the half stops there
-        Edit { input: 0, value: 4, demand: Cell::Top },
-        Edit { input: 0, value: 5, demand: Cell::Top },
-        Edit { input: 0, value: 8, demand: Cell::Top },
-        Edit { input: 1, value: 9, demand: Cell::Top },
+        Edit {
+            input: 0,
+            value: 4,
+            demand: Cell::Top,
+        },
+        Edit {
+            input: 0,
+            value: 5,
+            demand: Cell::Top,
+        },
+        Edit {
+            input: 0,
+            value: 8,
+            demand: Cell::Top,
+        },
+        Edit {
+            input: 1,
+            value: 9,
+            demand: Cell::Top,
+        },
         // a chain of ten
-        Edit { input: 0, value: 8, demand: Cell::Chain(9) },
-        Edit { input: 0, value: 9, demand: Cell::Chain(9) },
-        Edit { input: 0, value: 10, demand: Cell::Chain(9) },
+        Edit {
+            input: 0,
+            value: 8,
+            demand: Cell::Chain(9),
+        },
+        Edit {
+            input: 0,
+            value: 9,
+            demand: Cell::Chain(9),
+        },
+        Edit {
+            input: 0,
+            value: 10,
+            demand: Cell::Chain(9),
+        },
         // a row of twenty
-        Edit { input: 3, value: 6, demand: Cell::Wide(20) },
-        Edit { input: 19, value: 7, demand: Cell::Wide(20) },
-        Edit { input: 3, value: 7, demand: Cell::Wide(20) },
-        Edit { input: 3, value: 7, demand: Cell::Wide(20) },
+        Edit {
+            input: 3,
+            value: 6,
+            demand: Cell::Wide(20),
+        },
+        Edit {
+            input: 19,
+            value: 7,
+            demand: Cell::Wide(20),
+        },
+        Edit {
+            input: 3,
+            value: 7,
+            demand: Cell::Wide(20),
+        },
+        Edit {
+            input: 3,
+            value: 7,
+            demand: Cell::Wide(20),
+        },
     ];
 
     static SHOWN: [Shown; 11] = [

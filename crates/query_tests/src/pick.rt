@@ -41,11 +41,16 @@ fn ask(alloc: Global, key: PickKey) -> Result<Step<PickKey, u32>, AllocError>
 fn choose(first: u32) -> PickKey
     ensures { result ≡ chosen first }
 {
-    if first == 0 { PickKey::In1 } else { PickKey::In2 }
+    if first == 0 {
+        PickKey::In1
+    } else {
+        PickKey::In2
+    }
 }
 
 impl Rules for PickRules {
     type Key = PickKey;
+
     type Value = u32;
 
     ghost queries = { pick };

@@ -2,12 +2,11 @@
 
 ghost use Rattle.std.specs.Prelude.{◌≡◌, ℕ, ◌+◌, ◌<◌, ◌^◌, length};
 
+use crate::cells::{Cell, CellRules};
 use query_core::Graph;
 use std::alloc::{AllocError, Global};
 use std::sync::ledger::{Blank, Ledger};
 use steps::Steps;
-
-use crate::cells::{Cell, CellRules};
 
 /// An edit of an input, and the cell that is demanded after it.
 #[derive(Clone, Copy, Drop)]
@@ -25,7 +24,11 @@ pub struct Shown {
 }
 
 /// Begins a revision, sets the input and demands the cell.
-fn make_edit<L: Ledger>(graph: &mut Graph<CellRules>, edit: &Edit, steps: &mut Steps<L>) -> Result<Shown, AllocError>
+fn make_edit<L: Ledger>(
+    graph: &mut Graph<CellRules>,
+    edit: &Edit,
+    steps: &mut Steps<L>,
+) -> Result<Shown, AllocError>
     requires { graph.old.revision < 2 ^ 62 }
     ensures { graph.new.revision ≡ graph.old.revision + 1 }
 {
@@ -39,7 +42,11 @@ fn make_edit<L: Ledger>(graph: &mut Graph<CellRules>, edit: &Edit, steps: &mut S
 }
 
 /// Makes the edits one after the other, on a graph with no input set.
-pub fn edit_all<L: Ledger>(alloc: Global, blank: Blank, edits: &[Edit]) -> Result<Vec<Shown>, AllocError>
+pub fn edit_all<L: Ledger>(
+    alloc: Global,
+    blank: Blank,
+    edits: &[Edit],
+) -> Result<Vec<Shown>, AllocError>
     requires name { blank.name ≡ L.name }
     requires parts { blank.parts ≡ L.parts }
     requires some { 0 < L.parts }

@@ -5,12 +5,11 @@ ghost use Rattle.query_tests.specs.Pick.{is_input_key};
 ghost use Rattle.query_core.specs.Changes.{IsFresh};
 ghost use Rattle.query_tests.specs.Pick.{pick};
 
+use crate::pick::{PickKey, PickRules};
 use query_core::Graph;
 use std::alloc::{AllocError, Global};
 use std::sync::ledger::{Blank, Ledger};
 use steps::Steps;
-
-use crate::pick::{PickKey, PickRules};
 
 /// An input of the choice.
 #[derive(Clone, Copy, Drop)]
@@ -47,7 +46,10 @@ fn key_of(input: Input) -> PickKey
 }
 
 /// The value of `Pick`, and what ran for it.
-fn demanded<L: Ledger>(graph: &mut Graph<PickRules>, steps: &mut Steps<L>) -> Result<Outcome, AllocError>
+fn demanded<L: Ledger>(
+    graph: &mut Graph<PickRules>,
+    steps: &mut Steps<L>,
+) -> Result<Outcome, AllocError>
     ensures { graph.new.revision ≡ graph.old.revision }
 {
     let id = graph.demand(&PickRules {}, PickKey::Pick, steps)?;
@@ -59,7 +61,11 @@ fn demanded<L: Ledger>(graph: &mut Graph<PickRules>, steps: &mut Steps<L>) -> Re
 }
 
 /// Begins a revision, makes the edit and demands `Pick` where the turn says so.
-fn take_turn<L: Ledger>(graph: &mut Graph<PickRules>, turn: &Turn, steps: &mut Steps<L>) -> Result<Outcome, AllocError>
+fn take_turn<L: Ledger>(
+    graph: &mut Graph<PickRules>,
+    turn: &Turn,
+    steps: &mut Steps<L>,
+) -> Result<Outcome, AllocError>
     requires { graph.old.revision < 2 ^ 62 }
     ensures { graph.new.revision ≡ graph.old.revision + 1 }
 {
@@ -87,7 +93,11 @@ fn begun(alloc: Global) -> Result<Graph<PickRules>, AllocError>
 }
 
 /// Demands `Pick` and takes the turns, on a graph with the inputs 0, 5 and 7.
-pub fn play<L: Ledger>(alloc: Global, blank: Blank, turns: &[Turn]) -> Result<Vec<Outcome>, AllocError>
+pub fn play<L: Ledger>(
+    alloc: Global,
+    blank: Blank,
+    turns: &[Turn],
+) -> Result<Vec<Outcome>, AllocError>
     requires name { blank.name ≡ L.name }
     requires parts { blank.parts ≡ L.parts }
     requires some { 0 < L.parts }

@@ -11,4 +11,4 @@ returns-in-None-clause-step g c =
 pub returns-in-Some-get-clause-step : goal.returns-in-Some-get-clause-step
 returns-in-Some-get-clause-step g c =
     sym (step_first c.args.answers.now (Some c.in-Some.first.now) c.in-Some.ensures
-      ∙ step_second c.args.answers.now c.in-Some.first.now c.choose-other.result (Some c.in-Some-get.value.now) c.choose-other.ensures c.in-Some-get.ensures)
+    ∙ step_second c.args.answers.now c.in-Some.first.now c.choose-other.result (Some c.in-Some-get.value.now) c.choose-other.ensures c.in-Some-get.ensures)
