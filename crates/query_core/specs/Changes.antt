@@ -47,7 +47,7 @@ module _ {K V : Type 0} where
     pub place : (node_of q old r.key ≡ Some i) ⊎ ((at old i ≡ None) × (node_of q old r.key ≡ None))
     pub revision : new.revision ≡ old.revision
 
-  -- What setting an input does: its record alone is put, with the value and stamped by `IsStamped`.
+  -- What setting an input does: its record alone is put, with the value and stamped by `IsStamped`. So the inputs are as before but for this one.
   pub record SetsInput (q : Queries K V) (old new : Held K V) (k : K) (v : V) : Type 0 where
     pub node : ℕ
     pub entry : Node K V
@@ -57,6 +57,7 @@ module _ {K V : Type 0} where
     pub reads : entry.reads ≡ []
     pub stamped : IsStamped old.revision (record_of q old k) entry
     pub runs : new.runs ≡ old.runs
+    pub given : (x : K) → inputs q new x ≡ cond (q.same k x) v (inputs q old x)
 
   -- What a demand of the root leaves: its keys run at their nodes, all other records stay, and the only other new records are
   -- those of inputs that it reaches and that aren't set.
