@@ -128,26 +128,29 @@ module _ {K V : Type 0} where
     other_record : (x : K) → q.same r.key x ≡ false → record_of q new x ≡ record_of q old x
     other_record x n =
         ap (λ o. option_map_or (at new) o None) (puts.numbers x ∙ ap (λ b. cond b (Some i) (node_of q old x)) n) ∙
-        elim (node_of q old x) as (λ o. node_of q old x ≡ o → option_map_or (at new) o None ≡ option_map_or (at old) o None)
-          [ None ↦ (λ _. refl)
+        elim (node_of q old x) as (λ o. node_of q old x ≡ o → option_map_or (at new) o None ≡ option_map_or (at old) o None) [
+          | None ↦ (λ _. refl)
           | Some j ↦ (λ e. puts.others j (λ ji.
               let st = sound.numbers x j e in
               let key : r.key ≡ x = sym (same_key q laws old new i r sound puts st.0 (subst (λ m. at old m ≡ Some st.0) ji st.1)) ∙ st.2 in
-              let was_in : q.same r.key x ≡ true = subst (λ y. q.same r.key y ≡ true) key (laws.same_self r.key) in let bad : ⊥ = cc in bad)) ] refl
+              let was_in : q.same r.key x ≡ true = subst (λ y. q.same r.key y ≡ true) key (laws.same_self r.key) in let bad : ⊥ = cc in bad))
+        ] refl
 
     -- the inputs after one was put
     pub given_puts : (x : K) → inputs q new x ≡ cond (q.same r.key x) r.value (inputs q old x)
     given_puts x =
-        elim (q.same r.key x) as (λ b. q.same r.key x ≡ b → inputs q new x ≡ cond b r.value (inputs q old x))
-          [ true ↦ (λ e.
+        elim (q.same r.key x) as (λ b. q.same r.key x ≡ b → inputs q new x ≡ cond b r.value (inputs q old x)) [
+          | true ↦ (λ e.
               let key : r.key ≡ x = laws.same r.key x e in
               let was_in : q.is_input x ≡ true = subst (λ y. q.is_input y ≡ true) key is in
               let rec : record_of q new x ≡ Some r = ap (λ o. option_map_or (at new) o None) (puts.numbers x ∙ ap (λ b. cond b (Some i) (node_of q old x)) e) ∙ puts.here in
               reads_input new x was_in ∙ ap (λ o. option_map_or (λ (e' : Node K V). e'.value) o (q.unset x)) rec)
           | false ↦ (λ e.
-              elim (q.is_input x) as (λ b. q.is_input x ≡ b → inputs q new x ≡ inputs q old x)
-                [ true ↦ (λ was_in. reads_input new x was_in ∙ ap (λ o. option_map_or (λ (e' : Node K V). e'.value) o (q.unset x)) (other_record x e) ∙ sym (reads_input old x was_in))
-                | false ↦ (λ isnt. reads_unset new x isnt ∙ sym (reads_unset old x isnt)) ] refl) ] refl
+              elim (q.is_input x) as (λ b. q.is_input x ≡ b → inputs q new x ≡ inputs q old x) [
+                | true ↦ (λ was_in. reads_input new x was_in ∙ ap (λ o. option_map_or (λ (e' : Node K V). e'.value) o (q.unset x)) (other_record x e) ∙ sym (reads_input old x was_in))
+                | false ↦ (λ isnt. reads_unset new x isnt ∙ sym (reads_unset old x isnt))
+              ] refl)
+        ] refl
 
   -- what setting an input has to show
   pub record SetDone (q : Queries K V) (old new : Held K V) (k : K) (v : V) : Type 0 where
@@ -165,9 +168,18 @@ module _ {K V : Type 0} where
         let is' : q.is_input r.key ≡ true = subst (λ x. q.is_input x ≡ true) (sym key) is in
         record {
           sound = sound_puts q laws (held s n rs) (held s' n rs) i r sound puts (input_keeps q laws (held s n rs) sound fresh i r is' none (va, ca) still) (inl refl);
-          sets = record { node = i; entry = r; puts = puts; key = key; value = value; reads = none; stamped = stamped; runs = refl;
-              given = λ x. given_puts q laws (held s n rs) (held s' n rs) i r sound puts is' x
-                  ∙ ap (λ y. cond (q.same y x) r.value (inputs q (held s n rs) x)) key ∙ ap (λ w. cond (q.same k x) w (inputs q (held s n rs) x)) value };
+          sets = record {
+            node = i;
+            entry = r;
+            puts = puts;
+            key = key;
+            value = value;
+            reads = none;
+            stamped = stamped;
+            runs = refl;
+            given = λ x. given_puts q laws (held s n rs) (held s' n rs) i r sound puts is' x
+                ∙ ap (λ y. cond (q.same y x) r.value (inputs q (held s n rs) x)) key ∙ ap (λ w. cond (q.same k x) w (inputs q (held s n rs) x)) value;
+          };
           fresh = fresh_puts q laws (held s n rs) sound fresh (held s' n rs) i r puts is';
         }
 

@@ -1,5 +1,5 @@
 -- What the steps of a walk keep: a record is verified, a run is entered, an input that isn't set is made.
-use Rattle.std.proofs.Common.{◌≡◌, ◌≢◌, ℕ, zero, suc, ◌<◌, ◌≤◌, true, false, ◌||◌, ◌==◌, List, [], ◌∷◌, ◌++◌, length, refl, ap, sym, ◌∙◌, subst, inl, inr, ◌⊎◌, Some, None, arith, eq-eqb, get_or, IsSome}
+use Rattle.std.proofs.Common.{Result, Ok, Err, IfOk, ◌≡◌, ◌≢◌, ℕ, zero, suc, ◌<◌, ◌≤◌, true, false, ◌||◌, ◌==◌, List, [], ◌∷◌, ◌++◌, length, refl, ap, sym, ◌∙◌, subst, inl, inr, ◌⊎◌, Some, None, arith, eq-eqb, get_or, IsSome}
 use Rattle.std.specs.List.{slice_get}
 use Rattle.query_core.specs.Lists.{Has, Each}
 use Rattle.query_core.specs.Queries.{Queries, AreLawful, answers, GoesOn, next_key, done_with}
@@ -221,3 +221,30 @@ pub answered_len : {K V : Type 0} (q : Queries K V) (g : Held K V) (js : List �
 answered_len q g [] ks a = omega arith
 answered_len q g (j ∷ js) [] a = absurd a
 answered_len q g (j ∷ js) (k ∷ ks) a = let l = answered_len q g js ks a.1 in omega arith
+
+-- a read of a record has a record
+pub read_absent : {K V : Type 0} (q : Queries K V) (g : Held K V) → IsSound q g → (node place : ℕ) (kept_here : Node K V) → Some kept_here ≡ at g node → (reads : List ℕ) → reads ≡ kept_here.reads
+    → (r : Node K V) × ((at g node ≡ Some r) × (place < length r.reads)) → None ≡ at g (get_or reads place 0) → ⊥
+read_absent {K = K} {V = V} q g sound node place kept_here here reads is within absent =
+    let same : within.0 ≡ kept_here = (let e = within.1.0 in cc) in
+    let lt : place < length reads = subst (λ (l : List ℕ). place < length l) (ap (λ (x : Node K V). x.reads) same ∙ sym is) within.1.1 in
+    let st = sound.stands node (get_or reads place 0) kept_here (sym here) (subst (λ l. Has l (get_or reads place 0)) is (has_at reads place lt)) in
+    let e = st.1 in let bad : ⊥ = cc in bad
+
+pub key_read : {K V : Type 0} (g : Held K V) (node place : ℕ) (kept_here : Node K V) → Some kept_here ≡ at g node → (reads : List ℕ) → reads ≡ kept_here.reads
+    → (r : Node K V) × ((at g node ≡ Some r) × (place < length r.reads)) → (read : Node K V) → Some read ≡ at g (get_or reads place 0) → (key : K) → key ≡ read.key
+    → (r d : Node K V) (j : ℕ) → at g node ≡ Some r → slice_get r.reads place ≡ Some j → at g j ≡ Some d → d.key ≡ key
+key_read {K = K} {V = V} g node place kept_here here reads is within read at_read key key_is r d j e got at_j =
+    let same : r ≡ kept_here = cc in
+    let same' : within.0 ≡ kept_here = (let e' = within.1.0 in cc) in
+    let lt : place < length reads = subst (λ (l : List ℕ). place < length l) (ap (λ (x : Node K V). x.reads) same' ∙ sym is) within.1.1 in
+    let got' : slice_get reads place ≡ Some j = subst (λ (l : List ℕ). slice_get l place ≡ Some j) (ap (λ (x : Node K V). x.reads) same ∙ sym is) got in
+    let at_place = get_at reads place lt in
+    let index : get_or reads place 0 ≡ j = cc in
+    let at_j' : Some read ≡ at g j = subst (λ n. Some read ≡ at g n) index at_read in
+    let same_d : read ≡ d = cc in
+    sym (key_is ∙ ap (λ (x : Node K V). x.key) same_d)
+
+pub if_ok_from : {A E : Type 0} (r : Result A E) (P Q : A → Type 0) → ((a : A) → P a → Q a) → IfOk r P → IfOk r Q
+if_ok_from (Ok a) P Q f h = f a h
+if_ok_from (Err e) P Q f h = tt

@@ -2,12 +2,11 @@
 
 mod walk;
 
-ghost use Rattle.std.specs.Prelude.{◌≡◌, ℕ, ◌+◌, ◌<◌, ◌^◌, [], true, None, Some, OnOk, OnErr, IfSome, IsSome, IfOk, count_by, is_some, List, Option};
+ghost use Rattle.std.specs.Prelude.{◌≡◌, ℕ, ◌+◌, ◌<◌, ◌^◌, [], true, None, Some, OnOk, OnErr, IsSome, count_by, is_some, Option};
 ghost use Rattle.std.specs.Option.{option_map};
 ghost use Rattle.query_core.specs.Graph.{Held, at, node_of};
 ghost use Rattle.query_core.specs.Soundness.{IsSound};
 ghost use Rattle.query_core.specs.Changes.{IsFresh, SetsInput};
-ghost use Rattle.query_core.specs.declared.store.Node.{Node};
 
 use crate::keys::{Reads, TryCopy};
 use crate::rules::Rules;

@@ -1,11 +1,11 @@
 // The records of the keys: nodes in a slab, and the number of each key's node.
 
-ghost use Rattle.std.specs.Prelude.{◌≡◌, ℕ, IfOk, OnErr, OnOk, IsSome, None, Some, [], Option, List, count_by, is_some};
+ghost use Rattle.std.specs.Prelude.{◌≡◌, IfOk, OnErr, IsSome, None, Some, [], Option, count_by, is_some};
 ghost use Rattle.std.specs.Map.{lookup};
 ghost use Rattle.std.specs.Option.{option_copied};
 ghost use Rattle.query_core.specs.Stored.{Stored, Changes, Adds, node_at};
 ghost use Rattle.query_core.specs.declared.store.Node.{Node};
-ghost use Rattle.std.specs.Prelude.{if◌then◌else◌, Bool};
+ghost use Rattle.std.specs.Prelude.{if◌then◌else◌};
 
 use crate::keys::{Reads, TryCopy};
 use indexmap::IndexMap;

@@ -1,9 +1,8 @@
 // Cells over halved inputs: a diamond, a chain and a row. An edit that leaves the half of an input stops there.
 
-ghost use Rattle.std.specs.Prelude.{◌≡◌, ℕ, ◌+◌, ◌-◌, ◌<◌, ◌≤◌, [], ◌∷◌, drop, length, IfOk, nat_eq, ◌==◌, if◌then◌else◌, is_some};
+ghost use Rattle.std.specs.Prelude.{◌≡◌, ◌-◌, ◌<◌, ◌≤◌, [], ◌∷◌, drop, length, IfOk, ◌==◌, if◌then◌else◌, is_some};
 ghost use Rattle.std.specs.Map.{lookup};
 ghost use Rattle.query_tests.specs.declared.cells.Cell.TheVariants.{Half, Chain};
-ghost use Rattle.query_core.specs.declared.rules.Step.TheVariants.{Ask};
 ghost use Rattle.query_tests.specs.Cells.{cells, reads_of, rest_of, final, halves, answer_or_zero, same_cell};
 ghost use Rattle.query_tests.specs.CellLaws.{cells_lawful, same_cell_is};
 ghost use Rattle.query_tests.specs.PickLaws.{same_number_is};

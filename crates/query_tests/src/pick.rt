@@ -1,6 +1,6 @@
 // A choice: `Pick` asks the first input, then the second where the first is 0, else the third, and gives the last answer.
 
-ghost use Rattle.std.specs.Prelude.{◌≡◌, refl, IfOk};
+ghost use Rattle.std.specs.Prelude.{◌≡◌, IfOk};
 ghost use Rattle.std.specs.Prelude.{[], ◌∷◌};
 ghost use Rattle.query_core.specs.declared.rules.Step.TheVariants.{Ask};
 ghost use Rattle.query_tests.specs.Pick.{pick, chosen};

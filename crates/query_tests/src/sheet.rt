@@ -1,6 +1,6 @@
 // The cells, on a graph: edits and demands, and what each demand gave.
 
-ghost use Rattle.std.specs.Prelude.{◌≡◌, ℕ, ◌+◌, ◌<◌, ◌^◌, length};
+ghost use Rattle.std.specs.Prelude.{◌≡◌, ◌+◌, ◌<◌, ◌^◌, length};
 
 use crate::cells::{Cell, CellRules};
 use query_core::Graph;

@@ -1,9 +1,7 @@
 // The choice, played on a graph: edits and demands, and what each demand gave.
 
-ghost use Rattle.std.specs.Prelude.{◌≡◌, ℕ, ◌+◌, ◌<◌, ◌≤◌, ◌^◌, true, IfOk, length};
+ghost use Rattle.std.specs.Prelude.{◌≡◌, ◌+◌, ◌<◌, ◌^◌, true, IfOk, length};
 ghost use Rattle.query_tests.specs.Pick.{is_input_key};
-ghost use Rattle.query_core.specs.Changes.{IsFresh};
-ghost use Rattle.query_tests.specs.Pick.{pick};
 
 use crate::pick::{PickKey, PickRules};
 use query_core::Graph;

@@ -1,11 +1,11 @@
 // The walk of a demand, on a path of its own.
 
-ghost use Rattle.std.specs.Prelude.{◌≡◌, ◌≢◌, ℕ, ◌+◌, ◌<◌, ◌≤◌, ◌++◌, ◌∷◌, [], slice_get, true, false, None, Some, Ok, Err, OnOk, OnErr, IfSome, IsSome, IfOk, IfErr, IsOk, MatchOption, MatchResult, IsTrue, ◌↔◌, List, Option, length, reverse};
+ghost use Rattle.std.specs.Prelude.{◌≡◌, ℕ, ◌+◌, ◌<◌, ◌≤◌, ◌++◌, ◌∷◌, [], slice_get, true, false, None, Some, Ok, Err, OnOk, OnErr, IfSome, IsSome, IfOk, IsOk, Option, length};
 ghost use Rattle.std.specs.Option.{option_copied};
-ghost use Rattle.query_core.specs.Graph.{Held, at, node_of, record_of, inputs, is_current, is_verified};
+ghost use Rattle.query_core.specs.Graph.{at, node_of, record_of, is_current, is_verified};
 ghost use Rattle.query_core.specs.Soundness.{IsSound, kept};
 ghost use Rattle.query_core.specs.Queries.{ticks};
-ghost use Rattle.query_core.specs.Walk.{IsFrame, IsStage, IsChecking, IsRunning, IsHalt, IsGivenUp, halted, IsLook, IsLookAt, IsSettledTo, IsCollected, IsEntry, IsStep, Finishes, IsOutdated, AreAsked, AreAnswered};
+ghost use Rattle.query_core.specs.Walk.{IsFrame, IsStage, IsChecking, IsRunning, IsHalt, IsGivenUp, halted, IsLook, IsLookAt, IsSettledTo, IsCollected, IsEntry, IsStep, Finishes, AreAnswered};
 ghost use Rattle.query_core.specs.Lists.{Each, IsOnce};
 ghost use Rattle.query_core.specs.Changes.{IsHolding, IsRun, Leaves, Walked, ran};
 ghost use Rattle.query_core.specs.declared.store.Node.{Node};
@@ -90,7 +90,7 @@ impl<R: Rules> Graph<R> {
         ensures { IsLookAt R.queries self.now since node result }
     {
         let Some(read) = self.node(node) else {
-            return Look::Open;
+            unreachable!()
         };
         if !self.is_current(rules, read) {
             return Look::Open;
@@ -109,7 +109,7 @@ impl<R: Rules> Graph<R> {
         ensures { (r : Node R.Key R.Value) → at self.now node ≡ Some r → IsLook R.queries self.now r result }
     {
         let Some(kept) = self.node(node) else {
-            return Checked::Unchanged;
+            unreachable!()
         };
         let reads = kept.reads.as_slice();
         for at in place..reads.len() {
@@ -128,12 +128,13 @@ impl<R: Rules> Graph<R> {
         ensures { IfOk result (λ key. (r d : Node R.Key R.Value) (j : ℕ) → at self.now node ≡ Some r → slice_get r.reads place ≡ Some j → at self.now j ≡ Some d → d.key ≡ key) }
     {
         let Some(kept) = self.node(node) else {
-            return Err(AllocError);
+            unreachable!()
         };
-        let Some(read) = self.node(kept.reads.as_slice()[place]) else {
-            return Err(AllocError);
-        };
-        read.key.try_copy()
+        let index = kept.reads.as_slice()[place];
+        match self.node(index) {
+            Some(read) => read.key.try_copy(),
+            None => unreachable!(),
+        }
     }
 
     /// Takes the answers to what was asked, as far as it is verified, and gives the first key that isn't.
