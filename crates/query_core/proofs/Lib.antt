@@ -1,0 +1,12 @@
+pub mod Words
+pub mod Values
+pub mod Puts
+pub mod Calls
+pub mod Reading
+pub mod Steps
+pub mod Finishing
+pub mod Running
+pub mod Walking
+pub mod Leaving
+pub mod Ending
+pub mod Answering

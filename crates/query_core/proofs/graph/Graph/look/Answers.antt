@@ -1,0 +1,14 @@
+use Rattle.query_core.proofs.graph.Graph.look.Goals as goal
+use Rattle.query_core.proofs.Steps.{read_stands, look_altered, look_open}
+
+pub look_at-requires : goal.look_at-requires
+look_at-requires g c =
+    read_stands g.R.Rules.queries c.args.self.now c.args.node c.in-Some.kept.now c.in-Some.ensures.value c.as_slice-reads.result.now c.as_slice-reads.ensures c.loop-at.at c.loop-at-test.true c.node.ensures.sound
+
+pub returns-in-Altered : goal.returns-in-Altered
+returns-in-Altered g c =
+    look_altered g.R.Rules.queries c.args.self.now c.args.node c.in-Some.kept.now c.in-Some.ensures.value c.as_slice-reads.result.now c.as_slice-reads.ensures c.loop-at.at c.loop-at-test.true c.in-Altered.ensures
+
+pub returns-in-Open : goal.returns-in-Open
+returns-in-Open g c =
+    look_open g.R.Rules.queries c.args.self.now c.args.node c.in-Some.kept.now c.in-Some.ensures.value c.as_slice-reads.result.now c.as_slice-reads.ensures c.loop-at.at c.loop-at-test.true c.loop-at.invariant c.in-Open.ensures

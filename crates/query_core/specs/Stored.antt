@@ -1,0 +1,26 @@
+-- The nodes with their records, and the node of each key, as they are kept.
+use Rattle.std.specs.Prelude.{◌≡◌, ◌≢◌, ℕ, Bool, cond, List, Option, Some, None, slice_index_or}
+use Rattle.std.specs.Map.{lookup}
+use Rattle.query_core.specs.declared.store.Node.{Node}
+
+pub record Stored (K V : Type 0) : Type 0 where
+  pub nodes : List (Option (Node K V))
+  pub numbers : List (K × ℕ)
+
+module _ {K V : Type 0} where
+  -- the record at a node
+  abbrev pub node_at : Stored K V → ℕ → Option (Node K V)
+  node_at s node = slice_index_or s.nodes node None
+
+  -- the node i alone was changed, to the record r
+  pub record Changes (old new : Stored K V) (i : ℕ) (r : Node K V) : Type 0 where
+    pub here : node_at new i ≡ Some r
+    pub others : (j : ℕ) → j ≢ i → node_at new j ≡ node_at old j
+    pub numbers : new.numbers ≡ old.numbers
+
+  -- the record r was added at the free node i, for its key
+  pub record Adds (eq : K → K → Bool) (old new : Stored K V) (i : ℕ) (r : Node K V) : Type 0 where
+    pub free : node_at old i ≡ None
+    pub here : node_at new i ≡ Some r
+    pub others : (j : ℕ) → j ≢ i → node_at new j ≡ node_at old j
+    pub numbers : (k : K) → lookup (eq k) new.numbers ≡ cond (eq r.key k) (Some i) (lookup (eq k) old.numbers)

@@ -1,0 +1,61 @@
+// The path of a demand: a frame for each key whose value is being worked out.
+
+use crate::keys::{Answered, Keys};
+
+/// A key whose value is being worked out.
+#[derive(Drop)]
+pub(crate) struct Frame<K> {
+    pub(crate) key: K,
+    pub(crate) stage: Stage<K>,
+}
+
+/// How far the work on a key has come.
+#[derive(Drop)]
+pub(crate) enum Stage<K> {
+    /// It is an input without a record.
+    Unset,
+    /// The reads of its record, which stands at the node, are verified and unchanged before the place.
+    Check(usize, usize),
+    /// It runs: the keys that it asked for, and the nodes that hold the values of the first of them.
+    Run(Keys<K>, Answered),
+}
+
+/// What a step of the walk gives.
+#[derive(Drop)]
+pub(crate) enum Moved<K> {
+    /// The frame waits for this key, which isn't verified.
+    Waits(Frame<K>, K),
+    /// The key of the frame was verified at this node.
+    Done(usize),
+}
+
+/// What a look at one read of a record says.
+#[derive(Drop)]
+pub(crate) enum Look {
+    /// It is verified and unchanged.
+    Settled,
+    /// It is verified and has changed.
+    Altered,
+    /// It isn't verified.
+    Open,
+}
+
+/// What a look at the reads of a record says.
+#[derive(Drop)]
+pub(crate) enum Checked {
+    /// All are verified and unchanged.
+    Unchanged,
+    /// One is verified and has changed.
+    Changed,
+    /// The one at this place isn't verified; those before it are, and are unchanged.
+    Stale(usize),
+}
+
+/// Where a run halts.
+#[derive(Drop)]
+pub(crate) enum Halt<K, V> {
+    /// At this key, which it asked for and which isn't verified.
+    Pauses(K),
+    /// With the value of its key.
+    Ends(V),
+}

@@ -1,0 +1,400 @@
+// The walk of a demand, on a path of its own.
+
+ghost use Rattle.std.specs.Prelude.{◌≡◌, ℕ, ◌+◌, ◌<◌, ◌≤◌, ◌++◌, ◌∷◌, [], slice_get, true, false, None, Some, Ok, Err, OnOk, OnErr, IfSome, IsSome, IfOk, IsOk, Option, length};
+ghost use Rattle.std.specs.Option.{option_copied};
+ghost use Rattle.query_core.specs.Graph.{at, node_of, record_of, is_current, is_verified};
+ghost use Rattle.query_core.specs.Soundness.{IsSound, kept};
+ghost use Rattle.query_core.specs.Queries.{ticks};
+ghost use Rattle.query_core.specs.Walk.{IsFrame, IsStage, IsChecking, IsRunning, IsHalt, IsGivenUp, halted, IsLook, IsLookAt, IsSettledTo, IsCollected, IsEntry, IsStep, Finishes, AreAnswered};
+ghost use Rattle.query_core.specs.Lists.{Each, IsOnce};
+ghost use Rattle.query_core.specs.Changes.{IsHolding, IsRun, Leaves, Walked, ran};
+ghost use Rattle.query_core.specs.declared.store.Node.{Node};
+
+use super::{Graph, NodeId};
+use crate::frame::{Checked, Frame, Halt, Look, Moved, Stage};
+use crate::keys::{Answered, Keys, Reads, TryCopy};
+use crate::rules::{Answers, Rules, Step};
+use crate::store::Node;
+use std::alloc::AllocError;
+use std::sync::ledger::Ledger;
+use steps::Steps;
+
+impl<R: Rules> Graph<R> {
+    /// Whether the record was verified now.
+    fn is_current(&self, rules: &R, node: &Node<R::Key, R::Value>) -> bool
+        ensures { result ≡ is_current R.queries self.now node.now }
+    {
+        rules.is_input(&node.key) || node.verified_at == self.revision
+    }
+
+    /// The node of a key.
+    fn node_of(&self, key: &R::Key) -> Option<usize>
+        ensures value { result ≡ node_of R.queries self.now key.now }
+        ensures sound { IsSound R.queries self.now }
+    {
+        self.store.node_of(key)
+    }
+
+    /// The record at a node.
+    fn node(&self, node: usize) -> Option<&Node<R::Key, R::Value>>
+        ensures value { option_copied result ≡ at self.now node }
+        ensures sound { IsSound R.queries self.now }
+    {
+        self.store.node(node)
+    }
+
+    /// The node of a key whose record was verified now.
+    #[tactic(auto, using(crate::proofs::Reading::verified_is))]
+    fn current(&self, rules: &R, key: &R::Key) -> Option<usize>
+        ensures sound { IsSound R.queries self.now }
+        ensures none { result ≡ None → is_verified R.queries self.now key.now ≡ false }
+        ensures some { IfSome result (λ i. (node_of R.queries self.now key.now ≡ Some i) × (is_verified R.queries self.now key.now ≡ true)) }
+    {
+        let node = self.node_of(key)?;
+        let kept = self.node(node)?;
+        if self.is_current(rules, kept) {
+            Some(node)
+        } else {
+            None
+        }
+    }
+
+    /// How the work on a key that isn't verified begins.
+    fn first_stage(&self, rules: &R, key: &R::Key) -> Stage<R::Key>
+        requires { is_verified R.queries self.now key.now ≡ false }
+        ensures { IsStage R.queries self.now key.now result }
+    {
+        let found = self.node_of(key);
+        if rules.is_input(key) {
+            return Stage::Unset;
+        }
+        match found {
+            Some(node) => Stage::Check(node, 0),
+            None => Stage::Run(Keys::new(self.alloc), Answered::new(self.alloc)),
+        }
+    }
+
+    /// A frame for a key that isn't verified.
+    fn begin(&self, rules: &R, key: R::Key) -> Frame<R::Key>
+        requires { is_verified R.queries self.now key ≡ false }
+        ensures key { result.key ≡ key }
+        ensures frame { IsFrame R.queries self.now result }
+    {
+        let stage = self.first_stage(rules, &key);
+        Frame { key, stage }
+    }
+
+    /// Looks at one read of a record that was last verified in the revision `since`.
+    fn look_at(&self, rules: &R, node: usize, since: u64) -> Look
+        requires { IsSome (at self.now node) }
+        ensures { IsLookAt R.queries self.now since node result }
+    {
+        let Some(read) = self.node(node) else {
+            unreachable!()
+        };
+        if !self.is_current(rules, read) {
+            return Look::Open;
+        }
+        if read.changed_at <= since {
+            Look::Settled
+        } else {
+            Look::Altered
+        }
+    }
+
+    /// Looks at the reads of a record from a place on: each one only after all earlier ones are verified and unchanged.
+    fn look(&self, rules: &R, node: usize, place: usize) -> Checked
+        requires stands { IsSome (at self.now node) }
+        requires so_far { (r : Node R.Key R.Value) → at self.now node ≡ Some r → IsSettledTo R.queries self.now r place }
+        ensures { (r : Node R.Key R.Value) → at self.now node ≡ Some r → IsLook R.queries self.now r result }
+    {
+        let Some(kept) = self.node(node) else {
+            unreachable!()
+        };
+        let reads = kept.reads.as_slice();
+        for at in place..reads.len() {
+            match self.look_at(rules, reads[at], kept.verified_at) {
+                Look::Settled => {}
+                Look::Altered => return Checked::Changed,
+                Look::Open => return Checked::Stale(at),
+            }
+        }
+        Checked::Unchanged
+    }
+
+    /// The key of a read of a record.
+    fn read_key(&self, node: usize, place: usize) -> Result<R::Key, AllocError>
+        requires { (r : Node R.Key R.Value) × ((at self.now node ≡ Some r) × (place < length r.reads)) }
+        ensures { IfOk result (λ key. (r d : Node R.Key R.Value) (j : ℕ) → at self.now node ≡ Some r → slice_get r.reads place ≡ Some j → at self.now j ≡ Some d → d.key ≡ key) }
+    {
+        let Some(kept) = self.node(node) else {
+            unreachable!()
+        };
+        let index = kept.reads.as_slice()[place];
+        match self.node(index) {
+            Some(read) => read.key.try_copy(),
+            None => unreachable!(),
+        }
+    }
+
+    /// Takes the answers to what was asked, as far as it is verified, and gives the first key that isn't.
+    fn collect(
+        &self,
+        rules: &R,
+        asked: &Keys<R::Key>,
+        answered: &mut Answered,
+    ) -> Result<Option<R::Key>, AllocError>
+        requires { AreAnswered R.queries self.now asked.now answered.old }
+        ensures { IfOk result (IsCollected R.queries self.now asked.now answered.new) }
+    {
+        let keys = asked.as_slice();
+        for place in answered.len()..keys.len() {
+            let key = &keys[place];
+            match self.current(rules, key) {
+                Some(node) => answered.push(node)?,
+                None => {
+                    let on = key.try_copy()?;
+                    return Ok(Some(on));
+                }
+            }
+        }
+        Ok(None)
+    }
+
+    /// Asks the rules what a run does next.
+    fn round<L: Ledger>(
+        &self,
+        rules: &R,
+        key: &R::Key,
+        answered: &Answered,
+        steps: &mut Steps<L>,
+    ) -> Result<Step<R::Key, R::Value>, AllocError>
+        ensures step { IfOk result (λ s. s ≡ R.queries.step key.now (kept self.now answered.now)) }
+        ensures ticks { steps.new ≡ steps.old + ticks result }
+        ensures sound { IsSound R.queries self.now }
+    {
+        let answers = Answers::new(&self.store, answered);
+        rules.next(self.alloc, key, &answers, steps)
+    }
+
+    /// Marks the record of a key as verified: all its reads are verified and unchanged.
+    fn touch(&mut self, key: &R::Key, node: usize)
+        requires no_input { R.queries.is_input key.now ≡ false }
+        requires stale { is_verified R.queries self.old key.now ≡ false }
+        requires numbered { node_of R.queries self.old key.now ≡ Some node }
+        requires settled { (r : Node R.Key R.Value) → at self.old node ≡ Some r → IsSettledTo R.queries self.old r (length r.reads) }
+        ensures finishes { Finishes R.queries self.old self.new key.now node }
+        ensures sound { IsSound R.queries self.new }
+        ensures runs { self.new.runs ≡ self.old.runs }
+    {
+        let now = self.revision;
+        self.store.verify(node, now);
+    }
+
+    /// Makes the record of an input that isn't set.
+    fn add_unset(&mut self, rules: &R, key: R::Key) -> Result<usize, AllocError>
+        requires input { R.queries.is_input key ≡ true }
+        requires absent { record_of R.queries self.old key ≡ None }
+        ensures finishes { IfOk result (λ node. Finishes R.queries self.old self.new key node) }
+        ensures sound { OnOk result (IsSound R.queries self.new) }
+        ensures runs { self.new.runs ≡ self.old.runs }
+        ensures err { OnErr result (self.new ≡ self.old) }
+    {
+        let value = rules.unset(self.alloc, &key)?;
+        let reads = Reads::new(self.alloc);
+        let now = self.revision;
+        let node = self.store.add(key, value, reads, now)?;
+        Ok(node)
+    }
+
+    /// Enters the value of a run.
+    fn enter(&mut self, key: R::Key, value: R::Value, reads: Reads) -> Result<usize, AllocError>
+        requires { IsEntry R.queries self.old key value reads }
+        ensures finishes { IfOk result (λ node. Finishes R.queries self.old self.new key node) }
+        ensures sound { OnOk result (IsSound R.queries self.new) }
+        ensures runs { OnOk result (self.new.runs ≡ self.old.runs ++ key ∷ []) }
+        ensures err { OnErr result (self.new ≡ self.old) }
+    {
+        let now = self.revision;
+        self.runs.reserve(1)?;
+        let ran = key.try_copy()?;
+        match self.store.node_of(&key) {
+            Some(node) => {
+                self.store.renew(node, value, reads, now);
+                self.runs.push_reserved(ran);
+                Ok(node)
+            }
+            None => {
+                let node = self.store.add(key, value, reads, now)?;
+                self.runs.push_reserved(ran);
+                Ok(node)
+            }
+        }
+    }
+
+    /// Lets a run go on until it has its value or asks for a key that isn't verified.
+    fn go_on<L: Ledger>(
+        &self,
+        rules: &R,
+        key: &R::Key,
+        asked: &mut Keys<R::Key>,
+        answered: &mut Answered,
+        steps: &mut Steps<L>,
+    ) -> Result<Halt<R::Key, R::Value>, AllocError>
+        requires { IsRunning R.queries self.now key.now asked.old answered.old }
+        ensures halt { IfOk result (IsHalt R.queries self.now key.now asked.new answered.new) }
+        ensures ticks { steps.new ≡ steps.old + halted result }
+    {
+        'rounds: loop {
+            let open = self.collect(rules, asked, answered)?;
+            match open {
+                Some(on) => return Ok(Halt::Pauses(on)),
+                None => {}
+            }
+            let step = self.round(rules, key, answered, steps)?;
+            match step {
+                Step::Ask(more) => asked.append(more)?,
+                Step::Done(value) => return Ok(Halt::Ends(value)),
+            }
+        }
+    }
+
+    /// A step of the walk on a key that runs.
+    fn run<L: Ledger>(
+        &mut self,
+        rules: &R,
+        key: R::Key,
+        asked: Keys<R::Key>,
+        answered: Answered,
+        steps: &mut Steps<L>,
+    ) -> Result<Moved<R::Key>, AllocError>
+        requires stale { is_verified R.queries self.old key ≡ false }
+        requires running { IsRunning R.queries self.old key asked answered }
+        ensures ok { IfOk result (IsStep R.queries self.old self.new key steps.old steps.new) }
+        ensures err { OnErr result (IsGivenUp self.old self.new steps.old steps.new) }
+    {
+        let mut asked = asked;
+        let mut answered = answered;
+        let halt = self.go_on(rules, &key, &mut asked, &mut answered, steps)?;
+        match halt {
+            Halt::Pauses(on) => {
+                let stage = Stage::Run(asked, answered);
+                Ok(Moved::Waits(Frame { key, stage }, on))
+            }
+            Halt::Ends(value) => {
+                let node = self.enter(key, value, answered.into_reads())?;
+                Ok(Moved::Done(node))
+            }
+        }
+    }
+
+    /// A step of the walk on a key whose record is looked at.
+    fn check<L: Ledger>(
+        &mut self,
+        rules: &R,
+        key: R::Key,
+        node: usize,
+        place: usize,
+        steps: &mut Steps<L>,
+    ) -> Result<Moved<R::Key>, AllocError>
+        requires stale { is_verified R.queries self.old key ≡ false }
+        requires checking { IsChecking R.queries self.old key node place }
+        ensures ok { IfOk result (IsStep R.queries self.old self.new key steps.old steps.new) }
+        ensures err { OnErr result (IsGivenUp self.old self.new steps.old steps.new) }
+    {
+        match self.look(rules, node, place) {
+            Checked::Unchanged => {
+                self.touch(&key, node);
+                Ok(Moved::Done(node))
+            }
+            Checked::Changed => {
+                let asked = Keys::new(self.alloc);
+                let answered = Answered::new(self.alloc);
+                self.run(rules, key, asked, answered, steps)
+            }
+            Checked::Stale(place) => {
+                let on = self.read_key(node, place)?;
+                let stage = Stage::Check(node, place);
+                Ok(Moved::Waits(Frame { key, stage }, on))
+            }
+        }
+    }
+
+    /// A step of the walk: the key is finished, or waits for another one.
+    fn advance<L: Ledger>(
+        &mut self,
+        rules: &R,
+        frame: Frame<R::Key>,
+        steps: &mut Steps<L>,
+    ) -> Result<Moved<R::Key>, AllocError>
+        requires { IsFrame R.queries self.old frame }
+        ensures ok { IfOk result (IsStep R.queries self.old self.new frame.key steps.old steps.new) }
+        ensures err { OnErr result (IsGivenUp self.old self.new steps.old steps.new) }
+    {
+        let Frame { key, stage } = frame;
+        match stage {
+            Stage::Unset => {
+                let node = self.add_unset(rules, key)?;
+                Ok(Moved::Done(node))
+            }
+            Stage::Check(node, place) => self.check(rules, key, node, place, steps),
+            Stage::Run(asked, answered) => self.run(rules, key, asked, answered, steps),
+        }
+    }
+
+    /// Walks from a key that isn't verified, on a path of its own.
+    fn walk<L: Ledger>(
+        &mut self,
+        rules: &R,
+        key: R::Key,
+        steps: &mut Steps<L>,
+    ) -> Result<NodeId, AllocError>
+        requires { is_verified R.queries self.old key ≡ false }
+        ensures walked { Walked R.queries self.old key self.new }
+        ensures ok { IfOk result (λ id. IsHolding R.queries self.old self.new key id × (steps.new ≡ steps.old + length (ran self.old self.new))) }
+        ensures err { OnErr result ((steps.old + length (ran self.old self.new) ≤ steps.new) × (steps.new ≤ steps.old + length (ran self.old self.new) + 1)) }
+    {
+        let mut path: Vec<Frame<R::Key>> = Vec::new(self.alloc);
+        let mut top = self.begin(rules, key);
+        'steps: loop {
+            let moved = self.advance(rules, top, steps)?;
+            match moved {
+                Moved::Waits(frame, on) => {
+                    path.reserve(1)?;
+                    path.push_reserved(frame);
+                    top = self.begin(rules, on);
+                }
+                Moved::Done(index) => match path.pop() {
+                    Some(frame) => top = frame,
+                    None => return Ok(NodeId { index }),
+                },
+            }
+        }
+    }
+
+    /// The node of a key, whose record is verified now and holds the key's value over the inputs.
+    ///
+    /// What is due on the way runs; each run is one step of the counter and one key of `runs`. A key that was verified in this revision is answered without
+    /// memory. After want of memory the graph is sound, and each record whose key didn't run stands as before or counts as verified now;
+    /// the counter has then risen by the number of runs, or by one more where a value was worked out and couldn't be kept.
+    pub fn demand<L: Ledger>(
+        &mut self,
+        rules: &R,
+        key: R::Key,
+        steps: &mut Steps<L>,
+    ) -> Result<NodeId, AllocError>
+        ensures sound { IsSound R.queries self.new }
+        ensures holds { IfOk result (λ id. IsHolding R.queries self.old self.new key id) }
+        ensures leaves { Leaves R.queries self.old self.new key (ran self.old self.new) }
+        ensures due { Each (IsRun R.queries self.old key) (ran self.old self.new) }
+        ensures once { IsOnce self.new.runs }
+        ensures counted { OnOk result (steps.new ≡ steps.old + length (ran self.old self.new)) }
+        ensures given_up { OnErr result ((steps.old + length (ran self.old self.new) ≤ steps.new) × (steps.new ≤ steps.old + length (ran self.old self.new) + 1)) }
+        ensures again { is_verified R.queries self.old key ≡ true → IsOk result × (self.new ≡ self.old) × (steps.new ≡ steps.old) }
+    {
+        if let Some(index) = self.current(rules, &key) {
+            return Ok(NodeId { index });
+        }
+        self.walk(rules, key, steps)
+    }
+}

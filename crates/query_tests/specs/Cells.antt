@@ -1,0 +1,89 @@
+-- The cells, as queries.
+use Rattle.std.specs.Prelude.{◌≡◌, ℕ, zero, suc, ◌+◌, ◌-◌, ◌<◌, ◌==◌, ◌/◌, Bool, true, false, cond, if◌then◌else◌, List, [], ◌∷◌, ◌++◌, length, Option, Some, None}
+use Rattle.std.specs.Map.{lookup}
+use Rattle.query_core.specs.Queries.{Queries}
+use Rattle.query_core.specs.declared.rules.Step.{Step}
+use Rattle.query_core.specs.declared.rules.Step.TheVariants.{Ask, Done}
+use Rattle.query_tests.specs.declared.cells.Cell.{Cell}
+use Rattle.query_tests.specs.declared.cells.Cell.TheVariants.{Input, Half, Chain, Wide, Left, Right, Top}
+
+abbrev pub same_cell : Cell → Cell → Bool
+same_cell (Input a) (Input b) = a == b
+same_cell (Half a) (Half b) = a == b
+same_cell (Chain a) (Chain b) = a == b
+same_cell (Wide a) (Wide b) = a == b
+same_cell Left Left = true
+same_cell Right Right = true
+same_cell Top Top = true
+same_cell a b = false
+
+abbrev pub is_input_cell : Cell → Bool
+is_input_cell (Input n) = true
+is_input_cell c = false
+
+-- the first halves
+abbrev pub halves : ℕ → List Cell
+halves zero = []
+halves (suc n) = halves n ++ Half n ∷ []
+
+-- what a cell reads
+abbrev pub reads_of : Cell → List Cell
+reads_of (Input n) = []
+reads_of (Half n) = Input n ∷ []
+reads_of (Chain n) = (if n == 0 then Half 0 else Chain (n - 1)) ∷ []
+reads_of (Wide n) = halves n
+reads_of Left = Half 0 ∷ []
+reads_of Right = Half 0 ∷ []
+reads_of Top = Left ∷ Right ∷ []
+
+-- the value of a cell, in terms of the inputs
+abbrev pub worth : (Cell → ℕ) → Cell → ℕ
+worth given (Input n) = given (Input n)
+worth given (Half n) = given (Input n) / 2
+worth given (Chain n) = given (Input 0) / 2
+worth given (Wide n) = if n == 0 then 0 else given (Input (n - 1)) / 2
+worth given Left = given (Input 0) / 2
+worth given Right = given (Input 0) / 2
+worth given Top = given (Input 0) / 2
+
+abbrev pub level : Cell → ℕ
+level (Input n) = 0
+level (Half n) = 1
+level (Chain n) = n + 2
+level (Wide n) = 2
+level Left = 2
+level Right = 2
+level Top = 3
+
+-- the cells from the first on that isn't answered
+abbrev pub rest_of : List (Cell × ℕ) → List Cell → List Cell
+rest_of answers [] = []
+rest_of answers (c ∷ cs) = elim (lookup (same_cell c) answers) [ None ↦ c ∷ cs | Some v ↦ rest_of answers cs ]
+
+-- the value of a cell from the answers to all that it reads
+abbrev pub answer_or_zero : List (Cell × ℕ) → Cell → ℕ
+answer_or_zero answers c = elim (lookup (same_cell c) answers) [ None ↦ 0 | Some v ↦ v ]
+
+abbrev pub final : Cell → List (Cell × ℕ) → ℕ
+final (Input n) answers = 0
+final (Half n) answers = answer_or_zero answers (Input n) / 2
+final (Chain n) answers = answer_or_zero answers (if n == 0 then Half 0 else Chain (n - 1))
+final (Wide n) answers = if n == 0 then 0 else answer_or_zero answers (Half (n - 1))
+final Left answers = answer_or_zero answers (Half 0)
+final Right answers = answer_or_zero answers (Half 0)
+final Top answers = answer_or_zero answers Right
+
+abbrev pub step_with : Cell → List (Cell × ℕ) → List Cell → Step Cell ℕ
+step_with c answers [] = Done (final c answers)
+step_with c answers (r ∷ rs) = Ask (r ∷ rs)
+
+abbrev pub cells : Queries Cell ℕ
+cells = record {
+  same = same_cell;
+  is_input = is_input_cell;
+  unset = λ _. 0;
+  step = λ c answers. step_with c answers (rest_of answers (reads_of c));
+  val = worth;
+  asks = λ given c. reads_of c;
+  rank = λ given c. level c;
+}

@@ -1,0 +1,4 @@
+pub mod Pick
+pub mod PickLaws
+pub mod Cells
+pub mod CellLaws

@@ -1,0 +1,186 @@
+// Cells over halved inputs: a diamond, a chain and a row. An edit that leaves the half of an input stops there.
+
+ghost use Rattle.std.specs.Prelude.{◌≡◌, ◌-◌, ◌<◌, ◌≤◌, [], ◌∷◌, drop, length, IfOk, ◌==◌, if◌then◌else◌, is_some};
+ghost use Rattle.std.specs.Map.{lookup};
+ghost use Rattle.query_tests.specs.declared.cells.Cell.TheVariants.{Half, Chain};
+ghost use Rattle.query_tests.specs.Cells.{cells, reads_of, rest_of, final, halves, answer_or_zero, same_cell};
+ghost use Rattle.query_tests.specs.CellLaws.{cells_lawful, same_cell_is};
+ghost use Rattle.query_tests.specs.PickLaws.{same_number_is};
+
+use query_core::{Answers, Keys, Rules, Step, TryCopy};
+use std::alloc::{AllocError, Global};
+use std::sync::ledger::Ledger;
+use steps::Steps;
+
+/// The cells.
+#[derive(Clone, Copy, PartialEq, Eq, Hash, Drop)]
+pub enum Cell {
+    /// An input.
+    Input(u32),
+    /// Half of the input of the same number.
+    Half(u32),
+    /// As the cell before it; the first is the half of input 0.
+    Chain(u32),
+    /// Reads so many halves, and is the last of them.
+    Wide(u32),
+    /// One side of the diamond, over the half of input 0.
+    Left,
+    /// The other side.
+    Right,
+    /// Reads both sides.
+    Top,
+}
+
+impl TryCopy for Cell {
+    fn try_copy(&self) -> Result<Self, AllocError> {
+        Ok(*self)
+    }
+}
+
+/// The rules of the cells.
+#[derive(Drop)]
+pub struct CellRules {}
+
+/// The first halves.
+fn first_halves(alloc: Global, number: u32) -> Result<Vec<Cell>, AllocError>
+    ensures { IfOk result (λ v. v.items ≡ halves number) }
+{
+    let mut cells = Vec::new(alloc);
+    for i in 0..number {
+        cells.push(Cell::Half(i))?;
+    }
+    Ok(cells)
+}
+
+/// The cell that a chain's cell reads.
+fn before(number: u32) -> Cell
+    ensures { result ≡ (if number == 0 then Half 0 else Chain (number - 1)) }
+{
+    if number == 0 {
+        Cell::Half(0)
+    } else {
+        Cell::Chain(number - 1)
+    }
+}
+
+/// One cell, as a list.
+fn one(alloc: Global, cell: Cell) -> Result<Vec<Cell>, AllocError>
+    ensures { IfOk result (λ v. v.items ≡ cell ∷ []) }
+{
+    let mut cells = Vec::new(alloc);
+    cells.push(cell)?;
+    Ok(cells)
+}
+
+/// What a cell reads.
+fn reads(alloc: Global, cell: Cell) -> Result<Vec<Cell>, AllocError>
+    ensures { IfOk result (λ v. v.items ≡ reads_of cell) }
+{
+    match cell {
+        Cell::Input(_) => Ok(Vec::new(alloc)),
+        Cell::Half(number) => one(alloc, Cell::Input(number)),
+        Cell::Chain(number) => one(alloc, before(number)),
+        Cell::Wide(number) => first_halves(alloc, number),
+        Cell::Left => one(alloc, Cell::Half(0)),
+        Cell::Right => one(alloc, Cell::Half(0)),
+        Cell::Top => {
+            let mut cells = one(alloc, Cell::Left)?;
+            cells.push(Cell::Right)?;
+            Ok(cells)
+        }
+    }
+}
+
+/// Whether the cell is answered.
+fn is_answered(answers: &Answers<'_, Cell, u32>, cell: &Cell) -> bool
+    ensures { result ≡ is_some (lookup (same_cell cell.now) answers.now) }
+{
+    answers.get(cell).is_some()
+}
+
+/// The place of the first cell that isn't answered, or the length.
+fn first_missing(reads: &[Cell], answers: &Answers<'_, Cell, u32>) -> usize
+    ensures within { result ≤ length reads.now }
+    ensures rest { drop result reads.now ≡ rest_of answers.now reads.now }
+{
+    for (place, cell) in reads.iter().enumerate() {
+        if !is_answered(answers, cell) {
+            return place;
+        }
+    }
+    reads.len()
+}
+
+/// The answer of a cell, or 0.
+fn answer(answers: &Answers<'_, Cell, u32>, cell: Cell) -> u32
+    ensures { result ≡ answer_or_zero answers.now cell }
+{
+    match answers.get(&cell) {
+        Some(value) => *value,
+        None => 0,
+    }
+}
+
+/// The value of a cell whose reads are answered.
+fn value(cell: Cell, answers: &Answers<'_, Cell, u32>) -> u32
+    ensures { result ≡ final cell answers.now }
+{
+    match cell {
+        Cell::Input(_) => 0,
+        Cell::Half(number) => answer(answers, Cell::Input(number)) / 2,
+        Cell::Chain(number) => answer(answers, before(number)),
+        Cell::Wide(number) => {
+            if number == 0 {
+                0
+            } else {
+                answer(answers, Cell::Half(number - 1))
+            }
+        }
+        Cell::Left => answer(answers, Cell::Half(0)),
+        Cell::Right => answer(answers, Cell::Half(0)),
+        Cell::Top => answer(answers, Cell::Right),
+    }
+}
+
+impl Rules for CellRules {
+    type Key = Cell;
+
+    type Value = u32;
+
+    ghost queries = { cells };
+
+    fn is_input(&self, key: &Cell) -> bool {
+        match key {
+            Cell::Input(_) => true,
+            Cell::Half(_) | Cell::Chain(_) | Cell::Wide(_) => false,
+            Cell::Left | Cell::Right | Cell::Top => false,
+        }
+    }
+
+    fn unset(&self, _alloc: Global, _key: &Cell) -> Result<u32, AllocError> {
+        Ok(0)
+    }
+
+    fn next<L: Ledger>(
+        &self,
+        alloc: Global,
+        key: &Cell,
+        answers: &Answers<'_, Cell, u32>,
+        steps: &mut Steps<L>,
+    ) -> Result<Step<Cell, u32>, AllocError> {
+        let mut reads = reads(alloc, *key)?;
+        let missing = first_missing(&reads, answers);
+        if missing < reads.len() {
+            let rest = reads.split_off(missing)?;
+            return Ok(Step::Ask(Keys::from_vec(rest)));
+        }
+        steps.tick();
+        Ok(Step::Done(value(*key, answers)))
+    }
+
+    ghost same_keys = { same_cell_is };
+
+    ghost same_values = { same_number_is };
+
+    ghost lawful = { cells_lawful };
+}

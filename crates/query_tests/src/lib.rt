@@ -1,0 +1,174 @@
+// Small rules for the query graph, and what a graph does over them.
+#![tactic(auto)]
+
+mod cells;
+mod pick;
+mod sheet;
+mod turns;
+
+pub use cells::{Cell, CellRules};
+pub use pick::{PickKey, PickRules};
+pub use sheet::{Edit, Shown, edit_all};
+pub use turns::{Input, Outcome, Turn, play};
+
+#[cfg(test)]
+mod tests {
+    use super::*;
+    use std::marker::Brand;
+    use std::sync::ledger::Blank;
+
+    static TURNS: [Turn; 5] = [
+        Turn {
+            input: Input::In2,
+            value: 8,
+            demands: true,
+        },
+        Turn {
+            input: Input::In0,
+            value: 1,
+            demands: true,
+        },
+        Turn {
+            input: Input::In1,
+            value: 6,
+            demands: true,
+        },
+        Turn {
+            input: Input::In0,
+            value: 0,
+            demands: false,
+        },
+        Turn {
+            input: Input::In0,
+            value: 1,
+            demands: true,
+        },
+    ];
+
+    static WANTED: [Outcome; 6] = [
+        Outcome {
+            value: Some(5),
+            runs: 1,
+            records: 4,
+        },
+        Outcome {
+            value: Some(5),
+            runs: 0,
+            records: 4,
+        },
+        Outcome {
+            value: Some(8),
+            runs: 1,
+            records: 4,
+        },
+        Outcome {
+            value: Some(8),
+            runs: 0,
+            records: 4,
+        },
+        Outcome {
+            value: None,
+            runs: 0,
+            records: 4,
+        },
+        Outcome {
+            value: Some(8),
+            runs: 1,
+            records: 4,
+        },
+    ];
+
+    // The last turn runs `Pick` again, since the stamp of the first input moved twice.
+    #[test]
+    fn a_choice_runs_where_it_is_due(rt: HostRuntime) {
+        let outcomes = play::<Brand>(rt.alloc(), Blank::new(1), &TURNS).expect(&rt, "memory");
+        assert_eq!(rt; outcomes.len(), WANTED.len());
+        for (outcome, wanted) in outcomes.iter().zip(WANTED.iter()) {
+            assert_eq!(rt; *outcome, *wanted);
+        }
+    }
+
+    static EDITS: [Edit; 11] = [
+        // a diamond: both sides and the top run once, and an edit that leaves the half stops there
+        Edit {
+            input: 0,
+            value: 4,
+            demand: Cell::Top,
+        },
+        Edit {
+            input: 0,
+            value: 5,
+            demand: Cell::Top,
+        },
+        Edit {
+            input: 0,
+            value: 8,
+            demand: Cell::Top,
+        },
+        Edit {
+            input: 1,
+            value: 9,
+            demand: Cell::Top,
+        },
+        // a chain of ten
+        Edit {
+            input: 0,
+            value: 8,
+            demand: Cell::Chain(9),
+        },
+        Edit {
+            input: 0,
+            value: 9,
+            demand: Cell::Chain(9),
+        },
+        Edit {
+            input: 0,
+            value: 10,
+            demand: Cell::Chain(9),
+        },
+        // a row of twenty
+        Edit {
+            input: 3,
+            value: 6,
+            demand: Cell::Wide(20),
+        },
+        Edit {
+            input: 19,
+            value: 7,
+            demand: Cell::Wide(20),
+        },
+        Edit {
+            input: 3,
+            value: 7,
+            demand: Cell::Wide(20),
+        },
+        Edit {
+            input: 3,
+            value: 7,
+            demand: Cell::Wide(20),
+        },
+    ];
+
+    static SHOWN: [Shown; 11] = [
+        Shown { value: 2, runs: 4 },
+        Shown { value: 2, runs: 1 },
+        Shown { value: 4, runs: 4 },
+        Shown { value: 4, runs: 0 },
+        Shown { value: 4, runs: 10 },
+        Shown { value: 4, runs: 1 },
+        Shown { value: 5, runs: 11 },
+        Shown { value: 0, runs: 20 },
+        Shown { value: 3, runs: 2 },
+        Shown { value: 3, runs: 1 },
+        Shown { value: 3, runs: 0 },
+    ];
+
+    #[test]
+    fn cells_run_where_they_are_due(rt: HostRuntime) {
+        let all = edit_all::<Brand>(rt.alloc(), Blank::new(1), &EDITS).expect(&rt, "memory");
+        assert_eq!(rt; all.len(), SHOWN.len());
+        for (one, wanted) in all.iter().zip(SHOWN.iter()) {
+            assert_eq!(rt; *one, *wanted);
+        }
+    }
+}

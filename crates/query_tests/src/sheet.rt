@@ -1,0 +1,63 @@
+// The cells, on a graph: edits and demands, and what each demand gave.
+
+ghost use Rattle.std.specs.Prelude.{◌≡◌, ◌+◌, ◌<◌, ◌^◌, length};
+
+use crate::cells::{Cell, CellRules};
+use query_core::Graph;
+use std::alloc::{AllocError, Global};
+use std::sync::ledger::{Blank, Ledger};
+use steps::Steps;
+
+/// An edit of an input, and the cell that is demanded after it.
+#[derive(Clone, Copy, Drop)]
+pub struct Edit {
+    pub input: u32,
+    pub value: u32,
+    pub demand: Cell,
+}
+
+/// What a demand gave: the value of the cell, and how many cells ran.
+#[derive(Clone, Copy, Debug, PartialEq, Eq, Drop)]
+pub struct Shown {
+    pub value: u32,
+    pub runs: usize,
+}
+
+/// Begins a revision, sets the input and demands the cell.
+fn make_edit<L: Ledger>(
+    graph: &mut Graph<CellRules>,
+    edit: &Edit,
+    steps: &mut Steps<L>,
+) -> Result<Shown, AllocError>
+    requires { graph.old.revision < 2 ^ 62 }
+    ensures { graph.new.revision ≡ graph.old.revision + 1 }
+{
+    graph.next_revision();
+    graph.set_input(Cell::Input(edit.input), edit.value)?;
+    let id = graph.demand(&CellRules {}, edit.demand, steps)?;
+    Ok(Shown {
+        value: *graph.value(id),
+        runs: graph.runs().len(),
+    })
+}
+
+/// Makes the edits one after the other, on a graph with no input set.
+pub fn edit_all<L: Ledger>(
+    alloc: Global,
+    blank: Blank,
+    edits: &[Edit],
+) -> Result<Vec<Shown>, AllocError>
+    requires name { blank.name ≡ L.name }
+    requires parts { blank.parts ≡ L.parts }
+    requires some { 0 < L.parts }
+    requires few { length edits.now < 1000 }
+{
+    let mut steps = Steps::<L>::open(blank);
+    let mut shown = Vec::new(alloc);
+    let mut graph = Graph::new(alloc);
+    for next in edits {
+        let one = make_edit(&mut graph, next, &mut steps)?;
+        shown.push(one)?;
+    }
+    Ok(shown)
+}
