@@ -13,7 +13,7 @@ use Rattle.lsp_framing.proofs.Laws.{bad_stays}
 use Rattle.c11ls.specs.Going.{Going, Settled, Moves, Ended, Outcome, Plays, moved, through}
 use Rattle.c11ls.specs.Plain.{Played, Plain, Exited, Lacks, Through, Verdict, Done, Unclean, Faulty, play, played, plain, plain_of, verdict_of, go_on}
 use Rattle.c11ls.specs.React.{Reaction, Replies, Wants, react}
-use Rattle.c11ls.specs.Serve.{Begins}
+use Rattle.c11ls.specs.Serve.{WouldGoOn, IsThrough, Begins}
 use Rattle.c11ls.specs.State.{State, Options, fresh}
 use Rattle.c11ls.specs.Turn.{Wrote, WroteFront, WroteUnclean, GaveUp, Lacked}
 use Rattle.c11ls.specs.declared.status.Status.{Status}
@@ -253,6 +253,13 @@ settled_plays : (options : Options) (w0 w : Option Traffic) (a0 a : Option (List
 settled_plays options w0 w a0 a s standing size rest settled is =
     plain_by options settled.going.taken settled.going.answers _ rest (settled_played options w0 w a0 a s standing size settled) is
 
+would_go_on : (options : Options) (w0 w : Option Traffic) (a0 a : Option (List Entry)) (s : State) (standing : Standing) (size : ℕ) →
+    (settled : Settled options w0 w a0 a s standing size) → WouldGoOn options settled.going.taken settled.going.answers
+would_go_on options w0 w a0 a s standing size settled = record {
+  through = subst (λ (p : Played). IsThrough p.stop) (sym (settled_played options w0 w a0 a s standing size settled)) tt;
+  sound = settled.sound;
+}
+
 -- the source failed
 pub ends_unread : (options : Options) (w0 w w' : Option Traffic) (a0 a : Option (List Entry)) (s : State) (standing : Standing) (size : ℕ) →
     w' ≡ w → Settled options w0 w a0 a s standing size → Ended options status.ReadFault w0 w' a0 a
@@ -265,7 +272,7 @@ ends_unread options w0 w w' a0 a s standing size still settled =
       answers = going.answers;
       did = record { moves = still ∙ going.did.moves; front = going.did.front; answered = going.did.answered; prompt = going.did.prompt };
       usual = tt;
-      outcome = whatever_left w0 options status.ReadFault going.taken going.out going.answers (λ left. (_, settled_plays options w0 w a0 a s standing size _ settled refl));
+      outcome = whatever_left w0 options status.ReadFault going.taken going.out going.answers (λ left. (would_go_on options w0 w a0 a s standing size settled, (_, settled_plays options w0 w a0 a s standing size _ settled refl)));
     }
 
 -- enough bytes were taken
@@ -281,7 +288,7 @@ ends_long options w0 w a0 a s standing size long settled =
       did = going.did;
       usual = tt;
       outcome = whatever_left w0 options status.LongInput going.taken going.out going.answers (λ left.
-          (subst (λ n. 2 ^ 62 ≤ n) (sym going.sized) long, (_, settled_plays options w0 w a0 a s standing size _ settled refl)));
+          (subst (λ n. 2 ^ 62 ≤ n) (sym going.sized) long, would_go_on options w0 w a0 a s standing size settled, (_, settled_plays options w0 w a0 a s standing size _ settled refl)));
     }
 
 same_wire : (options : Options) (taken out : List ℕ) (moments : List Mark) (answers : List Entry) (w0 w w' : Option Traffic) (a0 a : Option (List Entry)) →

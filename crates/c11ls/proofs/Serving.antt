@@ -8,7 +8,7 @@ use Rattle.io_edges.specs.declared.ends.Mark.{Mark}
 use Rattle.c11ls.specs.Calls.{Call, call_of, since, IfTold, AddsUp, IfToldAddsUp}
 use Rattle.c11ls.specs.Going.{Ended, Outcome, IsServing, moved, mark_at}
 use Rattle.c11ls.specs.Plain.{Plain, Done, Unclean, Faulty}
-use Rattle.c11ls.specs.Serve.{HasWritten, HasUsed, ArePrompt, IfBadFrame, IsComplete, verdict_on}
+use Rattle.c11ls.specs.Serve.{HadNoEnd, HasWritten, HasUsed, ArePrompt, IfBadFrame, IsComplete, verdict_on}
 use Rattle.c11ls.specs.State.{Options}
 use Rattle.c11ls.specs.Turn.{IsCounted, ReadRose, WriteRose, StoreRose}
 use Rattle.c11ls.specs.declared.status.Status.{Status}
@@ -26,6 +26,9 @@ each_moment t (m ∷ moments) = ap (λ (n : Mark). n ∷ map (since t) (map (mar
 
 abbrev pub the_call : List ℕ → List ℕ → List ℕ → List Mark → List Entry → Call
 the_call left taken out moments answers = record { left = left; taken = taken; out = out; moments = moments; answers = answers }
+
+none_is_no_some : {A : Type 0} (x : A) → None ≡ Some x → ⊥
+none_is_no_some x same = cc
 
 some_is : {A : Type 0} (x y : A) → Some x ≡ Some y → x ≡ y
 some_is x y same = cc
@@ -58,9 +61,9 @@ if_told options ended (Some t) (Some t') (Some told) (Some told') P e holds =
     subst P (sym (call_is t t' told told' e.taken e.out e.moments e.answers (some_is _ _ e.did.moves) e.did.front (some_is _ _ e.did.answered)))
     (holds (drop (length e.taken) t.left) e.outcome)
 if_told options ended None w' a a' P e holds = tt
-if_told options ended (Some t) None a a' P e holds = tt
+if_told options ended (Some t) None a a' P e holds = absurd (none_is_no_some _ e.did.moves)
 if_told options ended (Some t) (Some t') None a' P e holds = tt
-if_told options ended (Some t) (Some t') (Some told) None P e holds = tt
+if_told options ended (Some t) (Some t') (Some told) None P e holds = absurd (none_is_no_some _ e.did.answered)
 
 written_by : (options : Options) (ended : Status) (left taken out : List ℕ) (moments : List Mark) (answers : List Entry) →
     Outcome options ended taken out answers left → HasWritten options ended (the_call (taken ++ left) taken out moments answers)
@@ -68,8 +71,8 @@ written_by options status.Done left taken out moments answers is = sym (ap (λ (
 written_by options status.Unclean left taken out moments answers is = sym (ap (λ (p : Plain). p.out) is)
 written_by options (status.BadFrame place kind) left taken out moments answers is = sym (ap (λ (p : Plain). p.out) is)
 written_by options status.Usage left taken out moments answers is = absurd is
-written_by options status.ReadFault left taken out moments answers is = sym (ap (λ (p : Plain). p.out) is.1)
-written_by options status.LongInput left taken out moments answers is = sym (ap (λ (p : Plain). p.out) is.1.1)
+written_by options status.ReadFault left taken out moments answers is = sym (ap (λ (p : Plain). p.out) is.1.1)
+written_by options status.LongInput left taken out moments answers is = sym (ap (λ (p : Plain). p.out) is.2.1)
 written_by options status.StoreFault left taken out moments answers is = (sym is.0, is.2)
 written_by options status.WriteFault left taken out moments answers is = is.0
 written_by options status.NoMemory left taken out moments answers is = is
@@ -84,8 +87,8 @@ used_by options status.Done left taken out moments answers is = ap (λ (p : Plai
 used_by options status.Unclean left taken out moments answers is = ap (λ (p : Plain). p.used) is
 used_by options (status.BadFrame place kind) left taken out moments answers is = ap (λ (p : Plain). p.used) is
 used_by options status.Usage left taken out moments answers is = absurd is
-used_by options status.ReadFault left taken out moments answers is = ap (λ (p : Plain). p.used) is.1
-used_by options status.LongInput left taken out moments answers is = ap (λ (p : Plain). p.used) is.1.1
+used_by options status.ReadFault left taken out moments answers is = ap (λ (p : Plain). p.used) is.1.1
+used_by options status.LongInput left taken out moments answers is = ap (λ (p : Plain). p.used) is.2.1
 used_by options status.StoreFault left taken out moments answers is = is.1
 used_by options status.WriteFault left taken out moments answers is = is.1
 used_by options status.NoMemory left taken out moments answers is = tt
@@ -142,6 +145,22 @@ pub tells_long : (options : Options) (w w' : Option Traffic) (a a' : Option (Lis
     IfTold w w' a a' (λ call. 2 ^ 62 ≤ length call.taken)
 tells_long options w w' a a' e = if_told options status.LongInput w w' a a' (λ call. 2 ^ 62 ≤ length call.taken) e (λ left is. is.0)
 
+no_end_by : (options : Options) (ended : Status) (left taken out : List ℕ) (moments : List Mark) (answers : List Entry) →
+    Outcome options ended taken out answers left → HadNoEnd options ended (the_call (taken ++ left) taken out moments answers)
+no_end_by options status.ReadFault left taken out moments answers is = is.0
+no_end_by options status.LongInput left taken out moments answers is = is.1
+no_end_by options status.Done left taken out moments answers is = tt
+no_end_by options status.Unclean left taken out moments answers is = tt
+no_end_by options (status.BadFrame place kind) left taken out moments answers is = tt
+no_end_by options status.Usage left taken out moments answers is = tt
+no_end_by options status.WriteFault left taken out moments answers is = tt
+no_end_by options status.StoreFault left taken out moments answers is = tt
+no_end_by options status.NoMemory left taken out moments answers is = tt
+
+pub tells_no_end : (options : Options) (ended : Status) (w w' : Option Traffic) (a a' : Option (List Entry)) → Ended options ended w w' a a' →
+    IfTold w w' a a' (HadNoEnd options ended)
+tells_no_end options ended w w' a a' e = if_told options ended w w' a a' (HadNoEnd options ended) e (λ left is. no_end_by options ended left e.taken e.out e.moments e.answers is)
+
 adds_up : (options : Options) (taken out : List ℕ) (moments : List Mark) (answers : List Entry) (t t' : Traffic) (told told' : List Entry) →
     t' ≡ moved taken out moments t → take (length taken) t.left ≡ taken → told' ≡ told ++ answers → AddsUp t t' told told'
 adds_up options taken out moments answers t t' told told' was front answered =
@@ -160,9 +179,9 @@ pub tells_consumed : (options : Options) (ended : Status) (w w' : Option Traffic
 tells_consumed options ended (Some t) (Some t') (Some told) (Some told') e =
     adds_up options e.taken e.out e.moments e.answers t t' told told' (some_is _ _ e.did.moves) e.did.front (some_is _ _ e.did.answered)
 tells_consumed options ended None w' a a' e = tt
-tells_consumed options ended (Some t) None a a' e = tt
+tells_consumed options ended (Some t) None a a' e = absurd (none_is_no_some _ e.did.moves)
 tells_consumed options ended (Some t) (Some t') None a' e = tt
-tells_consumed options ended (Some t) (Some t') (Some told) None e = tt
+tells_consumed options ended (Some t) (Some t') (Some told) None e = absurd (none_is_no_some _ e.did.answered)
 
 never_usage : (ended : Status) → IsServing ended → ended ≡ status.Usage → ⊥
 never_usage ended usual is = subst IsServing is usual

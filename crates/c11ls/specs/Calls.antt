@@ -31,9 +31,9 @@ call_of old new told told' = record {
 abbrev pub IfTold : Option Traffic → Option Traffic → Option (List Entry) → Option (List Entry) → (Call → Type 0) → Type 0
 IfTold (Some old) (Some new) (Some told) (Some told') P = P (call_of old new told told')
 IfTold None new told told' P = Unit {0}
-IfTold (Some old) None told told' P = Unit {0}
+IfTold (Some old) None told told' P = ⊥
 IfTold (Some old) (Some new) None told' P = Unit {0}
-IfTold (Some old) (Some new) (Some told) None P = Unit {0}
+IfTold (Some old) (Some new) (Some told) None P = ⊥
 
 -- what was left is what was taken and what is left now, and what was written, marked and answered stands before what
 -- the call added
@@ -47,6 +47,6 @@ pub record AddsUp (old new : Traffic) (told told' : List Entry) : Type 0 where
 abbrev pub IfToldAddsUp : Option Traffic → Option Traffic → Option (List Entry) → Option (List Entry) → Type 0
 IfToldAddsUp (Some old) (Some new) (Some told) (Some told') = AddsUp old new told told'
 IfToldAddsUp None new told told' = Unit {0}
-IfToldAddsUp (Some old) None told told' = Unit {0}
+IfToldAddsUp (Some old) None told told' = ⊥
 IfToldAddsUp (Some old) (Some new) None told' = Unit {0}
-IfToldAddsUp (Some old) (Some new) (Some told) None = Unit {0}
+IfToldAddsUp (Some old) (Some new) (Some told) None = ⊥

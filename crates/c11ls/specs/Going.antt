@@ -8,7 +8,7 @@ use Rattle.lsp_framing.specs.declared.FrameKind.TheVariants.{Cut}
 use Rattle.lsp_framing.specs.Standing.{Standing, Follows, IsEmptyOrOpen}
 use Rattle.c11ls.specs.Handled.{Answered}
 use Rattle.c11ls.specs.Plain.{Played, Through, Verdict, Done, Unclean, Faulty, Waiting, play, plain}
-use Rattle.c11ls.specs.Serve.{Begins, AreReplies, EachPrompt}
+use Rattle.c11ls.specs.Serve.{WouldGoOn, Begins, AreReplies, EachPrompt}
 use Rattle.c11ls.specs.State.{State, Options, fresh}
 use Rattle.c11ls.specs.declared.status.Status.{Status}
 use Rattle.c11ls.specs.declared.status.Status.TheVariants as status
@@ -69,8 +69,8 @@ Outcome options status.Done taken out answers left = Plays options (taken ++ lef
 Outcome options status.Unclean taken out answers left = Plays options (taken ++ left) answers out Unclean
 Outcome options (status.BadFrame place kind) taken out answers left = Plays options (taken ++ left) answers out (Faulty place kind)
 Outcome options status.Usage taken out answers left = ⊥
-Outcome options status.ReadFault taken out answers left = (verdict : Verdict) × Plays options taken answers out verdict
-Outcome options status.LongInput taken out answers left = (2 ^ 62 ≤ length taken) × ((verdict : Verdict) × Plays options taken answers out verdict)
+Outcome options status.ReadFault taken out answers left = WouldGoOn options taken answers × ((verdict : Verdict) × Plays options taken answers out verdict)
+Outcome options status.LongInput taken out answers left = (2 ^ 62 ≤ length taken) × WouldGoOn options taken answers × ((verdict : Verdict) × Plays options taken answers out verdict)
 Outcome options status.StoreFault taken out answers left =
     ((plain options taken answers).out ≡ out) × ((plain options taken answers).used ≤ length answers) × ((plain options taken answers).verdict ≡ Waiting)
 Outcome options status.WriteFault taken out answers left =

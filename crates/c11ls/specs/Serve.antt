@@ -60,6 +60,23 @@ pub record IsPrompt (options : Options) (taken out : List ℕ) (answers : List E
   pub through : IsThrough (played options (take moment.taken taken) answers).stop
   pub sound : IsEmptyOrOpen (frames (take moment.taken taken)).rest
 
+-- No `exit` was met in what was taken, and what stands isn't faulty: the plain server would go on.
+pub record WouldGoOn (options : Options) (taken : List ℕ) (answers : List Entry) : Type 0 where
+  pub through : IsThrough (played options taken answers).stop
+  pub sound : IsEmptyOrOpen (frames taken).rest
+
+-- A call that ends for want of bytes, by a fault of the source or past 2^62 bytes, had come to no other end before.
+abbrev pub HadNoEnd : Options → Status → Call → Type 0
+HadNoEnd options status.ReadFault call = WouldGoOn options call.taken call.answers
+HadNoEnd options status.LongInput call = WouldGoOn options call.taken call.answers
+HadNoEnd options status.Done call = Unit {0}
+HadNoEnd options status.Unclean call = Unit {0}
+HadNoEnd options (status.BadFrame place kind) call = Unit {0}
+HadNoEnd options status.Usage call = Unit {0}
+HadNoEnd options status.WriteFault call = Unit {0}
+HadNoEnd options status.StoreFault call = Unit {0}
+HadNoEnd options status.NoMemory call = Unit {0}
+
 abbrev pub EachPrompt : Options → List ℕ → List ℕ → List Entry → List Mark → Type 0
 EachPrompt options taken out answers [] = Unit {0}
 EachPrompt options taken out answers (moment ∷ moments) = IsPrompt options taken out answers moment × EachPrompt options taken out answers moments

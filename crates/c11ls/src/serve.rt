@@ -5,7 +5,7 @@ ghost use Rattle.c11ls.specs.Codes.{line_of};
 ghost use Rattle.c11ls.specs.Going.{Ended};
 ghost use Rattle.c11ls.specs.Lines.{WritesLine};
 ghost use Rattle.c11ls.specs.Plain.{Done, Unclean, Faulty};
-ghost use Rattle.c11ls.specs.Serve.{HasWritten, HasUsed, ArePrompt, IfBadFrame, IsComplete, verdict_on};
+ghost use Rattle.c11ls.specs.Serve.{HadNoEnd, HasWritten, HasUsed, ArePrompt, IfBadFrame, IsComplete, verdict_on};
 ghost use Rattle.c11ls.specs.Turn.{IsCounted};
 ghost use Rattle.c11ls.specs.Words.{texts, are_grammatical, serves, options_of};
 ghost use Rattle.std.specs.Prelude.{Some};
@@ -101,6 +101,10 @@ pub fn serve<W: Wire, E: Sink, D: Store, L: Ledger>(
         (λ call. verdict_on (options_of (texts words.now)) call ≡ Faulty place kind)) }
     ensures long_input { serves (texts words.now) ≡ true → result ≡ Status.LongInput → IfTold (W.told wire.old) (W.told wire.new) (D.answers store.old) (D.answers store.new)
         (λ call. 2 ^ 62 ≤ length call.taken) }
+
+    // Where the source failed, or 2^62 bytes were taken, no `exit` was met before and what stood wasn't faulty.
+    ensures no_end { serves (texts words.now) ≡ true → IfTold (W.told wire.old) (W.told wire.new) (D.answers store.old) (D.answers store.new)
+        (HadNoEnd (options_of (texts words.now)) result) }
 
     // A fault: exactly where the count of that very end rose.
     ensures read_fault { (result ≡ Status.ReadFault) ↔ (W.read_faults wire.old < W.read_faults wire.new) }

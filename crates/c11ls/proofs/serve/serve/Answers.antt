@@ -1,6 +1,6 @@
 use Rattle.c11ls.specs.State.{no_options}
 use Rattle.c11ls.specs.declared.status.Status.TheVariants as status
-use Rattle.c11ls.proofs.Serving.{tells_consumed, tells_written, tells_used, tells_prompt, tells_done, tells_unclean, tells_bad_frame, tells_long, tells_complete, not_read, not_write, not_store, ended_as}
+use Rattle.c11ls.proofs.Serving.{tells_consumed, tells_written, tells_used, tells_prompt, tells_done, tells_unclean, tells_bad_frame, tells_long, tells_no_end, tells_complete, not_read, not_write, not_store, ended_as}
 use Rattle.c11ls.proofs.serve.serve.Goals as goal
 
 pub returns-clause-consumed : goal.returns-clause-consumed
@@ -26,6 +26,9 @@ returns-clause-bad_frame g c = λ serves. tells_bad_frame no_options _ _ _ _ _ (
 
 pub returns-clause-long_input : goal.returns-clause-long_input
 returns-clause-long_input g c = λ serves is. tells_long no_options _ _ _ _ (ended_as no_options _ status.LongInput _ _ _ _ is (c.answer-status.ensures.ended serves))
+
+pub returns-clause-no_end : goal.returns-clause-no_end
+returns-clause-no_end g c = λ serves. tells_no_end no_options _ _ _ _ _ (c.answer-status.ensures.ended serves)
 
 pub returns-clause-complete : goal.returns-clause-complete
 returns-clause-complete g c = λ serves read write store.
