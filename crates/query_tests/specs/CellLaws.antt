@@ -1,11 +1,9 @@
 -- The cells keep the laws of queries.
-use Rattle.std.proofs.Common.{◌≡◌, ◌≢◌, ℕ, zero, suc, ◌+◌, ◌-◌, ◌<◌, ◌≤◌, ◌==◌, ◌/◌, Bool, true, false, if◌then◌else◌, List, [], ◌∷◌, ◌++◌, length, cond, Option, Some, None, nat_eq, refl, sym, ap, subst, ◌∙◌, inl, inr, ◌⊎◌, arith, eq-eqb, append_assoc, append-nil, get_or, drop, is_some}
+use Rattle.std.proofs.Common.{◌≡◌, ◌≢◌, ℕ, zero, suc, ◌+◌, ◌-◌, ◌<◌, ◌==◌, ◌/◌, true, false, if◌then◌else◌, List, [], ◌∷◌, ◌++◌, length, cond, Some, None, refl, sym, ap, subst, ◌∙◌, inl, inr, ◌⊎◌, arith, eq-eqb, append-nil, get_or, drop, is_some}
 use Rattle.std.proofs.lemmas.List.{drop_more}
 use Rattle.std.specs.Map.{lookup}
 use Rattle.query_core.specs.Lists.{Has, IsOnce}
-use Rattle.query_core.specs.Queries.{Queries, AreLawful, GoesOn, answers}
-use Rattle.query_core.specs.declared.rules.Step.{Step}
-use Rattle.query_core.specs.declared.rules.Step.TheVariants.{Ask, Done}
+use Rattle.query_core.specs.Queries.{AreLawful, GoesOn, answers}
 use Rattle.query_tests.specs.contracts.cells.CellPartialEq.TheImpl.{eq-value}
 use Rattle.query_tests.specs.declared.cells.Cell.{Cell}
 use Rattle.query_tests.specs.declared.cells.Cell.TheVariants.{Input, Half, Chain, Wide, Left, Right, Top}

@@ -1,5 +1,5 @@
 -- The cells, as queries.
-use Rattle.std.specs.Prelude.{◌≡◌, ℕ, zero, suc, ◌+◌, ◌-◌, ◌<◌, ◌==◌, ◌/◌, Bool, true, false, cond, if◌then◌else◌, List, [], ◌∷◌, ◌++◌, length, Option, Some, None}
+use Rattle.std.specs.Prelude.{ℕ, zero, suc, ◌+◌, ◌-◌, ◌==◌, ◌/◌, Bool, true, false, if◌then◌else◌, List, [], ◌∷◌, ◌++◌, Some, None}
 use Rattle.std.specs.Map.{lookup}
 use Rattle.query_core.specs.Queries.{Queries}
 use Rattle.query_core.specs.declared.rules.Step.{Step}

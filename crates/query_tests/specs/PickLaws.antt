@@ -1,8 +1,8 @@
 -- The choice keeps the laws of queries.
-use Rattle.std.proofs.Common.{◌≡◌, ℕ, ◌+◌, ◌<◌, ◌==◌, Bool, true, false, if◌then◌else◌, List, [], ◌∷◌, ◌++◌, length, cond, Result, Ok, Err, IfOk, Option, Some, None, nat_eq, refl, sym, ap, subst, ◌∙◌, inl, inr, arith}
+use Rattle.std.proofs.Common.{◌≡◌, ℕ, ◌<◌, ◌==◌, true, false, if◌then◌else◌, List, [], ◌∷◌, ◌++◌, cond, Result, Ok, Err, IfOk, Option, Some, None, nat_eq, refl, sym, ap, subst, ◌∙◌, inl, inr, arith}
 use Rattle.std.specs.Map.{lookup}
 use Rattle.query_core.specs.Lists.{Has}
-use Rattle.query_core.specs.Queries.{Queries, AreLawful, GoesOn, answers}
+use Rattle.query_core.specs.Queries.{AreLawful, GoesOn, answers}
 use Rattle.query_core.specs.declared.rules.Step.{Step}
 use Rattle.query_core.specs.declared.rules.Step.TheVariants.{Ask, Done}
 use Rattle.query_tests.specs.contracts.pick.PickKeyPartialEq.TheImpl.{eq-value}
