@@ -14,9 +14,16 @@ longest_text = 4194304
 unfoldable pub is_c_uri : List ℕ → Bool
 is_c_uri uri = starts_with nat_eq uri (codes "file:///") && ends_with nat_eq uri (codes ".c")
 
+-- the least and the greatest whole number of 32 bits
+abbrev pub least_i32 : ℤ
+least_i32 = negsuc 2147483647
+
+abbrev pub greatest_i32 : ℤ
+greatest_i32 = pos 2147483647
+
 -- a whole number of 32 bits
 unfoldable pub in_i32 : ℤ → Option ℤ
-in_i32 z = if int_le (negsuc 2147483647) z && int_le z (pos 2147483647) then Some z else None
+in_i32 z = if int_le least_i32 z && int_le z greatest_i32 then Some z else None
 
 abbrev pub version_of : Data → Option ℤ
 version_of d = option_and_then in_i32 (option_and_then as_i64 (as_number d))

@@ -1,5 +1,5 @@
 -- How the plain server reacts to a content.
-use Rattle.std.specs.Prelude.{ℕ, negsuc, List, [], codes, Option, Some, None, Bool, true, false, if◌then◌else◌, ◌&&◌}
+use Rattle.std.specs.Prelude.{ℕ, ℤ, negsuc, List, [], codes, Option, Some, None, Bool, true, false, if◌then◌else◌, ◌&&◌}
 use Rattle.std.specs.Str.{bytes_eq}
 use Rattle.serde_json.specs.Data.{Data, null}
 use Rattle.io_edges.specs.Store.{Call, Entry}
@@ -41,11 +41,15 @@ replies s bytes = Replies s bytes None 0
 abbrev pub not_served : State → Reaction
 not_served s = replies s (log (codes "NotYet"))
 
+-- the code of an unknown method, -32601 (JSON-RPC 2.0, 5.1)
+abbrev pub method_not_found : ℤ
+method_not_found = negsuc 32600
+
 unfoldable pub on_request : State → Id → List ℕ → Reaction
 on_request s id method =
     if bytes_eq method (codes "initialize") && is_fresh s.phase then replies (in_phase Running s) (response id initialize_result)
     else (if bytes_eq method (codes "shutdown") && is_running s.phase then replies (in_phase Down s) (response id null)
-    else replies s (error (Some id) (negsuc 32600) (codes "not yet")))
+    else replies s (error (Some id) method_not_found (codes "not yet")))
 
 -- a document is opened, and its faults are published
 unfoldable pub on_open : State → Option OpenText → Reaction

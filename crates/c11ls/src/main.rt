@@ -1,7 +1,9 @@
 // The language server for C11: bytes from standard input to bytes on standard output.
 #![tactic(auto)]
 
-ghost use Rattle.std.specs.Prelude.{◌≡◌, ◌<◌};
+ghost use Rattle.std.specs.Prelude.{◌≡◌, ◌⊎◌, ◌<◌, false};
+ghost use Rattle.c11ls.specs.Words.{texts, are_grammatical};
+ghost use Rattle.c11ls.specs.declared.status.Status.TheVariants as Status;
 
 mod diagnostics;
 mod documents;
@@ -40,6 +42,8 @@ fn start<L: Ledger>(rt: &HostRuntime, words: &[String], blank: Blank) -> Status
     requires name { blank.name ≡ L.name }
     requires parts { blank.parts ≡ L.parts }
     requires some { 0 < L.parts }
+    ensures usage { result ≡ Status.Usage → are_grammatical (texts words.now) ≡ false }
+    ensures refused { are_grammatical (texts words.now) ≡ false → (result ≡ Status.Usage) ⊎ (result ≡ Status.NoMemory) }
 {
     let mut steps = Steps::<L>::open(blank);
     let mut wire = StdWire::new(rt);
@@ -56,7 +60,9 @@ fn start<L: Ledger>(rt: &HostRuntime, words: &[String], blank: Blank) -> Status
 }
 
 /// The status for words that can't be read: one that isn't UTF-8 is in no grammar.
-fn unread(rt: &HostRuntime, error: &io::Error) -> Status {
+fn unread(rt: &HostRuntime, error: &io::Error) -> Status
+    ensures { (result ≡ Status.Usage) ⊎ (result ≡ Status.NoMemory) }
+{
     let status = match error.kind() {
         io::ErrorKind::OutOfMemory => Status::NoMemory,
         _ => Status::Usage,

@@ -1,10 +1,14 @@
-// Long chains and wide rows of cells: a walk doesn't stand on the machine's stack. Prints the value and the number of runs after each edit.
+// Long chains and wide rows of cells: a walk doesn't stand on the machine's stack. Prints the value and the number of runs
+// after each edit. With two numbers as words it makes so many edits over a row of so many cells, which `bench/run` times.
 #![tactic(auto)]
 
+ghost use Rattle.std.specs.Prelude.{◌≡◌, ◌<◌, IfOk, length};
+
 use query_tests::{Cell, Edit, edit_all};
-use std::io;
+use std::alloc::{AllocError, Global};
 use std::marker::Brand;
 use std::sync::ledger::Blank;
+use std::{env, io};
 
 static EDITS: [Edit; 6] = [
     Edit {
@@ -39,12 +43,53 @@ static EDITS: [Edit; 6] = [
     },
 ];
 
-fn main(rt: HostRuntime) -> io::Result<()> {
-    let all = edit_all::<Brand>(rt.alloc(), Blank::new(1), &EDITS)?;
+/// The numbers among the words after the program's name.
+fn numbers_asked(rt: &HostRuntime) -> io::Result<Vec<u32>> {
+    let mut numbers = Vec::new(rt.alloc());
+    for word in env::args(rt)?.skip(1) {
+        if let Ok(number) = word.parse::<u32>() {
+            numbers.push(number)?;
+        }
+    }
+    Ok(numbers)
+}
+
+/// Edits of the first inputs, one after the other, each of which moves the half of its input.
+fn row_edits(alloc: Global, row: u32, count: u32) -> Result<Vec<Edit>, AllocError>
+    requires { count < 1000 }
+    ensures { IfOk result (λ edits. length edits.items ≡ count) }
+{
+    let mut edits = Vec::new(alloc);
+    for input in 0..count {
+        edits.push(Edit {
+            input,
+            value: input + 2,
+            demand: Cell::Wide(row),
+        })?;
+    }
+    Ok(edits)
+}
+
+/// Makes the edits, and prints what each demand gave.
+fn show(rt: &HostRuntime, edits: &[Edit]) -> io::Result<()>
+    requires { length edits.now < 1000 }
+{
+    let all = edit_all::<Brand>(rt.alloc(), Blank::new(1), edits)?;
     for shown in all.iter() {
         let value = shown.value;
         let runs = shown.runs;
         println!(rt; "{value} {runs}")?;
     }
     Ok(())
+}
+
+fn main(rt: HostRuntime) -> io::Result<()> {
+    let numbers = numbers_asked(&rt)?;
+    match numbers.as_slice() {
+        [row, count] => {
+            let edits = row_edits(rt.alloc(), *row, (*count).min(999))?;
+            show(&rt, edits.as_slice())
+        }
+        _ => show(&rt, &EDITS),
+    }
 }
