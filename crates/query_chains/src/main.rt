@@ -1,5 +1,6 @@
 // Long chains and wide rows of cells: a walk doesn't stand on the machine's stack. Prints the value and the number of runs
-// after each edit. With two numbers as words it makes so many edits over a row of so many cells, which `bench/run` times.
+// after each edit. With three numbers as words, a row's length, a count and a value, it makes so many edits over a row of so
+// many cells, each of which sets another input to the value; `bench/run` times these.
 #![tactic(auto)]
 
 ghost use Rattle.std.specs.Prelude.{◌≡◌, ◌<◌, IfOk, length};
@@ -54,8 +55,8 @@ fn numbers_asked(rt: &HostRuntime) -> io::Result<Vec<u32>> {
     Ok(numbers)
 }
 
-/// Edits of the first inputs, one after the other, each of which moves the half of its input.
-fn row_edits(alloc: Global, row: u32, count: u32) -> Result<Vec<Edit>, AllocError>
+/// Edits of the first inputs, one after the other: each sets its input to the value, and demands the row.
+fn row_edits(alloc: Global, row: u32, count: u32, value: u32) -> Result<Vec<Edit>, AllocError>
     requires { count < 1000 }
     ensures { IfOk result (λ edits. length edits.items ≡ count) }
 {
@@ -63,7 +64,7 @@ fn row_edits(alloc: Global, row: u32, count: u32) -> Result<Vec<Edit>, AllocErro
     for input in 0..count {
         edits.push(Edit {
             input,
-            value: input + 2,
+            value,
             demand: Cell::Wide(row),
         })?;
     }
@@ -86,8 +87,8 @@ fn show(rt: &HostRuntime, edits: &[Edit]) -> io::Result<()>
 fn main(rt: HostRuntime) -> io::Result<()> {
     let numbers = numbers_asked(&rt)?;
     match numbers.as_slice() {
-        [row, count] => {
-            let edits = row_edits(rt.alloc(), *row, (*count).min(999))?;
+        [row, count, value] => {
+            let edits = row_edits(rt.alloc(), *row, (*count).min(999), *value)?;
             show(&rt, edits.as_slice())
         }
         _ => show(&rt, &EDITS),
