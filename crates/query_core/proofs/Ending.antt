@@ -1,5 +1,5 @@
 -- The walk ends, and what it has done then.
-use Rattle.std.proofs.Common.{◌≡◌, ◌≢◌, ℕ, zero, suc, ◌+◌, ◌-◌, ◌*◌, ◌<◌, ◌≤◌, Bool, true, false, cond, List, [], ◌∷◌, ◌++◌, length, drop, reverse, refl, ap, sym, ◌∙◌, subst, inl, inr, ◌⊎◌, Some, arith, Result, Ok, Err, OnErr}
+use Rattle.std.proofs.Common.{◌≡◌, ◌≢◌, ℕ, zero, suc, ◌+◌, ◌-◌, ◌*◌, ◌<◌, ◌≤◌, Bool, true, false, cond, List, [], ◌∷◌, ◌++◌, length, drop, reverse, refl, ap, sym, ◌∙◌, subst, inl, inr, ◌⊎◌, Option, Some, arith, Result, Ok, Err, OnErr}
 use Rattle.std.specs.List.{flat_map}
 use Rattle.std.proofs.lemmas.List.{reverse-append, drop_at, length_push}
 use Rattle.query_core.specs.Lists.{Has, Each}
@@ -253,15 +253,15 @@ module _ {K V : Type 0} where
 module _ {K V : Type 0} (q : Queries K V) (laws : AreLawful q) (g0 : Held K V) (root : K) (g : Held K V) (k : K) (items : List (Frame K)) (steps0 steps : ℕ)
     (w : Walk q g0 root g k (reverse items) steps0 steps) where
   -- a step that waits, over the path as it is kept, the last frame at its end
-  pub waits_on : (g' : Held K V) (steps' : ℕ) (frame : Frame K) (on : K) (items' : List (Frame K)) (top : Frame K) → IsStep q g g' k steps steps' (Waits frame on) → items' ≡ items ++ frame ∷ [] → top.key ≡ on
+  pub waits_on : (g' : Held K V) (steps' : ℕ) (frame : Frame K) (on : K) (hint : Option ℕ) (items' : List (Frame K)) (top : Frame K) → IsStep q g g' k steps steps' (Waits frame on hint) → items' ≡ items ++ frame ∷ [] → top.key ≡ on
       → Walk q g0 root g' top.key (reverse items') steps0 steps'
-  waits_on g' steps' frame on items' top s e key =
+  waits_on g' steps' frame on hint items' top s e key =
       let base = walk_waits q laws g0 root g k (reverse items) steps0 steps w g' steps' frame on s.0 s.1 s.2 s.3 s.4 in
       let path : frame ∷ reverse items ≡ reverse items' = sym (ap reverse e ∙ reverse-append items (frame ∷ [])) in
       subst (λ x. Walk q g0 root g' x (reverse items') steps0 steps') (sym key) (subst (λ l. Walk q g0 root g' on l steps0 steps') path base)
 
-  pub waits_less : (g' : Held K V) (steps' : ℕ) (frame : Frame K) (on : K) (top : Frame K) → IsStep q g g' k steps steps' (Waits frame on) → top.key ≡ on → to_do q g0 root g' top.key < to_do q g0 root g k
-  waits_less g' steps' frame on top s key = subst (λ x. to_do q g0 root g' x < to_do q g0 root g k) (sym key) (to_do_waits q laws g0 root g k (reverse items) steps0 steps w g' on s.0 s.4)
+  pub waits_less : (g' : Held K V) (steps' : ℕ) (frame : Frame K) (on : K) (hint : Option ℕ) (top : Frame K) → IsStep q g g' k steps steps' (Waits frame on hint) → top.key ≡ on → to_do q g0 root g' top.key < to_do q g0 root g k
+  waits_less g' steps' frame on hint top s key = subst (λ x. to_do q g0 root g' x < to_do q g0 root g k) (sym key) (to_do_waits q laws g0 root g k (reverse items) steps0 steps w g' on s.0 s.4)
 
   -- after a step that gave nothing, or waits, the graph is as before it
   pub given_up : (g' : Held K V) → g' ≡ g → Walked q g0 root g'
@@ -303,9 +303,9 @@ module _ {K V : Type 0} (q : Queries K V) (laws : AreLawful q) (g0 : Held K V) (
           ),
         )
 
-  pub waits_counted : (g' : Held K V) (steps' : ℕ) (frame : Frame K) (on : K) → IsStep q g g' k steps steps' (Waits frame on)
+  pub waits_counted : (g' : Held K V) (steps' : ℕ) (frame : Frame K) (on : K) (hint : Option ℕ) → IsStep q g g' k steps steps' (Waits frame on hint)
       → (steps0 + length (ran g0 g') ≤ steps') × (steps' ≤ steps0 + length (ran g0 g') + 1)
-  waits_counted g' steps' frame on s = let e = ran_length g' s.0 in let e' = s.1 in ((omega arith), (omega arith))
+  waits_counted g' steps' frame on hint s = let e = ran_length g' s.0 in let e' = s.1 in ((omega arith), (omega arith))
 
 pub on_err : {A E : Type 0} (r : Result A E) (P : Type 0) → P → OnErr r P
 on_err (Ok x) P p = tt

@@ -8,10 +8,10 @@ use Rattle.query_core.specs.Graph.{Held, at, node_of, record_of, inputs, is_curr
 use Rattle.query_core.specs.Soundness.{IsSound}
 use Rattle.query_core.specs.Changes.{IsReached}
 use Rattle.query_core.specs.Changes.IsReached.{itself, along}
-use Rattle.query_core.specs.Walk.{IsSettled, HasMoved, IsOutdated, AreAnswered, IsStage, IsFrame, Leads, Finishes}
+use Rattle.query_core.specs.Walk.{IsSettled, HasMoved, IsOutdated, AreAnswered, IsStage, IsFrame, Leads, Finishes, IsRunning}
 use Rattle.query_core.specs.declared.frame.Frame.{Frame}
 use Rattle.query_core.specs.declared.frame.Stage.{Stage}
-use Rattle.query_core.specs.declared.frame.Stage.TheVariants.{Unset, Check, Run}
+use Rattle.query_core.specs.declared.frame.Stage.TheVariants.{Unset, Start, Check, Run}
 use Rattle.query_core.specs.declared.store.Node.{Node}
 use Rattle.query_core.proofs.Words.{Each-map}
 use Rattle.query_core.proofs.Reading.{record_is, verified_is}
@@ -124,6 +124,10 @@ module _ {K V : Type 0} (q : Queries K V) (laws : AreLawful q) (g g' : Held K V)
         | inr e ↦ inr (e.0, (other_record x n ∙ e.1.0, (e.1.1.0, (e.1.1.1.0, moved_stays e.0.verified_at e.1.1.0 e.1.1.1.1))))
       ]
 
+  running_stays : (x : K) (asked : List K) (answered : List ℕ) → x ≢ k → IsRunning q g x asked answered → IsRunning q g' x asked answered
+  running_stays x asked answered n h =
+      (h.0, outdated_stays x n h.1, (h.2.0, ap (λ I. q.asks I x) inputs_stay ∙ h.2.1), answered_stays asked answered h.3)
+
   stage_stays : (x : K) (stage : Stage K) → x ≢ k → IsStage q g x stage → IsStage q g' x stage
   stage_stays x Unset n h = (h.0, other_record x n ∙ h.1)
   stage_stays x (Check node place) n h =
@@ -140,8 +144,8 @@ module _ {K V : Type 0} (q : Queries K V) (laws : AreLawful q) (g g' : Held K V)
           ),
         ),
       )
-  stage_stays x (Run asked answered) n h =
-      (h.0, outdated_stays x n h.1, (h.2.0, ap (λ I. q.asks I x) inputs_stay ∙ h.2.1), answered_stays asked answered h.3)
+  stage_stays x Start n h = running_stays x [] [] n h
+  stage_stays x (Run running) n h = running_stays x running.value.asked running.value.answered n h
 
   pub frame_stays : (p : Frame K) → p.key ≢ k → IsFrame q g p → IsFrame q g' p
   frame_stays p n h = record { stale = other_verified p.key n ∙ h.stale; stage = stage_stays p.key p.stage n h.stage }

@@ -8,7 +8,7 @@ use Rattle.query_core.specs.Changes.{Puts, IsStamped}
 use Rattle.query_core.specs.declared.store.Node.{Node}
 use Rattle.query_core.specs.declared.frame.Frame.{Frame}
 use Rattle.query_core.specs.declared.frame.Stage.{Stage}
-use Rattle.query_core.specs.declared.frame.Stage.TheVariants.{Unset, Check, Run}
+use Rattle.query_core.specs.declared.frame.Stage.TheVariants.{Unset, Start, Check, Run}
 use Rattle.query_core.specs.declared.frame.Moved.{Moved}
 use Rattle.query_core.specs.declared.frame.Moved.TheVariants.{Waits, Done}
 use Rattle.query_core.specs.declared.frame.Halt.{Halt}
@@ -61,7 +61,8 @@ module _ {K V : Type 0} (q : Queries K V) (g : Held K V) where
   abbrev pub IsStage : K → Stage K → Type 0
   IsStage k Unset = (q.is_input k ≡ true) × (record_of q g k ≡ None)
   IsStage k (Check node place) = IsChecking k node place
-  IsStage k (Run asked answered) = IsRunning k asked answered
+  IsStage k Start = IsRunning k [] []
+  IsStage k (Run running) = IsRunning k running.value.asked running.value.answered
 
   -- the key of the frame isn't verified now
   pub record IsFrame (frame : Frame K) : Type 0 where
@@ -132,6 +133,6 @@ module _ {K V : Type 0} where
 
   -- what a step of the walk on a frame gives, with the counter before and after
   abbrev pub IsStep : Queries K V → Held K V → Held K V → K → ℕ → ℕ → Moved K → Type 0
-  IsStep q old new k steps steps' (Waits frame on) =
+  IsStep q old new k steps steps' (Waits frame on at_node) =
       (new ≡ old) × (steps' ≡ steps) × (frame.key ≡ k) × IsFrame q old frame × Has (q.asks (inputs q old) k) on × (is_verified q old on ≡ false)
   IsStep q old new k steps steps' (Done node) = Finishes q old new k node × IsSound q new × (steps' + length old.runs ≡ steps + length new.runs)

@@ -9,22 +9,32 @@ pub(crate) struct Frame<K> {
     pub(crate) stage: Stage<K>,
 }
 
-/// How far the work on a key has come.
+/// A run that waits: the keys that it asked for, and the nodes that hold the values of the first of them.
+#[derive(Drop)]
+pub(crate) struct Running<K> {
+    pub(crate) asked: Keys<K>,
+    pub(crate) answered: Answered,
+}
+
+/// How far the work on a key has come. What a run holds stands apart, so that a frame is small.
+
 #[derive(Drop)]
 pub(crate) enum Stage<K> {
     /// It is an input without a record.
     Unset,
+    /// It has no record, and runs from its first round.
+    Start,
     /// The reads of its record, which stands at the node, are verified and unchanged before the place.
     Check(usize, usize),
-    /// It runs: the keys that it asked for, and the nodes that hold the values of the first of them.
-    Run(Keys<K>, Answered),
+    /// It runs, and waits for a key that it asked for.
+    Run(Box<Running<K>>),
 }
 
 /// What a step of the walk gives.
 #[derive(Drop)]
 pub(crate) enum Moved<K> {
-    /// The frame waits for this key, which isn't verified.
-    Waits(Frame<K>, K),
+    /// The frame waits for this key, which isn't verified; where its node is known, that stands here.
+    Waits(Frame<K>, K, Option<usize>),
     /// The key of the frame was verified at this node.
     Done(usize),
 }

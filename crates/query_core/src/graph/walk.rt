@@ -11,7 +11,7 @@ ghost use Rattle.query_core.specs.Changes.{IsHolding, IsRun, Leaves, Walked, ran
 ghost use Rattle.query_core.specs.declared.store.Node.{Node};
 
 use super::{Graph, NodeId};
-use crate::frame::{Checked, Frame, Halt, Look, Moved, Stage};
+use crate::frame::{Checked, Frame, Halt, Look, Moved, Running, Stage};
 use crate::keys::{Answered, Keys, Reads, TryCopy};
 use crate::rules::{Answers, Rules, Step};
 use crate::store::Node;
@@ -59,28 +59,56 @@ impl<R: Rules> Graph<R> {
         }
     }
 
+    /// Whether the record at the node is the key's.
+    fn is_at(&self, key: &R::Key, node: usize) -> bool
+        ensures own { result ≡ true → node_of R.queries self.now key.now ≡ Some node }
+        ensures sound { IsSound R.queries self.now }
+    {
+        match self.node(node) {
+            Some(kept) => kept.key == *key,
+            None => false,
+        }
+    }
+
+    /// The node of a key; where it is the one that was expected, a look at that record tells it.
+    fn find(&self, key: &R::Key, expected: Option<usize>) -> Option<usize>
+        ensures value { result ≡ node_of R.queries self.now key.now }
+        ensures sound { IsSound R.queries self.now }
+    {
+        match expected {
+            Some(node) => {
+                if self.is_at(key, node) {
+                    Some(node)
+                } else {
+                    self.node_of(key)
+                }
+            }
+            None => self.node_of(key),
+        }
+    }
+
     /// How the work on a key that isn't verified begins.
-    fn first_stage(&self, rules: &R, key: &R::Key) -> Stage<R::Key>
+    fn first_stage(&self, rules: &R, key: &R::Key, at_node: Option<usize>) -> Stage<R::Key>
         requires { is_verified R.queries self.now key.now ≡ false }
         ensures { IsStage R.queries self.now key.now result }
     {
-        let found = self.node_of(key);
+        let found = self.find(key, at_node);
         if rules.is_input(key) {
             return Stage::Unset;
         }
         match found {
             Some(node) => Stage::Check(node, 0),
-            None => Stage::Run(Keys::new(self.alloc), Answered::new(self.alloc)),
+            None => Stage::Start,
         }
     }
 
     /// A frame for a key that isn't verified.
-    fn begin(&self, rules: &R, key: R::Key) -> Frame<R::Key>
+    fn begin(&self, rules: &R, key: R::Key, at_node: Option<usize>) -> Frame<R::Key>
         requires { is_verified R.queries self.now key ≡ false }
         ensures key { result.key ≡ key }
         ensures frame { IsFrame R.queries self.now result }
     {
-        let stage = self.first_stage(rules, &key);
+        let stage = self.first_stage(rules, &key, at_node);
         Frame { key, stage }
     }
 
@@ -135,6 +163,12 @@ impl<R: Rules> Graph<R> {
             Some(read) => read.key.try_copy(),
             None => unreachable!(),
         }
+    }
+
+    /// The node of a read of a record.
+    fn read_at(&self, node: usize, place: usize) -> Option<usize> {
+        let kept = self.node(node)?;
+        kept.reads.as_slice().get(place).copied()
     }
 
     /// Takes the answers to what was asked, as far as it is verified, and gives the first key that isn't.
@@ -278,8 +312,9 @@ impl<R: Rules> Graph<R> {
         let halt = self.go_on(rules, &key, &mut asked, &mut answered, steps)?;
         match halt {
             Halt::Pauses(on) => {
-                let stage = Stage::Run(asked, answered);
-                Ok(Moved::Waits(Frame { key, stage }, on))
+                let running = Box::new(self.alloc, Running { asked, answered })?;
+                let stage = Stage::Run(running);
+                Ok(Moved::Waits(Frame { key, stage }, on, None))
             }
             Halt::Ends(value) => {
                 let node = self.enter(key, value, answered.into_reads())?;
@@ -314,8 +349,9 @@ impl<R: Rules> Graph<R> {
             }
             Checked::Stale(place) => {
                 let on = self.read_key(node, place)?;
+                let at_node = self.read_at(node, place);
                 let stage = Stage::Check(node, place);
-                Ok(Moved::Waits(Frame { key, stage }, on))
+                Ok(Moved::Waits(Frame { key, stage }, on, at_node))
             }
         }
     }
@@ -338,7 +374,15 @@ impl<R: Rules> Graph<R> {
                 Ok(Moved::Done(node))
             }
             Stage::Check(node, place) => self.check(rules, key, node, place, steps),
-            Stage::Run(asked, answered) => self.run(rules, key, asked, answered, steps),
+            Stage::Start => {
+                let asked = Keys::new(self.alloc);
+                let answered = Answered::new(self.alloc);
+                self.run(rules, key, asked, answered, steps)
+            }
+            Stage::Run(running) => {
+                let Running { asked, answered } = Box::into_inner(running);
+                self.run(rules, key, asked, answered, steps)
+            }
         }
     }
 
@@ -355,14 +399,14 @@ impl<R: Rules> Graph<R> {
         ensures err { OnErr result ((steps.old + length (ran self.old self.new) ≤ steps.new) × (steps.new ≤ steps.old + length (ran self.old self.new) + 1)) }
     {
         let mut path: Vec<Frame<R::Key>> = Vec::new(self.alloc);
-        let mut top = self.begin(rules, key);
+        let mut top = self.begin(rules, key, None);
         'steps: loop {
             let moved = self.advance(rules, top, steps)?;
             match moved {
-                Moved::Waits(frame, on) => {
+                Moved::Waits(frame, on, at_node) => {
                     path.reserve(1)?;
                     path.push_reserved(frame);
-                    top = self.begin(rules, on);
+                    top = self.begin(rules, on, at_node);
                 }
                 Moved::Done(index) => match path.pop() {
                     Some(frame) => top = frame,

@@ -6,12 +6,11 @@ use Rattle.query_core.proofs.Reading.{record_none}
 pub returns-then-is_input : goal.returns-then-is_input
 returns-then-is_input g c =
     let is = sym c.if-is_input.ensures in
-    (is, no_record g.R.Rules.queries c.args.self.now c.node_of-found.ensures.sound c.args.key.now c.requires is)
+    (is, no_record g.R.Rules.queries c.args.self.now c.find-found.ensures.sound c.args.key.now c.requires is)
 
 pub returns-in-Some : goal.returns-in-Some
-returns-in-Some g c = stage_check g.R.Rules.queries c.args.self.now c.node_of-found.ensures.sound c.args.key.now c.in-Some.node (sym c.if-is_input.ensures) (sym c.in-Some.ensures.value)
+returns-in-Some g c = stage_check g.R.Rules.queries c.args.self.now c.find-found.ensures.sound c.args.key.now c.in-Some.node (sym c.if-is_input.ensures) (sym c.in-Some.ensures.value)
 
 pub returns-in-None : goal.returns-in-None
 returns-in-None g c =
-    rw (c.new.ensures, c.new-in-None.ensures)
     (stage_run g.R.Rules.queries c.args.self.now c.args.key.now (sym c.if-is_input.ensures) (inl (record_none g.R.Rules.queries c.args.self.now c.args.key.now (sym c.in-None.ensures.value))))

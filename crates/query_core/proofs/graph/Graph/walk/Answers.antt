@@ -24,16 +24,16 @@ returns-in_err-reserve-in-Waits-clause-walked g c =
 pub returns-in_err-reserve-in-Waits-clause-err : goal.returns-in_err-reserve-in-Waits-clause-err
 returns-in_err-reserve-in-Waits-clause-err g c =
     on_err c.from_residual-in_err-reserve-in-Waits.result ((c.args.steps.now + length (ran c.args.self.now c.advance.new.self) ≤ c.advance.new.steps) × (c.advance.new.steps ≤ c.args.steps.now + length (ran c.args.self.now c.advance.new.self) + 1))
-    (waits_counted g.R.Rules.queries g.met.R.Rules.lawful c.args.self.now c.args.key c.steps.self c.steps.top.key c.steps.path.items c.args.steps.now c.steps.steps c.steps.invariant.walk c.advance.new.self c.advance.new.steps c.in-Waits.frame c.in-Waits.on (subst (IsStep g.R.Rules.queries c.steps.self c.advance.new.self c.steps.top.key c.steps.steps c.advance.new.steps) c.in-Waits.is c.in_ok-moved.ensures.ok))
+    (waits_counted g.R.Rules.queries g.met.R.Rules.lawful c.args.self.now c.args.key c.steps.self c.steps.top.key c.steps.path.items c.args.steps.now c.steps.steps c.steps.invariant.walk c.advance.new.self c.advance.new.steps c.in-Waits.frame c.in-Waits.on c.in-Waits.at_node (subst (IsStep g.R.Rules.queries c.steps.self c.advance.new.self c.steps.top.key c.steps.steps c.advance.new.steps) c.in-Waits.is c.in_ok-moved.ensures.ok))
 
 pub steps-smaller-in-Waits : goal.steps-smaller-in-Waits
 steps-smaller-in-Waits g c =
-    waits_less g.R.Rules.queries g.met.R.Rules.lawful c.args.self.now c.args.key c.steps.self c.steps.top.key c.steps.path.items c.args.steps.now c.steps.steps c.steps.invariant.walk c.advance.new.self c.advance.new.steps c.in-Waits.frame c.in-Waits.on c.begin-top-in-Waits.result (subst (IsStep g.R.Rules.queries c.steps.self c.advance.new.self c.steps.top.key c.steps.steps c.advance.new.steps) c.in-Waits.is c.in_ok-moved.ensures.ok) c.begin-top-in-Waits.ensures.key
+    waits_less g.R.Rules.queries g.met.R.Rules.lawful c.args.self.now c.args.key c.steps.self c.steps.top.key c.steps.path.items c.args.steps.now c.steps.steps c.steps.invariant.walk c.advance.new.self c.advance.new.steps c.in-Waits.frame c.in-Waits.on c.in-Waits.at_node c.begin-top-in-Waits.result (subst (IsStep g.R.Rules.queries c.steps.self c.advance.new.self c.steps.top.key c.steps.steps c.advance.new.steps) c.in-Waits.is c.in_ok-moved.ensures.ok) c.begin-top-in-Waits.ensures.key
 
 pub steps-preserved-in-Waits : goal.steps-preserved-in-Waits
 steps-preserved-in-Waits g c =
     record {
-      walk = waits_on g.R.Rules.queries g.met.R.Rules.lawful c.args.self.now c.args.key c.steps.self c.steps.top.key c.steps.path.items c.args.steps.now c.steps.steps c.steps.invariant.walk c.advance.new.self c.advance.new.steps c.in-Waits.frame c.in-Waits.on c.push_reserved.new.self.items c.begin-top-in-Waits.result (subst (IsStep g.R.Rules.queries c.steps.self c.advance.new.self c.steps.top.key c.steps.steps c.advance.new.steps) c.in-Waits.is c.in_ok-moved.ensures.ok)
+      walk = waits_on g.R.Rules.queries g.met.R.Rules.lawful c.args.self.now c.args.key c.steps.self c.steps.top.key c.steps.path.items c.args.steps.now c.steps.steps c.steps.invariant.walk c.advance.new.self c.advance.new.steps c.in-Waits.frame c.in-Waits.on c.in-Waits.at_node c.push_reserved.new.self.items c.begin-top-in-Waits.result (subst (IsStep g.R.Rules.queries c.steps.self c.advance.new.self c.steps.top.key c.steps.steps c.advance.new.steps) c.in-Waits.is c.in_ok-moved.ensures.ok)
           (c.push_reserved.ensures.items ∙ ap (λ l. l ++ c.in-Waits.frame ∷ []) c.in_ok-reserve-in-Waits.ensures.items) c.begin-top-in-Waits.ensures.key;
       frame = c.begin-top-in-Waits.ensures.frame;
     }
