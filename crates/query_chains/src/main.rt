@@ -11,7 +11,7 @@ use std::marker::Brand;
 use std::sync::ledger::Blank;
 use std::{env, io};
 
-static EDITS: [Edit; 6] = [
+static EDITS: [Edit; 9] = [
     Edit {
         input: 0,
         value: 4,
@@ -41,6 +41,21 @@ static EDITS: [Edit; 6] = [
         input: 7,
         value: 1,
         demand: Cell::Wide(10_000),
+    },
+    Edit {
+        input: 0,
+        value: 8,
+        demand: Cell::All(10_000),
+    },
+    Edit {
+        input: 0,
+        value: 9,
+        demand: Cell::All(10_000),
+    },
+    Edit {
+        input: 0,
+        value: 10,
+        demand: Cell::All(10_000),
     },
 ];
 

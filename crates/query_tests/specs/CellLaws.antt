@@ -6,14 +6,16 @@ use Rattle.query_core.specs.Lists.{Has, IsOnce}
 use Rattle.query_core.specs.Queries.{AreLawful, GoesOn, answers}
 use Rattle.query_tests.specs.contracts.cells.CellPartialEq.TheImpl.{eq-value}
 use Rattle.query_tests.specs.declared.cells.Cell.{Cell}
-use Rattle.query_tests.specs.declared.cells.Cell.TheVariants.{Input, Half, Chain, Wide, Left, Right, Top}
-use Rattle.query_tests.specs.Cells.{cells, same_cell, is_input_cell, halves, reads_of, worth, level, rest_of, answer_or_zero, final, step_with}
+use Rattle.query_tests.specs.declared.cells.Cell.TheVariants.{Input, Half, Chain, Wide, Share, All, Left, Right, Top}
+use Rattle.query_tests.specs.Cells.{cells, same_cell, is_input_cell, halves, shares, reads_of, worth, level, rest_of, answer_or_zero, final, step_with}
 
 pub same_cell_is : (a b : Cell) → eq-value.it a b ≡ same_cell a b
 same_cell_is (Input a) (Input b) = refl
 same_cell_is (Input a) (Half b) = refl
 same_cell_is (Input a) (Chain b) = refl
 same_cell_is (Input a) (Wide b) = refl
+same_cell_is (Input a) (Share b) = refl
+same_cell_is (Input a) (All b) = refl
 same_cell_is (Input a) Left = refl
 same_cell_is (Input a) Right = refl
 same_cell_is (Input a) Top = refl
@@ -21,6 +23,8 @@ same_cell_is (Half a) (Input b) = refl
 same_cell_is (Half a) (Half b) = refl
 same_cell_is (Half a) (Chain b) = refl
 same_cell_is (Half a) (Wide b) = refl
+same_cell_is (Half a) (Share b) = refl
+same_cell_is (Half a) (All b) = refl
 same_cell_is (Half a) Left = refl
 same_cell_is (Half a) Right = refl
 same_cell_is (Half a) Top = refl
@@ -28,6 +32,8 @@ same_cell_is (Chain a) (Input b) = refl
 same_cell_is (Chain a) (Half b) = refl
 same_cell_is (Chain a) (Chain b) = refl
 same_cell_is (Chain a) (Wide b) = refl
+same_cell_is (Chain a) (Share b) = refl
+same_cell_is (Chain a) (All b) = refl
 same_cell_is (Chain a) Left = refl
 same_cell_is (Chain a) Right = refl
 same_cell_is (Chain a) Top = refl
@@ -35,13 +41,35 @@ same_cell_is (Wide a) (Input b) = refl
 same_cell_is (Wide a) (Half b) = refl
 same_cell_is (Wide a) (Chain b) = refl
 same_cell_is (Wide a) (Wide b) = refl
+same_cell_is (Wide a) (Share b) = refl
+same_cell_is (Wide a) (All b) = refl
 same_cell_is (Wide a) Left = refl
 same_cell_is (Wide a) Right = refl
 same_cell_is (Wide a) Top = refl
+same_cell_is (Share a) (Input b) = refl
+same_cell_is (Share a) (Half b) = refl
+same_cell_is (Share a) (Chain b) = refl
+same_cell_is (Share a) (Wide b) = refl
+same_cell_is (Share a) (Share b) = refl
+same_cell_is (Share a) (All b) = refl
+same_cell_is (Share a) Left = refl
+same_cell_is (Share a) Right = refl
+same_cell_is (Share a) Top = refl
+same_cell_is (All a) (Input b) = refl
+same_cell_is (All a) (Half b) = refl
+same_cell_is (All a) (Chain b) = refl
+same_cell_is (All a) (Wide b) = refl
+same_cell_is (All a) (Share b) = refl
+same_cell_is (All a) (All b) = refl
+same_cell_is (All a) Left = refl
+same_cell_is (All a) Right = refl
+same_cell_is (All a) Top = refl
 same_cell_is Left (Input b) = refl
 same_cell_is Left (Half b) = refl
 same_cell_is Left (Chain b) = refl
 same_cell_is Left (Wide b) = refl
+same_cell_is Left (Share b) = refl
+same_cell_is Left (All b) = refl
 same_cell_is Left Left = refl
 same_cell_is Left Right = refl
 same_cell_is Left Top = refl
@@ -49,6 +77,8 @@ same_cell_is Right (Input b) = refl
 same_cell_is Right (Half b) = refl
 same_cell_is Right (Chain b) = refl
 same_cell_is Right (Wide b) = refl
+same_cell_is Right (Share b) = refl
+same_cell_is Right (All b) = refl
 same_cell_is Right Left = refl
 same_cell_is Right Right = refl
 same_cell_is Right Top = refl
@@ -56,6 +86,8 @@ same_cell_is Top (Input b) = refl
 same_cell_is Top (Half b) = refl
 same_cell_is Top (Chain b) = refl
 same_cell_is Top (Wide b) = refl
+same_cell_is Top (Share b) = refl
+same_cell_is Top (All b) = refl
 same_cell_is Top Left = refl
 same_cell_is Top Right = refl
 same_cell_is Top Top = refl
@@ -65,6 +97,8 @@ same_means (Input a) (Input b) e = ap Input (grind (arith, e))
 same_means (Input a) (Half b) e = let bad : ⊥ = cc in absurd bad
 same_means (Input a) (Chain b) e = let bad : ⊥ = cc in absurd bad
 same_means (Input a) (Wide b) e = let bad : ⊥ = cc in absurd bad
+same_means (Input a) (Share b) e = let bad : ⊥ = cc in absurd bad
+same_means (Input a) (All b) e = let bad : ⊥ = cc in absurd bad
 same_means (Input a) Left e = let bad : ⊥ = cc in absurd bad
 same_means (Input a) Right e = let bad : ⊥ = cc in absurd bad
 same_means (Input a) Top e = let bad : ⊥ = cc in absurd bad
@@ -72,6 +106,8 @@ same_means (Half a) (Input b) e = let bad : ⊥ = cc in absurd bad
 same_means (Half a) (Half b) e = ap Half (grind (arith, e))
 same_means (Half a) (Chain b) e = let bad : ⊥ = cc in absurd bad
 same_means (Half a) (Wide b) e = let bad : ⊥ = cc in absurd bad
+same_means (Half a) (Share b) e = let bad : ⊥ = cc in absurd bad
+same_means (Half a) (All b) e = let bad : ⊥ = cc in absurd bad
 same_means (Half a) Left e = let bad : ⊥ = cc in absurd bad
 same_means (Half a) Right e = let bad : ⊥ = cc in absurd bad
 same_means (Half a) Top e = let bad : ⊥ = cc in absurd bad
@@ -79,6 +115,8 @@ same_means (Chain a) (Input b) e = let bad : ⊥ = cc in absurd bad
 same_means (Chain a) (Half b) e = let bad : ⊥ = cc in absurd bad
 same_means (Chain a) (Chain b) e = ap Chain (grind (arith, e))
 same_means (Chain a) (Wide b) e = let bad : ⊥ = cc in absurd bad
+same_means (Chain a) (Share b) e = let bad : ⊥ = cc in absurd bad
+same_means (Chain a) (All b) e = let bad : ⊥ = cc in absurd bad
 same_means (Chain a) Left e = let bad : ⊥ = cc in absurd bad
 same_means (Chain a) Right e = let bad : ⊥ = cc in absurd bad
 same_means (Chain a) Top e = let bad : ⊥ = cc in absurd bad
@@ -86,13 +124,35 @@ same_means (Wide a) (Input b) e = let bad : ⊥ = cc in absurd bad
 same_means (Wide a) (Half b) e = let bad : ⊥ = cc in absurd bad
 same_means (Wide a) (Chain b) e = let bad : ⊥ = cc in absurd bad
 same_means (Wide a) (Wide b) e = ap Wide (grind (arith, e))
+same_means (Wide a) (Share b) e = let bad : ⊥ = cc in absurd bad
+same_means (Wide a) (All b) e = let bad : ⊥ = cc in absurd bad
 same_means (Wide a) Left e = let bad : ⊥ = cc in absurd bad
 same_means (Wide a) Right e = let bad : ⊥ = cc in absurd bad
 same_means (Wide a) Top e = let bad : ⊥ = cc in absurd bad
+same_means (Share a) (Input b) e = let bad : ⊥ = cc in absurd bad
+same_means (Share a) (Half b) e = let bad : ⊥ = cc in absurd bad
+same_means (Share a) (Chain b) e = let bad : ⊥ = cc in absurd bad
+same_means (Share a) (Wide b) e = let bad : ⊥ = cc in absurd bad
+same_means (Share a) (Share b) e = ap Share (grind (arith, e))
+same_means (Share a) (All b) e = let bad : ⊥ = cc in absurd bad
+same_means (Share a) Left e = let bad : ⊥ = cc in absurd bad
+same_means (Share a) Right e = let bad : ⊥ = cc in absurd bad
+same_means (Share a) Top e = let bad : ⊥ = cc in absurd bad
+same_means (All a) (Input b) e = let bad : ⊥ = cc in absurd bad
+same_means (All a) (Half b) e = let bad : ⊥ = cc in absurd bad
+same_means (All a) (Chain b) e = let bad : ⊥ = cc in absurd bad
+same_means (All a) (Wide b) e = let bad : ⊥ = cc in absurd bad
+same_means (All a) (Share b) e = let bad : ⊥ = cc in absurd bad
+same_means (All a) (All b) e = ap All (grind (arith, e))
+same_means (All a) Left e = let bad : ⊥ = cc in absurd bad
+same_means (All a) Right e = let bad : ⊥ = cc in absurd bad
+same_means (All a) Top e = let bad : ⊥ = cc in absurd bad
 same_means Left (Input b) e = let bad : ⊥ = cc in absurd bad
 same_means Left (Half b) e = let bad : ⊥ = cc in absurd bad
 same_means Left (Chain b) e = let bad : ⊥ = cc in absurd bad
 same_means Left (Wide b) e = let bad : ⊥ = cc in absurd bad
+same_means Left (Share b) e = let bad : ⊥ = cc in absurd bad
+same_means Left (All b) e = let bad : ⊥ = cc in absurd bad
 same_means Left Left e = refl
 same_means Left Right e = let bad : ⊥ = cc in absurd bad
 same_means Left Top e = let bad : ⊥ = cc in absurd bad
@@ -100,6 +160,8 @@ same_means Right (Input b) e = let bad : ⊥ = cc in absurd bad
 same_means Right (Half b) e = let bad : ⊥ = cc in absurd bad
 same_means Right (Chain b) e = let bad : ⊥ = cc in absurd bad
 same_means Right (Wide b) e = let bad : ⊥ = cc in absurd bad
+same_means Right (Share b) e = let bad : ⊥ = cc in absurd bad
+same_means Right (All b) e = let bad : ⊥ = cc in absurd bad
 same_means Right Left e = let bad : ⊥ = cc in absurd bad
 same_means Right Right e = refl
 same_means Right Top e = let bad : ⊥ = cc in absurd bad
@@ -107,6 +169,8 @@ same_means Top (Input b) e = let bad : ⊥ = cc in absurd bad
 same_means Top (Half b) e = let bad : ⊥ = cc in absurd bad
 same_means Top (Chain b) e = let bad : ⊥ = cc in absurd bad
 same_means Top (Wide b) e = let bad : ⊥ = cc in absurd bad
+same_means Top (Share b) e = let bad : ⊥ = cc in absurd bad
+same_means Top (All b) e = let bad : ⊥ = cc in absurd bad
 same_means Top Left e = let bad : ⊥ = cc in absurd bad
 same_means Top Right e = let bad : ⊥ = cc in absurd bad
 same_means Top Top e = refl
@@ -116,6 +180,8 @@ same_itself (Input a) = eq-eqb a a refl
 same_itself (Half a) = eq-eqb a a refl
 same_itself (Chain a) = eq-eqb a a refl
 same_itself (Wide a) = eq-eqb a a refl
+same_itself (Share a) = eq-eqb a a refl
+same_itself (All a) = eq-eqb a a refl
 same_itself Left = refl
 same_itself Right = refl
 same_itself Top = refl
@@ -125,6 +191,8 @@ input_value given (Input a) e = refl
 input_value given (Half a) e = let bad : ⊥ = cc in absurd bad
 input_value given (Chain a) e = let bad : ⊥ = cc in absurd bad
 input_value given (Wide a) e = let bad : ⊥ = cc in absurd bad
+input_value given (Share a) e = let bad : ⊥ = cc in absurd bad
+input_value given (All a) e = let bad : ⊥ = cc in absurd bad
 input_value given Left e = let bad : ⊥ = cc in absurd bad
 input_value given Right e = let bad : ⊥ = cc in absurd bad
 input_value given Top e = let bad : ⊥ = cc in absurd bad
@@ -134,6 +202,8 @@ input_reads given (Input a) e = refl
 input_reads given (Half a) e = let bad : ⊥ = cc in absurd bad
 input_reads given (Chain a) e = let bad : ⊥ = cc in absurd bad
 input_reads given (Wide a) e = let bad : ⊥ = cc in absurd bad
+input_reads given (Share a) e = let bad : ⊥ = cc in absurd bad
+input_reads given (All a) e = let bad : ⊥ = cc in absurd bad
 input_reads given Left e = let bad : ⊥ = cc in absurd bad
 input_reads given Right e = let bad : ⊥ = cc in absurd bad
 input_reads given Top e = let bad : ⊥ = cc in absurd bad
@@ -206,11 +276,26 @@ once_halves zero = tt
 once_halves (suc n) = once_push (halves n) (Half n) (once_halves n)
     (λ h. let r = in_halves n (Half n) h in let e : r.0 ≡ n = (let s = r.1.1 in cc) in let l = r.1.0 in omega arith)
 
+in_shares : (n : ℕ) (c : Cell) → Has (shares n) c → (i : ℕ) × ((i < n) × (Share i ≡ c))
+in_shares zero c h = absurd h
+in_shares (suc n) c h =
+    elim (append_cases (shares n) (Share n ∷ []) c h) [
+      | inl a ↦ (let r = in_shares n c a in (r.0, ((let l = r.1.0 in omega arith), r.1.1)))
+      | inr b ↦ elim b [ inl e ↦ (n, ((omega arith), e)) | inr x ↦ absurd x ]
+    ]
+
+once_shares : (n : ℕ) → IsOnce (shares n)
+once_shares zero = tt
+once_shares (suc n) = once_push (shares n) (Share n) (once_shares n)
+    (λ h. let r = in_shares n (Share n) h in let e : r.0 ≡ n = (let s = r.1.1 in cc) in let l = r.1.0 in omega arith)
+
 once_reads : (c : Cell) → IsOnce (reads_of c)
 once_reads (Input n) = tt
 once_reads (Half n) = ((λ h. h), tt)
 once_reads (Chain n) = ((λ h. h), tt)
 once_reads (Wide n) = once_halves n
+once_reads (Share n) = ((λ h. h), tt)
+once_reads (All n) = once_shares n
 once_reads Left = ((λ h. h), tt)
 once_reads Right = ((λ h. h), tt)
 once_reads Top = ((λ h. elim h [ inl e ↦ (let bad : ⊥ = cc in bad) | inr x ↦ x ]), ((λ h. h), tt))
@@ -221,6 +306,10 @@ found f cs c h = ap (λ o. elim o [ None ↦ 0 | Some v ↦ v ]) (lookup_answers
 last_half : (n : ℕ) → (n == 0) ≡ false → Has (halves n) (Half (n - 1))
 last_half zero e = let bad : ⊥ = cc in absurd bad
 last_half (suc n) e = let s : suc n - 1 ≡ n = omega arith in subst (λ m. Has (halves (suc n)) (Half m)) (sym s) (middle (halves n) (Half n) [])
+
+last_share : (n : ℕ) → (n == 0) ≡ false → Has (shares n) (Share (n - 1))
+last_share zero e = let bad : ⊥ = cc in absurd bad
+last_share (suc n) e = let s : suc n - 1 ≡ n = omega arith in subst (λ m. Has (shares (suc n)) (Share m)) (sym s) (middle (shares n) (Share n) [])
 
 worth_before : (given : Cell → ℕ) (n : ℕ) → worth given (if n == 0 then Half 0 else Chain (n - 1)) ≡ given (Input 0) / 2
 worth_before given n = elim (n == 0) as (λ b. worth given (if b then Half 0 else Chain (n - 1)) ≡ given (Input 0) / 2) [ true ↦ refl | false ↦ refl ]
@@ -233,6 +322,10 @@ final_is given (Chain n) e =
 final_is given (Wide n) e =
     elim (n == 0) as (λ b. (n == 0) ≡ b → (if b then 0 else answer_or_zero (answers (worth given) (halves n)) (Half (n - 1))) ≡ (if b then 0 else given (Input (n - 1)) / 2))
     [ true ↦ (λ _. refl) | false ↦ (λ s. found (worth given) (halves n) (Half (n - 1)) (last_half n s)) ] refl
+final_is given (Share n) e = found (worth given) (Half 0 ∷ []) (Half 0) (inl refl)
+final_is given (All n) e =
+    elim (n == 0) as (λ b. (n == 0) ≡ b → (if b then 0 else answer_or_zero (answers (worth given) (shares n)) (Share (n - 1))) ≡ (if b then 0 else given (Input 0) / 2))
+    [ true ↦ (λ _. refl) | false ↦ (λ s. found (worth given) (shares n) (Share (n - 1)) (last_share n s)) ] refl
 final_is given Left e = found (worth given) (Half 0 ∷ []) (Half 0) (inl refl)
 final_is given Right e = found (worth given) (Half 0 ∷ []) (Half 0) (inl refl)
 final_is given Top e = found (worth given) (Left ∷ Right ∷ []) Right (inr (inl refl))
@@ -259,6 +352,9 @@ cell_ranks given (Half n) d (inr x) = absurd x
 cell_ranks given (Chain n) d (inl e) = subst (λ x. level x < n + 2) e (level_before n)
 cell_ranks given (Chain n) d (inr x) = absurd x
 cell_ranks given (Wide n) d h = let r = in_halves n d h in subst (λ x. level x < 2) r.1.1 (omega arith)
+cell_ranks given (Share n) d (inl e) = subst (λ x. level x < 2) e (omega arith)
+cell_ranks given (Share n) d (inr x) = absurd x
+cell_ranks given (All n) d h = let r = in_shares n d h in subst (λ x. level x < 3) r.1.1 (omega arith)
 cell_ranks given Left d (inl e) = subst (λ x. level x < 2) e (omega arith)
 cell_ranks given Left d (inr x) = absurd x
 cell_ranks given Right d (inl e) = subst (λ x. level x < 2) e (omega arith)

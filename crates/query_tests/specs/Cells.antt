@@ -5,13 +5,15 @@ use Rattle.query_core.specs.Queries.{Queries}
 use Rattle.query_core.specs.declared.rules.Step.{Step}
 use Rattle.query_core.specs.declared.rules.Step.TheVariants.{Ask, Done}
 use Rattle.query_tests.specs.declared.cells.Cell.{Cell}
-use Rattle.query_tests.specs.declared.cells.Cell.TheVariants.{Input, Half, Chain, Wide, Left, Right, Top}
+use Rattle.query_tests.specs.declared.cells.Cell.TheVariants.{Input, Half, Chain, Wide, Share, All, Left, Right, Top}
 
 abbrev pub same_cell : Cell → Cell → Bool
 same_cell (Input a) (Input b) = a == b
 same_cell (Half a) (Half b) = a == b
 same_cell (Chain a) (Chain b) = a == b
 same_cell (Wide a) (Wide b) = a == b
+same_cell (Share a) (Share b) = a == b
+same_cell (All a) (All b) = a == b
 same_cell Left Left = true
 same_cell Right Right = true
 same_cell Top Top = true
@@ -26,12 +28,19 @@ abbrev pub halves : ℕ → List Cell
 halves zero = []
 halves (suc n) = halves n ++ Half n ∷ []
 
+-- the first cells that share an input
+abbrev pub shares : ℕ → List Cell
+shares zero = []
+shares (suc n) = shares n ++ Share n ∷ []
+
 -- what a cell reads
 abbrev pub reads_of : Cell → List Cell
 reads_of (Input n) = []
 reads_of (Half n) = Input n ∷ []
 reads_of (Chain n) = (if n == 0 then Half 0 else Chain (n - 1)) ∷ []
 reads_of (Wide n) = halves n
+reads_of (Share n) = Half 0 ∷ []
+reads_of (All n) = shares n
 reads_of Left = Half 0 ∷ []
 reads_of Right = Half 0 ∷ []
 reads_of Top = Left ∷ Right ∷ []
@@ -42,6 +51,8 @@ worth given (Input n) = given (Input n)
 worth given (Half n) = given (Input n) / 2
 worth given (Chain n) = given (Input 0) / 2
 worth given (Wide n) = if n == 0 then 0 else given (Input (n - 1)) / 2
+worth given (Share n) = given (Input 0) / 2
+worth given (All n) = if n == 0 then 0 else given (Input 0) / 2
 worth given Left = given (Input 0) / 2
 worth given Right = given (Input 0) / 2
 worth given Top = given (Input 0) / 2
@@ -51,6 +62,8 @@ level (Input n) = 0
 level (Half n) = 1
 level (Chain n) = n + 2
 level (Wide n) = 2
+level (Share n) = 2
+level (All n) = 3
 level Left = 2
 level Right = 2
 level Top = 3
@@ -69,6 +82,8 @@ final (Input n) answers = 0
 final (Half n) answers = answer_or_zero answers (Input n) / 2
 final (Chain n) answers = answer_or_zero answers (if n == 0 then Half 0 else Chain (n - 1))
 final (Wide n) answers = if n == 0 then 0 else answer_or_zero answers (Half (n - 1))
+final (Share n) answers = answer_or_zero answers (Half 0)
+final (All n) answers = if n == 0 then 0 else answer_or_zero answers (Share (n - 1))
 final Left answers = answer_or_zero answers (Half 0)
 final Right answers = answer_or_zero answers (Half 0)
 final Top answers = answer_or_zero answers Right

@@ -1,9 +1,9 @@
-// Cells over halved inputs: a diamond, a chain and a row. An edit that leaves the half of an input stops there.
+// Cells over halved inputs: a diamond, a chain, a row over many inputs and a row over one. An edit that leaves the half of an input stops there.
 
 ghost use Rattle.std.specs.Prelude.{◌≡◌, ◌-◌, ◌<◌, ◌≤◌, [], ◌∷◌, drop, length, IfOk, ◌==◌, if◌then◌else◌, is_some};
 ghost use Rattle.std.specs.Map.{lookup};
 ghost use Rattle.query_tests.specs.declared.cells.Cell.TheVariants.{Half, Chain};
-ghost use Rattle.query_tests.specs.Cells.{cells, reads_of, rest_of, final, halves, answer_or_zero, same_cell};
+ghost use Rattle.query_tests.specs.Cells.{cells, reads_of, rest_of, final, halves, shares, answer_or_zero, same_cell};
 ghost use Rattle.query_tests.specs.CellLaws.{cells_lawful, same_cell_is};
 ghost use Rattle.query_tests.specs.PickLaws.{same_number_is};
 
@@ -23,6 +23,10 @@ pub enum Cell {
     Chain(u32),
     /// Reads so many halves, and is the last of them.
     Wide(u32),
+    /// The half of input 0, which all of these share.
+    Share(u32),
+    /// Reads so many shares, and is the last of them.
+    All(u32),
     /// One side of the diamond, over the half of input 0.
     Left,
     /// The other side.
@@ -48,6 +52,17 @@ fn first_halves(alloc: Global, number: u32) -> Result<Vec<Cell>, AllocError>
     let mut cells = Vec::new(alloc);
     for i in 0..number {
         cells.push(Cell::Half(i))?;
+    }
+    Ok(cells)
+}
+
+/// The first shares.
+fn first_shares(alloc: Global, number: u32) -> Result<Vec<Cell>, AllocError>
+    ensures { IfOk result (λ v. v.items ≡ shares number) }
+{
+    let mut cells = Vec::new(alloc);
+    for i in 0..number {
+        cells.push(Cell::Share(i))?;
     }
     Ok(cells)
 }
@@ -81,6 +96,8 @@ fn reads(alloc: Global, cell: Cell) -> Result<Vec<Cell>, AllocError>
         Cell::Half(number) => one(alloc, Cell::Input(number)),
         Cell::Chain(number) => one(alloc, before(number)),
         Cell::Wide(number) => first_halves(alloc, number),
+        Cell::Share(_) => one(alloc, Cell::Half(0)),
+        Cell::All(number) => first_shares(alloc, number),
         Cell::Left => one(alloc, Cell::Half(0)),
         Cell::Right => one(alloc, Cell::Half(0)),
         Cell::Top => {
@@ -136,6 +153,14 @@ fn value(cell: Cell, answers: &Answers<'_, Cell, u32>) -> u32
                 answer(answers, Cell::Half(number - 1))
             }
         }
+        Cell::Share(_) => answer(answers, Cell::Half(0)),
+        Cell::All(number) => {
+            if number == 0 {
+                0
+            } else {
+                answer(answers, Cell::Share(number - 1))
+            }
+        }
         Cell::Left => answer(answers, Cell::Half(0)),
         Cell::Right => answer(answers, Cell::Half(0)),
         Cell::Top => answer(answers, Cell::Right),
@@ -153,7 +178,7 @@ impl Rules for CellRules {
         match key {
             Cell::Input(_) => true,
             Cell::Half(_) | Cell::Chain(_) | Cell::Wide(_) => false,
-            Cell::Left | Cell::Right | Cell::Top => false,
+            Cell::Share(_) | Cell::All(_) | Cell::Left | Cell::Right | Cell::Top => false,
         }
     }
 

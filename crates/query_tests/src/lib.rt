@@ -88,7 +88,7 @@ mod tests {
         }
     }
 
-    static EDITS: [Edit; 11] = [
+    static EDITS: [Edit; 14] = [
         // a diamond: both sides and the top run once, and an edit that leaves the half stops there
         Edit {
             input: 0,
@@ -147,9 +147,25 @@ mod tests {
             value: 7,
             demand: Cell::Wide(20),
         },
+        // a row of ten over one input
+        Edit {
+            input: 0,
+            value: 12,
+            demand: Cell::All(10),
+        },
+        Edit {
+            input: 0,
+            value: 13,
+            demand: Cell::All(10),
+        },
+        Edit {
+            input: 0,
+            value: 14,
+            demand: Cell::All(10),
+        },
     ];
 
-    static SHOWN: [Shown; 11] = [
+    static SHOWN: [Shown; 14] = [
         Shown { value: 2, runs: 4 },
         Shown { value: 2, runs: 1 },
         Shown { value: 4, runs: 4 },
@@ -161,6 +177,9 @@ mod tests {
         Shown { value: 3, runs: 2 },
         Shown { value: 3, runs: 1 },
         Shown { value: 3, runs: 0 },
+        Shown { value: 6, runs: 12 },
+        Shown { value: 6, runs: 1 },
+        Shown { value: 7, runs: 12 },
     ];
 
     #[test]
