@@ -1,0 +1,334 @@
+// The texts that stand, and the calls that change them.
+ghost use Rattle.std.specs.Prelude.{◌≡◌, ◌≢◌, ◌≤◌, ◌+◌, ◌-◌, ℕ, length, Err, Some, None, option_map, IfOk, IfSome, is_some, map, if◌then◌else◌};
+ghost use Rattle.doc_texts.specs.Texts.{text_at, version_at, uri_at, paths_of, file_count, byte_count, no_texts, with_disk, without_disk, with_open, without_open};
+ghost use Rattle.doc_texts.specs.Docs.{is_outside, allowed, fits, loaded, opened, changed, closed};
+ghost use Rattle.doc_texts.specs.Limits.{longest_text};
+ghost use Rattle.doc_texts.specs.Done.{IsDone, Answers};
+
+use crate::changes::edited;
+use crate::error::DocError;
+use crate::kept::{KeptText, LONGEST_TEXT, OpenDoc};
+use std::alloc::{AllocError, Global};
+use std::collections::{BTreeMap, BTreeSet};
+use std::marker::Model;
+use std::str;
+use text_lines::{Change, Encoding};
+use uri_paths::{Path, under};
+
+/// The most paths that may have a text.
+const MOST_FILES: usize = 4_096;
+
+/// The most bytes of all texts together.
+const MOST_BYTES: usize = 67_108_864;
+
+/// The texts of files on disk and the open documents, by path. An open text hides that on disk. Contracts see it as `Texts`.
+#[derive(Drop)]
+pub struct Docs {
+    alloc: Global,
+    root: Option<Path>,
+    disk: BTreeMap<Path, KeptText>,
+    opened: BTreeMap<Path, OpenDoc>,
+    /// How many paths have a text.
+    files: usize,
+    /// The bytes of all texts.
+    bytes: usize,
+}
+
+impl Model for Docs {
+    ghost use Rattle.doc_texts.specs.Texts.{Texts, texts_code};
+
+    ghost Value = { Texts };
+
+    ghost coded = { texts_code };
+
+    ghost use Rattle.doc_texts.specs.Kept.{texts_in, IsCounted};
+
+    ghost view = { texts_in };
+
+    ghost invariant = { IsCounted };
+}
+
+impl Docs {
+    /// No texts, under this root or none. It takes no memory.
+    pub fn new(alloc: Global, root: Option<Path>) -> Docs
+        ensures { result ≡ no_texts root }
+    {
+        Docs {
+            alloc,
+            root,
+            disk: BTreeMap::new(alloc),
+            opened: BTreeMap::new(alloc),
+            files: 0,
+            bytes: 0,
+        }
+    }
+
+    /// The path of the root, if there is one.
+    pub fn root(&self) -> Option<&Path>
+        ensures { option_map (λ root. root.now) result ≡ self.now.root }
+    {
+        self.root.as_ref()
+    }
+
+    /// Sets the text on disk at a path, or drops it where there are no bytes. It costs the text and a logarithm of the number of
+    /// files. All is unchanged after a refusal, which is the first that holds of OutsideRoot, NotText, TooLong, TooManyFiles and
+    /// TooMuchText, or want of memory.
+    pub fn load(&mut self, path: &Path, bytes: Option<&[u8]>) -> Result<(), DocError>
+        ensures { IsDone result self.old self.new (loaded self.old path.now (option_map (λ bytes. bytes.now) bytes)) }
+    {
+        if self.is_outside(path) {
+            return Err(DocError::OutsideRoot);
+        }
+        let Some(bytes) = bytes else {
+            self.drop_disk(path);
+            return Ok(());
+        };
+        let Ok(text) = str::from_utf8(bytes) else {
+            return Err(DocError::NotText);
+        };
+        if text.len() > LONGEST_TEXT {
+            return Err(DocError::TooLong);
+        }
+        self.set_disk(path, text)
+    }
+
+    /// Opens a document (LSP 3.17, textDocument/didOpen). It costs the text and a logarithm of the number of files. All is
+    /// unchanged after a refusal, which is the first that holds of OutsideRoot, AlreadyOpen, TooLong, TooManyFiles and
+    /// TooMuchText, or want of memory.
+    pub fn open_doc(
+        &mut self,
+        path: &Path,
+        uri: &str,
+        version: i32,
+        text: &str,
+    ) -> Result<(), DocError>
+        ensures { IsDone result self.old self.new (opened self.old path.now uri.now version text.now) }
+    {
+        if self.is_outside(path) {
+            return Err(DocError::OutsideRoot);
+        }
+        if self.opened.contains_key(path) {
+            return Err(DocError::AlreadyOpen);
+        }
+        if text.len() > LONGEST_TEXT {
+            return Err(DocError::TooLong);
+        }
+        self.add_open(path, uri, version, text)
+    }
+
+    /// Changes an open document (LSP 3.17, textDocument/didChange), each change in the text that the one before left. The document
+    /// keeps the URI that it was opened with. It costs one copy of the text, what the changes cost and a logarithm of the number
+    /// of files. All is unchanged after a refusal, which is the first that holds of OutsideRoot, NotOpen, Reversed and TooLong
+    /// change by change, and TooMuchText, or want of memory.
+    pub fn change(
+        &mut self,
+        path: &Path,
+        version: i32,
+        changes: &[Change],
+        encoding: Encoding,
+    ) -> Result<(), DocError>
+        ensures { IsDone result self.old self.new (changed self.old path.now version changes.now encoding) }
+    {
+        if self.is_outside(path) {
+            return Err(DocError::OutsideRoot);
+        }
+        let Some(document) = self.opened.get(path) else {
+            return Err(DocError::NotOpen);
+        };
+        let freed = document.text().len();
+        let text = edited(self.alloc, document.text(), changes, encoding)?;
+        let (_, bytes) = self.room(path, freed, text.as_str().len())?;
+        self.set_open(path, version, text, bytes);
+        Ok(())
+    }
+
+    /// Closes a document (LSP 3.17, textDocument/didClose): its open text is dropped. It takes no memory and costs a logarithm of
+    /// the number of files. All is unchanged after a refusal, which is the first that holds of OutsideRoot and NotOpen.
+    pub fn close_doc(&mut self, path: &Path) -> Result<(), DocError>
+        ensures done { IsDone result self.old self.new (closed self.old path.now) }
+        ensures never { result ≢ Err DocError.NoMemory }
+    {
+        if self.is_outside(path) {
+            return Err(DocError::OutsideRoot);
+        }
+        if !self.opened.contains_key(path) {
+            return Err(DocError::NotOpen);
+        }
+        self.drop_open(path);
+        Ok(())
+    }
+
+    /// The text at a path: that of the open document, else that on disk. It takes no memory and costs a logarithm of the number
+    /// of files.
+    pub fn text(&self, path: &Path) -> Option<&str>
+        ensures text { option_map (λ text. text.now) result ≡ text_at self.now path.now }
+        ensures short { IfSome result (λ text. length text.now ≤ 4194304) }
+    {
+        if let Some(document) = self.opened.get(path) {
+            return Some(document.text());
+        }
+        match self.disk.get(path) {
+            Some(text) => Some(text.as_str()),
+            None => None,
+        }
+    }
+
+    /// The version of the document that is open at a path. It takes no memory and costs a logarithm of the number of files.
+    pub fn version(&self, path: &Path) -> Option<i32>
+        ensures { result ≡ version_at self.now path.now }
+    {
+        match self.opened.get(path) {
+            Some(document) => Some(document.version()),
+            None => None,
+        }
+    }
+
+    /// The URI that the document at a path was opened with. It takes no memory and costs a logarithm of the number of files.
+    pub fn uri(&self, path: &Path) -> Option<&str>
+        ensures { option_map (λ uri. uri.now) result ≡ uri_at self.now path.now }
+    {
+        match self.opened.get(path) {
+            Some(document) => Some(document.uri()),
+            None => None,
+        }
+    }
+
+    /// The paths that have a text, in byte order, each once. It costs n log n for n files.
+    pub fn paths(&self) -> Result<Vec<Path>, AllocError>
+        ensures { IfOk result (λ paths. paths.items ≡ paths_of self.now) }
+    {
+        let mut paths = BTreeSet::new(self.alloc);
+        for path in self.disk.keys() {
+            paths.insert(path.share()?)?;
+        }
+        for path in self.opened.keys() {
+            paths.insert(path.share()?)?;
+        }
+        let mut found = Vec::new(self.alloc);
+        for path in paths {
+            found.push(path)?;
+        }
+        Ok(found)
+    }
+
+    /// Whether there is a root that a path isn't under.
+    fn is_outside(&self, path: &Path) -> bool
+        ensures { result ≡ is_outside self.now path.now }
+    {
+        match &self.root {
+            Some(root) => !under(root, path),
+            None => false,
+        }
+    }
+
+    /// How many bytes a path's text on disk has, or 0.
+    fn disk_len(&self, path: &Path) -> usize {
+        match self.disk.get(path) {
+            Some(text) => text.as_str().len(),
+            None => 0,
+        }
+    }
+
+    /// How many files and bytes of texts there are where a path has a text and these bytes go and come, or the first limit that
+    /// this passes.
+    fn room(&self, path: &Path, freed: usize, added: usize) -> Result<(usize, usize), DocError>
+        requires freed { freed ≤ byte_count self.now }
+        requires added { added ≤ longest_text }
+    {
+        let held = self.opened.contains_key(path) || self.disk.contains_key(path);
+        let files = if held { self.files } else { self.files + 1 };
+        let bytes = self.bytes - freed + added;
+        if files > MOST_FILES {
+            return Err(DocError::TooManyFiles);
+        }
+        if bytes > MOST_BYTES {
+            return Err(DocError::TooMuchText);
+        }
+        Ok((files, bytes))
+    }
+
+    /// Sets a path's text on disk.
+    fn set_disk(&mut self, path: &Path, text: &str) -> Result<(), DocError>
+        requires { length text.now ≤ longest_text }
+        ensures { IsDone result self.old self.new (fits (with_disk self.old path.now text.now)) }
+    {
+        let (files, bytes) = self.room(path, self.disk_len(path), text.len())?;
+        let key = path.share()?;
+        let kept = KeptText::from_str(self.alloc, text)?;
+        self.put_disk(key, kept, files, bytes)?;
+        Ok(())
+    }
+
+    /// Keeps a path's text on disk, with which there are so many files and bytes of texts.
+    fn put_disk(
+        &mut self,
+        path: Path,
+        text: KeptText,
+        files: usize,
+        bytes: usize,
+    ) -> Result<(), AllocError> {
+        self.disk.insert(path, text)?;
+        self.files = files;
+        self.bytes = bytes;
+        Ok(())
+    }
+
+    /// Drops a path's text on disk, if there is one.
+    fn drop_disk(&mut self, path: &Path)
+        ensures { self.new ≡ without_disk self.old path.now }
+    {
+        let Some(text) = self.disk.remove(path) else {
+            return;
+        };
+        self.bytes -= text.as_str().len();
+        if !self.opened.contains_key(path) {
+            self.files -= 1;
+        }
+    }
+
+    /// Opens a document where none is open.
+    fn add_open(&mut self, path: &Path, uri: &str, version: i32, text: &str) -> Result<(), DocError>
+        requires { length text.now ≤ longest_text }
+    {
+        let (files, bytes) = self.room(path, 0, text.len())?;
+        let key = path.share()?;
+        let document = OpenDoc::new(self.alloc, uri, version, text)?;
+        self.put_open(key, document, files, bytes)?;
+        Ok(())
+    }
+
+    /// Keeps an open document, with which there are so many files and bytes of texts.
+    fn put_open(
+        &mut self,
+        path: Path,
+        document: OpenDoc,
+        files: usize,
+        bytes: usize,
+    ) -> Result<(), AllocError> {
+        self.opened.insert(path, document)?;
+        self.files = files;
+        self.bytes = bytes;
+        Ok(())
+    }
+
+    /// Gives the document that is open at a path another text, with which there are so many bytes of texts.
+    fn set_open(&mut self, path: &Path, version: i32, text: KeptText, bytes: usize) {
+        if let Some(document) = self.opened.get_mut(path) {
+            document.set(version, text);
+        }
+        self.bytes = bytes;
+    }
+
+    /// Drops the document that is open at a path, if there is one.
+    fn drop_open(&mut self, path: &Path)
+        ensures { self.new ≡ without_open self.old path.now }
+    {
+        let Some(document) = self.opened.remove(path) else {
+            return;
+        };
+        self.bytes -= document.text().len();
+        if !self.disk.contains_key(path) {
+            self.files -= 1;
+        }
+    }
+}
