@@ -4,7 +4,7 @@ use Rattle.std.proofs.lemmas.List.{append-nil}
 use Rattle.std.specs.List.{flat_map}
 use Rattle.c_tokens.specs.declared.pieces.Context.{Context}
 use Rattle.c_tokens.specs.declared.pieces.Context.TheVariants.{Fresh}
-use Rattle.c_tokens.specs.declared.types.PpToken.{PpToken}
+use Rattle.tok_data.specs.declared.tokens.PpToken.{PpToken}
 use Rattle.c_tokens.specs.declared.types.LexFault.{LexFault}
 use Rattle.c_tokens.specs.Logical.{Character, logical, characters_of, closing_line_end, ends_in_line_end, end_of}
 use Rattle.c_tokens.specs.Pieces.{pieces}

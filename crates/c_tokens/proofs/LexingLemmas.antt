@@ -3,7 +3,7 @@ use Rattle.std.proofs.Common.{◌≡◌, ℕ, zero, suc, ◌+◌, ◌-◌, ◌<�
 use Rattle.std.proofs.lemmas.List.{length-append}
 use Rattle.std.specs.List.{flat_map}
 use Rattle.c_tokens.specs.declared.pieces.Context.{Context}
-use Rattle.c_tokens.specs.declared.types.PpToken.{PpToken}
+use Rattle.tok_data.specs.declared.tokens.PpToken.{PpToken}
 use Rattle.c_tokens.specs.declared.types.LexFault.{LexFault}
 use Rattle.c_tokens.specs.Logical.{Character}
 use Rattle.c_tokens.specs.Pieces.{Piece, Front, pieces, front_of, after_piece, is_space, spelling}

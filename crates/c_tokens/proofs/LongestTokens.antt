@@ -2,7 +2,7 @@
 use Rattle.std.proofs.Common.{◌≡◌, ℕ, zero, suc, ◌+◌, ◌-◌, ◌<◌, ◌≤◌, inl, inr, Bool, true, false, ◌&&◌, ◌||◌, not, List, [], ◌∷◌, length, take, drop, refl, ap, ◌∙◌, subst, arith, Option, Some, None, slice_index, nat_lt, ◌==◌, bytes_eq}
 use Rattle.std.proofs.lemmas.Grind.{common_steps}
 use Rattle.std.proofs.lemmas.List.{length-drop, length-take-le, get_or-take, drop-take}
-use Rattle.c_tokens.specs.declared.types.PpKind.TheVariants.{Number}
+use Rattle.tok_data.specs.declared.tokens.PpKind.TheVariants.{Number}
 use Rattle.c_tokens.specs.declared.pieces.Class.TheVariants.{Token}
 use Rattle.c_tokens.specs.declared.pieces.Context.{Context}
 use Rattle.c_tokens.specs.declared.pieces.Context.TheVariants.{Fresh, Hash, Include, Later}

@@ -1,8 +1,8 @@
 -- Where the piece at the front is open or a stray character, no front would do.
 use Rattle.std.proofs.Common.{◌≡◌, ℕ, zero, suc, ◌+◌, ◌<◌, ◌≤◌, inl, inr, Bool, true, false, ◌&&◌, ◌||◌, not, List, [], ◌∷◌, length, take, drop, refl, ap, sym, ◌∙◌, arith, Option, Some, None, slice_index, nat_lt, ◌==◌}
 use Rattle.std.proofs.lemmas.Grind.{common_steps}
-use Rattle.c_tokens.specs.declared.types.PpKind.{PpKind}
-use Rattle.c_tokens.specs.declared.types.PpKind.TheVariants.{Stray}
+use Rattle.tok_data.specs.declared.tokens.PpKind.{PpKind}
+use Rattle.tok_data.specs.declared.tokens.PpKind.TheVariants.{Stray}
 use Rattle.c_tokens.specs.declared.pieces.Class.{Class}
 use Rattle.c_tokens.specs.declared.pieces.Class.TheVariants.{Token, OpenLiteral, OpenComment, Comment}
 use Rattle.c_tokens.specs.declared.pieces.Context.{Context}

@@ -1,13 +1,13 @@
 -- What lexing gives: the tokens of a text, their places and the lexical faults.
 use Rattle.std.specs.Prelude.{ℕ, ◌+◌, Bool, true, false, List, [], ◌∷◌, ◌++◌, take, length, Option, Some, None}
 use Rattle.std.specs.List.{flat_map}
-use Rattle.c_tokens.specs.declared.types.PpKind.{PpKind}
-use Rattle.c_tokens.specs.declared.types.PpKind.TheVariants.{Stray}
+use Rattle.tok_data.specs.declared.tokens.PpKind.{PpKind}
+use Rattle.tok_data.specs.declared.tokens.PpKind.TheVariants.{Stray}
 use Rattle.c_tokens.specs.declared.pieces.Class.{Class}
 use Rattle.c_tokens.specs.declared.pieces.Class.TheVariants.{OpenComment, Token, OpenLiteral}
 use Rattle.c_tokens.specs.declared.pieces.Context.{Context}
 use Rattle.c_tokens.specs.declared.pieces.Context.TheVariants.{Fresh}
-use Rattle.c_tokens.specs.declared.types.PpToken.{PpToken}
+use Rattle.tok_data.specs.declared.tokens.PpToken.{PpToken}
 use Rattle.c_tokens.specs.declared.types.LexFault.{LexFault}
 use Rattle.c_tokens.specs.declared.types.Lexed.{Lexed}
 use Rattle.c_tokens.specs.Logical.{Character, logical, start_of, end_of}

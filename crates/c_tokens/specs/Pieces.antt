@@ -1,7 +1,7 @@
 -- Translation phase 3 (ISO C11 5.1.1.2, 6.4): logical characters as preprocessing tokens, comments and white space.
 use Rattle.std.specs.Prelude.{ℕ, zero, suc, ◌+◌, ◌-◌, Bool, true, false, ◌&&◌, ◌||◌, not, List, [], ◌∷◌, ◌++◌, take, drop, Option, Some, None, if◌then◌else◌, nat_lt, ◌==◌, slice_index, bytes_eq, codes}
-use Rattle.c_tokens.specs.declared.types.PpKind.{PpKind}
-use Rattle.c_tokens.specs.declared.types.PpKind.TheVariants.{Ident, Number, Char, Str, Header as HeaderName, Punct, Stray}
+use Rattle.tok_data.specs.declared.tokens.PpKind.{PpKind}
+use Rattle.tok_data.specs.declared.tokens.PpKind.TheVariants.{Ident, Number, Char, Str, Header as HeaderName, Punct, Stray}
 use Rattle.c_tokens.specs.declared.pieces.Class.{Class}
 use Rattle.c_tokens.specs.declared.pieces.Class.TheVariants.{Blank, LineEnd, Comment, OpenComment, Token, OpenLiteral}
 use Rattle.c_tokens.specs.declared.pieces.Context.{Context}

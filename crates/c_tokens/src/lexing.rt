@@ -11,9 +11,10 @@ ghost use Rattle.c_tokens.specs.Reading.{rest, read_character, read_spelling, Is
 use crate::logical::{Read, Unit, next_character};
 use crate::names::Names;
 use crate::pieces::{Class, Context, Front, first_front, look_ahead};
-use crate::types::{Faults, LexFault, Lexed, PpKind, PpToken, TokenPlaces, Tokens};
+use crate::types::{Faults, LexFault, Lexed, TokenPlaces, Tokens};
 use shared_text::Name;
 use std::alloc::{AllocError, Global};
+use tok_data::{PpKind, PpToken};
 
 // What was found so far.
 #[derive(Drop)]

@@ -11,7 +11,8 @@ mod types;
 
 pub use laws::{characters_follow, front_is_longest, pieces_join};
 pub use lexing::lex;
-pub use types::{Faults, LexFault, Lexed, PpKind, PpToken, TokenPlaces, Tokens};
+pub use tok_data::{PpKind, PpToken};
+pub use types::{Faults, LexFault, Lexed, TokenPlaces, Tokens};
 
 #[cfg(test)]
 mod tests;

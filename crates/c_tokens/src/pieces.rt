@@ -7,7 +7,7 @@ use crate::classes::{
     Reach, State, is_blank, is_digit, is_line_end, is_nondigit, longest_of_four, run,
 };
 use crate::logical::next_character;
-use crate::types::PpKind;
+use tok_data::PpKind;
 
 /// The class of a piece.
 #[derive(Clone, Copy, Drop)]

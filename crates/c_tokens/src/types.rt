@@ -1,40 +1,8 @@
 // What lexing gives.
 ghost use Rattle.std.specs.Prelude.{◌≡◌, ℕ};
 
-use shared_text::Name;
-use std::alloc::Global;
 use std::marker::Model;
-
-/// The kind of a preprocessing token (ISO C11 6.4).
-#[derive(Clone, Copy, Debug, PartialEq, Eq, Drop)]
-pub enum PpKind {
-    /// An identifier; keywords are identifiers in this phase.
-    Ident,
-    /// A preprocessing number (6.4.8).
-    Number,
-    /// A character constant, or an open one.
-    Char,
-    /// A string literal, or an open one.
-    Str,
-    /// A header name (6.4.7), with its delimiters.
-    Header,
-    /// A punctuator (6.4.6).
-    Punct,
-    /// A character that belongs to no other token.
-    Stray,
-}
-
-/// A preprocessing token.
-#[derive(Clone, Debug, Drop)]
-pub struct PpToken {
-    pub kind: PpKind,
-    /// Its logical characters joined: trigraph sequences replaced, removed line ends left out.
-    pub spelling: Name,
-    /// White space or a comment stands directly before it; a line end is white space.
-    pub space_before: bool,
-    /// No token of the same logical line stands before it.
-    pub line_start: bool,
-}
+use tok_data::PpToken;
 
 /// A lexical fault: rule 101 is an open comment, 102 an open literal, 103 a stray character.
 #[derive(Clone, Copy, Debug, PartialEq, Eq, Drop)]
@@ -55,7 +23,7 @@ pub struct Tokens {
 
 impl Model for Tokens {
     ghost use Rattle.std.specs.Prelude.{List};
-    ghost use Rattle.c_tokens.specs.declared.types.PpToken.{PpToken};
+    ghost use Rattle.tok_data.specs.declared.tokens.PpToken.{PpToken};
 
     ghost Value = { List PpToken };
 
