@@ -1,16 +1,24 @@
--- JSON values as the kinds that LSP 3.17 reads: texts, whole numbers, truth values, ids. A number with a fraction, an exponent
+-- JSON values as the kinds that LSP 3.17 reads: texts, arrays, whole numbers, truth values, ids. A number with a fraction, an exponent
 -- or a minus before its zero, or beyond 64 bits, is a float, and no whole number.
-use Rattle.std.specs.Prelude.{◌^◌, ℕ, ℤ, pos, negsuc, Bool, List, codes, nat_lt, Result, Ok, Err, if◌then◌else◌}
+use Rattle.std.specs.Prelude.{◌^◌, ℕ, ℤ, pos, negsuc, Bool, List, [], ◌∷◌, codes, nat_lt, Result, Ok, Err, if◌then◌else◌}
 use Rattle.std.specs.Prelude.{int_le}
-use Rattle.std.specs.Option.{ok_or}
-use Rattle.serde_json.specs.Data.{Num, unsigned, negative, float, Data, null, boolean, number, string, array, object}
-use Rattle.serde_json.specs.Find.{as_str, as_bool}
+use Rattle.std.specs.Option.{ok_or, option_map}
+use Rattle.serde_json.specs.Data.{Num, unsigned, negative, float, Data, null, boolean, number, string, array, object, Items, no_items, item}
+use Rattle.serde_json.specs.Find.{as_str, as_array, as_bool}
 use Rattle.json_view.specs.declared.id.Id.{Id}
 use Rattle.json_view.specs.declared.id.Id.TheVariants.{Text, Int, Big}
 use Rattle.json_view.specs.Refusals.{Refusal, WrongKind, OutOfRange}
 
 abbrev pub text_in : List ℕ → Data → Result (List ℕ) Refusal
 text_in key d = ok_or (as_str d) (WrongKind key)
+
+-- the elements of an array
+abbrev pub list_of : Items → List Data
+list_of no_items = []
+list_of (item d ds) = d ∷ list_of ds
+
+abbrev pub array_in : List ℕ → Data → Result (List Data) Refusal
+array_in key d = ok_or (option_map list_of (as_array d)) (WrongKind key)
 
 abbrev pub bool_in : List ℕ → Data → Result Bool Refusal
 bool_in key d = ok_or (as_bool d) (WrongKind key)

@@ -5,7 +5,7 @@ use Rattle.serde_json.specs.Find.{get}
 use Rattle.text_lines.specs.declared.pos.Pos.{Pos}
 use Rattle.json_view.specs.declared.id.Id.{Id}
 use Rattle.json_view.specs.Refusals.{Refusal, Missing, WrongKind, and_then}
-use Rattle.json_view.specs.Kinds.{text_in, bool_in, u32_in, i32_in, id_in}
+use Rattle.json_view.specs.Kinds.{text_in, array_in, bool_in, u32_in, i32_in, id_in}
 
 -- the member of this name, read as a kind
 abbrev pub read_as : {T : Type 0} → (Data → Result T Refusal) → List ℕ → Option Data → Result T Refusal
@@ -35,6 +35,12 @@ object_in members key (number n) = Err (WrongKind key)
 object_in members key (string s) = Err (WrongKind key)
 object_in members key (array ds) = Err (WrongKind key)
 object_in members key (object ms) = members (object ms)
+
+abbrev pub object_of : List ℕ → Data → Result Data Refusal
+object_of key d = read_as (object_in Ok key) key (get key d)
+
+abbrev pub array_of : List ℕ → Data → Result (List Data) Refusal
+array_of key d = read_as (array_in key) key (get key d)
 
 -- a position has a `line` and a `character` (LSP 3.17, Position)
 unfoldable pub line_and_character : Data → Result Pos Refusal

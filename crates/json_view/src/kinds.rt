@@ -1,8 +1,7 @@
-// JSON values as texts, numbers, truth values and ids.
-ghost use Rattle.std.specs.Prelude.{◌≡◌, ◌≢◌, Err};
-ghost use Rattle.std.specs.String.{string_bytes};
+// JSON values as texts, arrays, numbers, truth values and ids.
+ghost use Rattle.std.specs.Prelude.{◌≡◌, ◌≢◌, map, Err};
 ghost use Rattle.serde_json.specs.View.{view};
-ghost use Rattle.json_view.specs.Kinds.{text_in, bool_in, u32_in, i32_in, id_in};
+ghost use Rattle.json_view.specs.Kinds.{text_in, array_in, bool_in, u32_in, i32_in, id_in};
 ghost use Rattle.json_view.specs.Refusals.{NoMemory, seen};
 
 use crate::error::ViewError;
@@ -10,13 +9,23 @@ use crate::id::{Id, IdText};
 use serde_json::Value;
 use std::alloc::Global;
 
-pub(crate) fn text_in(alloc: Global, value: &Value, key: &'static str) -> Result<String, ViewError>
-    ensures { seen string_bytes result ≢ Err NoMemory → seen string_bytes result ≡ text_in key.now (view value.now) }
+pub(crate) fn text_in<'a>(value: &'a Value, key: &'static str) -> Result<&'a str, ViewError>
+    ensures { seen (λ text. text.now) result ≡ text_in key.now (view value.now) }
 {
     let Some(text) = value.as_str() else {
         return Err(ViewError::WrongKind(key));
     };
-    Ok(String::from_str(alloc, text)?)
+    Ok(text)
+}
+
+#[tactic(auto, using(crate::proofs::Elements::elements_viewed))]
+pub(crate) fn array_in<'a>(value: &'a Value, key: &'static str) -> Result<&'a [Value], ViewError>
+    ensures { seen (λ elements. map view elements.now) result ≡ array_in key.now (view value.now) }
+{
+    let Some(elements) = value.as_array() else {
+        return Err(ViewError::WrongKind(key));
+    };
+    Ok(elements.as_slice())
 }
 
 pub(crate) fn bool_in(value: &Value, key: &'static str) -> Result<bool, ViewError>

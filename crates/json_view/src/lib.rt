@@ -10,4 +10,7 @@ mod tests;
 
 pub use error::ViewError;
 pub use id::{Id, IdText};
-pub use members::{get_bool, get_i32, get_id, get_pos, get_range, get_text, get_u32};
+pub use members::{
+    get_array, get_bool, get_i32, get_id, get_object, get_pos, get_range, get_str, get_text,
+    get_u32,
+};

@@ -1,25 +1,56 @@
 // The members of a JSON value.
-ghost use Rattle.std.specs.Prelude.{◌≡◌, ◌≢◌, Ok, Err};
+ghost use Rattle.std.specs.Prelude.{◌≡◌, ◌≢◌, map, Ok, Err};
 ghost use Rattle.std.specs.Option.{ok_or};
 ghost use Rattle.std.specs.String.{string_bytes};
 ghost use Rattle.serde_json.specs.Find.{get};
 ghost use Rattle.serde_json.specs.View.{view};
-ghost use Rattle.json_view.specs.Members.{text_of, bool_of, u32_of, i32_of, id_of, pos_of, range_of, line_and_character, start_and_end};
+ghost use Rattle.json_view.specs.Members.{text_of, object_of, array_of, bool_of, u32_of, i32_of, id_of, pos_of, range_of, line_and_character, start_and_end};
 ghost use Rattle.json_view.specs.Refusals.{Missing, NoMemory, seen};
 
 use crate::error::ViewError;
 use crate::id::Id;
-use crate::kinds::{bool_in, i32_in, id_in, text_in, u32_in};
+use crate::kinds::{array_in, bool_in, i32_in, id_in, text_in, u32_in};
 use serde_json::Value;
 use std::alloc::Global;
 use text_lines::Pos;
 
-/// The text that a member is.
+/// The text that a member is, lent by the value.
+pub fn get_str<'a>(value: &'a Value, key: &'static str) -> Result<&'a str, ViewError>
+    ensures { seen (λ text. text.now) result ≡ text_of key.now (view value.now) }
+{
+    match value.get(key) {
+        Some(member) => text_in(member, key),
+        None => Err(ViewError::Missing(key)),
+    }
+}
+
+/// A copy of the text that a member is.
 pub fn get_text(alloc: Global, value: &Value, key: &'static str) -> Result<String, ViewError>
     ensures { seen string_bytes result ≢ Err NoMemory → seen string_bytes result ≡ text_of key.now (view value.now) }
 {
+    let text = get_str(value, key)?;
+    Ok(String::from_str(alloc, text)?)
+}
+
+/// The object that a member is, lent by the value.
+pub fn get_object<'a>(value: &'a Value, key: &'static str) -> Result<&'a Value, ViewError>
+    ensures { seen (λ member. view member.now) result ≡ object_of key.now (view value.now) }
+{
+    let Some(member) = value.get(key) else {
+        return Err(ViewError::Missing(key));
+    };
+    if !member.is_object() {
+        return Err(ViewError::WrongKind(key));
+    }
+    Ok(member)
+}
+
+/// The elements of the array that a member is, lent by the value.
+pub fn get_array<'a>(value: &'a Value, key: &'static str) -> Result<&'a [Value], ViewError>
+    ensures { seen (λ elements. map view elements.now) result ≡ array_of key.now (view value.now) }
+{
     match value.get(key) {
-        Some(member) => text_in(alloc, member, key),
+        Some(member) => array_in(member, key),
         None => Err(ViewError::Missing(key)),
     }
 }

@@ -1,5 +1,8 @@
 // What JSON values are read as, worked out from JSON-RPC 2.0 and LSP 3.17, and one call of each function with ample memory.
-use crate::{Id, ViewError, get_bool, get_i32, get_id, get_pos, get_range, get_text, get_u32};
+use crate::{
+    Id, ViewError, get_array, get_bool, get_i32, get_id, get_object, get_pos, get_range, get_str,
+    get_text, get_u32,
+};
 use serde_json::Value;
 use std::test::Fail;
 use text_lines::Pos;
@@ -68,7 +71,36 @@ fn texts_and_truth_values_are_read(rt: HostRuntime) -> Result<(), Fail> {
     for (json, text, truth) in &KINDS {
         let value = Value::from_str(rt.alloc(), json)?;
         assert!(rt; is_text(&get_text(rt.alloc(), &value, KEY), text));
+        assert_eq!(rt; get_str(&value, KEY), *text);
         assert_eq!(rt; get_bool(&value, KEY), *truth);
+    }
+    Ok(())
+}
+
+/// Values, and what their member `n` is as an array, by the number of its elements, and as an object, by its member `n`.
+static PARTS: [(&str, Result<usize, ViewError>, Result<&str, ViewError>); 6] = [
+    (r#"{"n":[]}"#, Ok(0), Err(WRONG)),
+    (r#"{"n":[1,{"n":"a"},null]}"#, Ok(3), Err(WRONG)),
+    (r#"{"n":{"n":"a"}}"#, Err(WRONG), Ok("a")),
+    (r#"{"n":{}}"#, Err(WRONG), Err(MISSING)),
+    (r#"{"n":null}"#, Err(WRONG), Err(WRONG)),
+    (r#"{}"#, Err(MISSING), Err(MISSING)),
+];
+
+#[test]
+fn arrays_and_objects_are_read(rt: HostRuntime) -> Result<(), Fail> {
+    for (json, elements, inner) in &PARTS {
+        let value = Value::from_str(rt.alloc(), json)?;
+        let number = match get_array(&value, KEY) {
+            Ok(found) => Ok(found.len()),
+            Err(error) => Err(error),
+        };
+        assert_eq!(rt; number, *elements);
+        let text = match get_object(&value, KEY) {
+            Ok(object) => get_str(object, KEY),
+            Err(error) => Err(error),
+        };
+        assert_eq!(rt; text, *inner);
     }
     Ok(())
 }
