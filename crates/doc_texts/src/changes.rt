@@ -13,6 +13,7 @@ use text_lines::{Change, EditError, Encoding, apply};
 
 /// The text that a text becomes by these changes, or the first reason why one of them is refused. It costs one copy of the text
 /// and what the changes cost.
+#[tactic(auto, unfolding(crate::specs::Docs::all_edited))]
 pub(crate) fn edited(
     alloc: Global,
     text: &str,
