@@ -1,5 +1,5 @@
 -- What each call makes of the texts, or the first reason why it changes nothing.
-use Rattle.std.specs.Prelude.{ℕ, nat_lt, ℤ, Bool, false, not, List, [], ◌∷◌, length, codes, Option, Some, None, Result, Ok, Err, if◌then◌else◌}
+use Rattle.std.specs.Prelude.{◌≡◌, ◌≢◌, ℕ, nat_lt, ℤ, Bool, false, not, List, [], ◌∷◌, length, codes, Option, Some, None, Result, Ok, Err, if◌then◌else◌}
 use Rattle.std.specs.FinMap.{get, contains_key}
 use Rattle.std.specs.Str.{is_utf8}
 use Rattle.text_lines.specs.declared.edit.Change.{Change}
@@ -103,3 +103,14 @@ doc_error_name OutsideRoot = codes "OutsideRoot"
 doc_error_name TooMuchText = codes "TooMuchText"
 doc_error_name NotText = codes "NotText"
 doc_error_name NoMemory = codes "NoMemory"
+
+-- ---- what a call answers
+
+-- Ok leaves what is meant. Any other answer leaves all as it was, and but for want of memory it is the reason that is meant.
+abbrev pub IsDone : {X : Type 0} → Result X DocError → Texts → Texts → Result Texts DocError → Type 0
+IsDone (Ok x) old new meant = meant ≡ Ok new
+IsDone (Err e) old new meant = (e ≢ NoMemory → meant ≡ Err e) × (new ≡ old)
+
+-- The answer is what is meant, unless memory was wanted.
+abbrev pub Answers : {X : Type 0} → Result X DocError → Result X DocError → Type 0
+Answers result meant = result ≢ Err NoMemory → result ≡ meant

@@ -1,5 +1,5 @@
 pub mod Limits
 pub mod Texts
+pub mod Prior
 pub mod Docs
-pub mod Done
 pub mod Kept

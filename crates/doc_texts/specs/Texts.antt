@@ -1,13 +1,17 @@
 -- The texts of a session: those of files on disk, and those that the client has open (LSP 3.17, "Text Document Synchronization").
-use Rattle.std.specs.Prelude.{◌≡◌, ℕ, ◌+◌, ℤ, List, ◌++◌, map, length, sum_by, Option, Some, None, option_map, refl}
+use Rattle.std.specs.Prelude.{◌≡◌, ℕ, ◌+◌, ℤ, List, [], ◌∷◌, ◌++◌, length, sum_by, Option, Some, None, option_map, refl}
 use Rattle.std.specs.Cmp.Lexicographic.{slice_cmp}
 use Rattle.std.specs.Coded.{Coded, code_by, coded_ℕ, coded_ℤ, coded_list, coded_option, coded×}
-use Rattle.std.specs.FinMap.{FinMap, get, insert, remove, keys, values, empty, from_entries, code}
+use Rattle.std.specs.FinMap.{FinMap, get, insert, remove, keys, values, empty, code}
 use Rattle.std.specs.Ordering.{nat_cmp}
 
 -- a finite map from texts, which are paths here
 abbrev pub TextMap : Type 0 → Type 0
 TextMap X = FinMap (slice_cmp nat_cmp) X
+
+-- a finite set of paths
+abbrev pub PathSet : Type 0
+PathSet = TextMap (Unit {0})
 
 -- a document that the client has open: the URI and the text that it gave, and the text's version
 pub record OpenText : Type 0 where
@@ -40,9 +44,14 @@ version_at t path = option_map (λ document. document.version) (get t.opened pat
 unfoldable pub uri_at : Texts → List ℕ → Option (List ℕ)
 uri_at t path = option_map (λ document. document.uri) (get t.opened path)
 
--- a finite set of paths
-abbrev pub marked : List (List ℕ) → TextMap (Unit {0})
-marked paths = from_entries (map (λ path. (path, tt)) paths)
+-- the set with these paths too
+abbrev pub add_all : PathSet → List (List ℕ) → PathSet
+add_all set [] = set
+add_all set (path ∷ paths) = add_all (insert set path tt) paths
+
+-- the set of these paths
+abbrev pub marked : List (List ℕ) → PathSet
+marked paths = add_all empty paths
 
 -- these paths in byte order, each once
 abbrev pub path_set : List (List ℕ) → List (List ℕ)
@@ -61,9 +70,15 @@ byte_count t = sum_by length (values t.disk) + sum_by (λ document. length docum
 
 -- ---- what changes
 
--- no texts yet
-abbrev pub no_texts : Option (List ℕ) → Texts
-no_texts root = record { root = root; disk = empty; opened = empty }
+-- no texts, under a root or none
+abbrev pub texts_under : Option (List ℕ) → Texts
+texts_under root = record { root = root; disk = empty; opened = empty }
+
+abbrev pub no_texts : Texts
+no_texts = texts_under None
+
+abbrev pub rooted : List ℕ → Texts
+rooted root = texts_under (Some root)
 
 -- the texts with another text on disk at a path, and with none there
 abbrev pub with_disk : Texts → List ℕ → List ℕ → Texts

@@ -1,9 +1,10 @@
 // Changes of a text, each made in the text that the one before left.
-ghost use Rattle.std.specs.Prelude.{◌≡◌, ◌≢◌, ◌≤◌, length, Ok, Err};
+ghost use Rattle.std.specs.Prelude.{◌≡◌, ◌≢◌, ◌≤◌, List, ◌∷◌, length, Err, MatchResult, OnOk};
 ghost use Rattle.std.specs.String.{string_bytes};
-ghost use Rattle.doc_texts.specs.Docs.{all_edited};
+ghost use Rattle.text_lines.specs.declared.edit.Change.{Change};
+ghost use Rattle.doc_texts.specs.declared.error.DocError.TheVariants.{NoMemory};
+ghost use Rattle.doc_texts.specs.Docs.{all_edited, Answers};
 ghost use Rattle.doc_texts.specs.Limits.{longest_text};
-ghost use Rattle.doc_texts.specs.Done.{Answers};
 
 use crate::error::DocError;
 use crate::kept::KeptText;
@@ -12,6 +13,7 @@ use text_lines::{Change, EditError, Encoding, apply};
 
 /// The text that a text becomes by these changes, or the first reason why one of them is refused. It costs one copy of the text
 /// and what the changes cost.
+#[tactic(auto, unfolding(crate::specs::Docs::all_edited))]
 pub(crate) fn edited(
     alloc: Global,
     text: &str,
@@ -33,6 +35,8 @@ pub(crate) fn edited(
 /// Makes one change.
 fn make(text: &mut String, change: &Change, encoding: Encoding) -> Result<(), DocError>
     requires { length (string_bytes text.old) ≤ longest_text }
+    ensures made { (rest : List Change) → MatchResult result (λ _. all_edited (string_bytes text.old) (change.now ∷ rest) encoding ≡ all_edited (string_bytes text.new) rest encoding) (λ e. e ≢ NoMemory → all_edited (string_bytes text.old) (change.now ∷ rest) encoding ≡ Err e) }
+    ensures short { OnOk result (length (string_bytes text.new) ≤ longest_text) }
 {
     match apply(text, change, encoding) {
         Ok(()) => Ok(()),

@@ -1,15 +1,17 @@
 // The texts that stand, and the calls that change them.
-ghost use Rattle.std.specs.Prelude.{◌≡◌, ◌≢◌, ◌≤◌, ◌+◌, ◌-◌, ℕ, length, Err, Some, None, option_map, IfOk, IfSome, is_some, map, if◌then◌else◌};
-ghost use Rattle.doc_texts.specs.Texts.{text_at, version_at, uri_at, paths_of, file_count, byte_count, no_texts, with_disk, without_disk, with_open, without_open};
-ghost use Rattle.doc_texts.specs.Docs.{is_outside, allowed, fits, loaded, opened, changed, closed};
-ghost use Rattle.doc_texts.specs.Limits.{longest_text};
-ghost use Rattle.doc_texts.specs.Done.{IsDone, Answers};
+ghost use Rattle.std.specs.Prelude.{◌≡◌, ◌≢◌, ◌≤◌, ◌+◌, ◌-◌, ℕ, length, Err, Some, None, option_map, IfOk, IfSome, OnOk, OnErr};
+ghost use Rattle.doc_texts.specs.Texts.{text_at, version_at, uri_at, paths_of, file_count, byte_count, texts_under, with_disk, without_disk, with_open, without_open};
+ghost use Rattle.doc_texts.specs.Docs.{is_outside, allowed, fits, loaded, opened, changed, closed, IsDone};
+ghost use Rattle.doc_texts.specs.Kept.{Counted, files_with, disk_size};
+ghost use Rattle.doc_texts.specs.Limits.{longest_text, most_bytes};
+ghost use Rattle.std.specs.FinMap.{get};
 
 use crate::changes::edited;
 use crate::error::DocError;
 use crate::kept::{KeptText, LONGEST_TEXT, OpenDoc};
+use crate::path_set::PathSet;
 use std::alloc::{AllocError, Global};
-use std::collections::{BTreeMap, BTreeSet};
+use std::collections::BTreeMap;
 use std::marker::Model;
 use std::str;
 use text_lines::{Change, Encoding};
@@ -51,7 +53,7 @@ impl Model for Docs {
 impl Docs {
     /// No texts, under this root or none. It takes no memory.
     pub fn new(alloc: Global, root: Option<Path>) -> Docs
-        ensures { result ≡ no_texts root }
+        ensures { result ≡ texts_under root }
     {
         Docs {
             alloc,
@@ -70,11 +72,21 @@ impl Docs {
         self.root.as_ref()
     }
 
+    /// Whether there is a root, and a path isn't under it. It takes no memory.
+    pub fn is_outside(&self, path: &Path) -> bool
+        ensures { result ≡ is_outside self.now path.now }
+    {
+        match &self.root {
+            Some(root) => !under(root, path),
+            None => false,
+        }
+    }
+
     /// Sets the text on disk at a path, or drops it where there are no bytes. It costs the text and a logarithm of the number of
     /// files. All is unchanged after a refusal, which is the first that holds of OutsideRoot, NotText, TooLong, TooManyFiles and
     /// TooMuchText, or want of memory.
     pub fn load(&mut self, path: &Path, bytes: Option<&[u8]>) -> Result<(), DocError>
-        ensures { IsDone result self.old self.new (loaded self.old path.now (option_map (λ bytes. bytes.now) bytes)) }
+        ensures { IsDone result self.old self.new (loaded self.old path.now (option_map (λ bytes. bytes.now) bytes.entry)) }
     {
         if self.is_outside(path) {
             return Err(DocError::OutsideRoot);
@@ -197,36 +209,36 @@ impl Docs {
     pub fn paths(&self) -> Result<Vec<Path>, AllocError>
         ensures { IfOk result (λ paths. paths.items ≡ paths_of self.now) }
     {
-        let mut paths = BTreeSet::new(self.alloc);
+        let mut set = PathSet::new(self.alloc);
         for path in self.disk.keys() {
-            paths.insert(path.share()?)?;
+            set.insert(path.share()?)?;
         }
         for path in self.opened.keys() {
-            paths.insert(path.share()?)?;
+            set.insert(path.share()?)?;
         }
-        let mut found = Vec::new(self.alloc);
-        for path in paths {
-            found.push(path)?;
-        }
-        Ok(found)
-    }
-
-    /// Whether there is a root that a path isn't under.
-    fn is_outside(&self, path: &Path) -> bool
-        ensures { result ≡ is_outside self.now path.now }
-    {
-        match &self.root {
-            Some(root) => !under(root, path),
-            None => false,
-        }
+        set.paths()
     }
 
     /// How many bytes a path's text on disk has, or 0.
-    fn disk_len(&self, path: &Path) -> usize {
+    fn disk_len(&self, path: &Path) -> usize
+        ensures size { result ≡ disk_size self.now path.now }
+        ensures within { result ≤ byte_count self.now }
+    {
         match self.disk.get(path) {
             Some(text) => text.as_str().len(),
             None => 0,
         }
+    }
+
+    /// How many files there are where a path has a text.
+    fn files_with(&self, path: &Path) -> usize
+        ensures files { result ≡ files_with self.now path.now }
+        ensures within { result ≤ 4097 }
+    {
+        if self.opened.contains_key(path) || self.disk.contains_key(path) {
+            return self.files;
+        }
+        self.files + 1
     }
 
     /// How many files and bytes of texts there are where a path has a text and these bytes go and come, or the first limit that
@@ -234,9 +246,9 @@ impl Docs {
     fn room(&self, path: &Path, freed: usize, added: usize) -> Result<(usize, usize), DocError>
         requires freed { freed ≤ byte_count self.now }
         requires added { added ≤ longest_text }
+        ensures { result ≡ allowed (files_with self.now path.now) (byte_count self.now - freed + added) (files_with self.now path.now, byte_count self.now - freed + added) }
     {
-        let held = self.opened.contains_key(path) || self.disk.contains_key(path);
-        let files = if held { self.files } else { self.files + 1 };
+        let files = self.files_with(path);
         let bytes = self.bytes - freed + added;
         if files > MOST_FILES {
             return Err(DocError::TooManyFiles);
@@ -288,7 +300,9 @@ impl Docs {
 
     /// Opens a document where none is open.
     fn add_open(&mut self, path: &Path, uri: &str, version: i32, text: &str) -> Result<(), DocError>
-        requires { length text.now ≤ longest_text }
+        requires short { length text.now ≤ longest_text }
+        requires shut { get self.old.opened path.now ≡ None }
+        ensures { IsDone result self.old self.new (fits (with_open self.old path.now (record { uri = uri.now; version = version; text = text.now }))) }
     {
         let (files, bytes) = self.room(path, 0, text.len())?;
         let key = path.share()?;
@@ -312,7 +326,11 @@ impl Docs {
     }
 
     /// Gives the document that is open at a path another text, with which there are so many bytes of texts.
-    fn set_open(&mut self, path: &Path, version: i32, text: KeptText, bytes: usize) {
+    fn set_open(&mut self, path: &Path, version: i32, text: KeptText, bytes: usize)
+        requires summed { IfSome (get self.old.opened path.now) (λ document. bytes ≡ byte_count (with_open self.old path.now (record { uri = document.uri; version = version; text = text }))) }
+        requires small { bytes ≤ most_bytes }
+        ensures { IfSome (get self.old.opened path.now) (λ document. self.new ≡ with_open self.old path.now (record { uri = document.uri; version = version; text = text })) }
+    {
         if let Some(document) = self.opened.get_mut(path) {
             document.set(version, text);
         }

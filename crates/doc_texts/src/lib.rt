@@ -5,6 +5,10 @@ mod changes;
 mod docs;
 mod error;
 mod kept;
+mod path_set;
+mod prior;
 
 pub use docs::Docs;
 pub use error::DocError;
+pub use path_set::PathSet;
+pub use prior::PriorTexts;

@@ -1,0 +1,90 @@
+// The texts that some paths had at an earlier moment.
+ghost use Rattle.std.specs.Prelude.{◌≡◌, ◌≤◌, length, option_map, OnOk, OnErr, IfOk, IfSome};
+ghost use Rattle.std.specs.FinMap.{empty, keys};
+ghost use Rattle.doc_texts.specs.Texts.{text_at};
+ghost use Rattle.doc_texts.specs.Prior.{remembered, prior_text};
+
+use crate::docs::Docs;
+use crate::kept::KeptText;
+use std::alloc::{AllocError, Global};
+use std::collections::BTreeMap;
+use std::marker::Model;
+use uri_paths::Path;
+
+/// Copies of the texts that some paths had at an earlier moment, or that they had none. Contracts see it as `Prior`.
+#[derive(Drop)]
+pub struct PriorTexts {
+    alloc: Global,
+    texts: BTreeMap<Path, Option<KeptText>>,
+}
+
+impl Model for PriorTexts {
+    ghost use Rattle.std.specs.Coded.{coded_ℕ, coded_list, coded_option};
+    ghost use Rattle.std.specs.FinMap.{from_entries, code};
+    ghost use Rattle.doc_texts.specs.Prior.{Prior};
+
+    ghost Value = { Prior };
+
+    ghost coded = { code (coded_list coded_ℕ) (coded_option (coded_list coded_ℕ)) };
+
+    ghost view = { λ prior. from_entries prior.texts.entries };
+}
+
+impl PriorTexts {
+    /// No path's text. It takes no memory.
+    pub fn new(alloc: Global) -> PriorTexts
+        ensures { result ≡ empty }
+    {
+        PriorTexts {
+            alloc,
+            texts: BTreeMap::new(alloc),
+        }
+    }
+
+    /// Keeps a copy of the text that a path has now, or that it has none, unless something is kept for it. It costs the text and a
+    /// logarithm of the number of paths.
+    pub fn remember(&mut self, docs: &Docs, path: &Path) -> Result<(), AllocError>
+        ensures ok { OnOk result (self.new ≡ remembered self.old docs.now path.now) }
+        ensures kept { OnErr result (self.new ≡ self.old) }
+    {
+        if self.texts.contains_key(path) {
+            return Ok(());
+        }
+        let text = copy_of(self.alloc, docs, path)?;
+        let key = path.share()?;
+        self.texts.insert(key, text)?;
+        Ok(())
+    }
+
+    /// The paths for which something is kept, in byte order.
+    pub fn paths(&self) -> Result<Vec<Path>, AllocError>
+        ensures { IfOk result (λ paths. paths.items ≡ keys self.now) }
+    {
+        let mut paths = Vec::new(self.alloc);
+        for path in self.texts.keys() {
+            paths.push(path.share()?)?;
+        }
+        Ok(paths)
+    }
+
+    /// The text that is kept for a path, if it had one. It takes no memory and costs a logarithm of the number of paths.
+    pub fn text(&self, path: &Path) -> Option<&str>
+        ensures text { option_map (λ text. text.now) result ≡ prior_text self.now path.now }
+        ensures short { IfSome result (λ text. length text.now ≤ 4194304) }
+    {
+        match self.texts.get(path) {
+            Some(Some(text)) => Some(text.as_str()),
+            _ => None,
+        }
+    }
+}
+
+/// A copy of the text that a path has, if it has one.
+fn copy_of(alloc: Global, docs: &Docs, path: &Path) -> Result<Option<KeptText>, AllocError>
+    ensures { IfOk result (λ text. text ≡ text_at docs.now path.now) }
+{
+    match docs.text(path) {
+        Some(text) => Ok(Some(KeptText::from_str(alloc, text)?)),
+        None => Ok(None),
+    }
+}
