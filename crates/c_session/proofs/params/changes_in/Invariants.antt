@@ -1,0 +1,9 @@
+use Rattle.std.proofs.Common.{◌≡◌, ◌++◌, map, drop, codes, Ok}
+use Rattle.serde_json.specs.View.{view}
+use Rattle.json_view.specs.Members.{object_in}
+use Rattle.json_view.specs.Refusals.{and_then}
+use Rattle.c_session.specs.Params.{each_in, change_in}
+use Rattle.c_session.proofs.params.changes_in.Given as goal
+
+abbrev pub invariant-loop-element : goal.invariant-loop-element
+invariant-loop-element l = each_in (object_in change_in (codes "contentChanges")) (map view l.elements) ≡ and_then (each_in (object_in change_in (codes "contentChanges")) (map view (drop l.element-index l.elements))) (λ more. Ok (l.changes.items ++ more))

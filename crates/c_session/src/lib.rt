@@ -1,0 +1,6 @@
+// The session of the language server with one client.
+#![tactic(auto)]
+
+mod message;
+mod params;
+mod refusals;
