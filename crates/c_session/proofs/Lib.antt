@@ -1,2 +1,5 @@
-pub mod Utf8
+pub mod Asking
 pub mod Elements
+pub mod Floats
+pub mod Publishing
+pub mod Utf8

@@ -1,6 +1,22 @@
-// The session of the language server with one client.
+// The session with one client of the language server: the reaction to each message, over the current texts.
 #![tactic(auto)]
 
+mod diagnostics;
+mod documents;
+mod error;
+mod files;
+mod loading;
 mod message;
+mod news;
 mod params;
+mod phase;
+mod reasons;
 mod refusals;
+mod replies;
+mod session;
+mod starting;
+mod watching;
+
+pub use error::SessionError;
+pub use phase::Phase;
+pub use session::{Reply, Session};

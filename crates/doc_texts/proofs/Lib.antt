@@ -1,3 +1,2 @@
-pub mod Maps
-pub mod Counts
 pub mod Edits
+pub mod Stub

@@ -2,4 +2,3 @@ pub mod Limits
 pub mod Texts
 pub mod Prior
 pub mod Docs
-pub mod Kept

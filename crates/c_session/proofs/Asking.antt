@@ -1,0 +1,124 @@
+-- Laws of what asks the store.
+use Rattle.std.proofs.Common.{◌≡◌, ◌≤◌, ◌+◌, ℕ, List, [], ◌∷◌, ◌++◌, length, Option, None, Some, option_and_then, option_map, Bool, true, false, cond, is_some, T, refl, sym, ap, ◌∙◌, subst, append-nil, append_assoc, bytes_eq, arith}
+use Rattle.std.proofs.lemmas.Slice.Eq.{bytes_eq-Decides}
+use Rattle.io_edges.specs.Store.{Call, Entry, Lists, Reads, ListCall, ReadCall, after_answer}
+use Rattle.io_edges.specs.declared.ends.Listed.{Listed}
+use Rattle.io_edges.specs.declared.ends.Found.{Found}
+use Rattle.c_session.specs.Asking.{Asking, Gives, AsksList, AsksRead, and_then, after_one, after_all, next_call}
+use Rattle.c_session.specs.Handled.{Answered, Reached, Failed, GaveUp, Refused}
+use Rattle.c_session.specs.declared.error.SessionError.{SessionError}
+use Rattle.c_session.specs.declared.error.SessionError.TheVariants.{StoreFault, NoMemory}
+
+pub bytes_same : (xs : List ℕ) → bytes_eq xs xs ≡ true
+bytes_same xs = (bytes_eq-Decides xs xs).1 refl
+
+not_some : {A B : Type 0} (x : A) → None ≡ Some x → B
+not_some x e = absurd (subst (λ o. T (is_some o)) (sym e) tt)
+
+-- ---- answers one after the other
+
+module _ {A : Type 0} where
+  follows : Option (Asking A) → List Entry → Option (Asking A)
+  follows o xs = option_and_then (λ s. after_all s xs) o
+
+  mutual
+    pub after_append : (t next : Asking A) (xs ys : List Entry) → after_all t xs ≡ Some next → after_all t (xs ++ ys) ≡ after_all next ys
+    after_append t next [] ys e = ap (λ o. follows o ys) e
+    after_append t next (x ∷ xs) ys e = append_behind (after_one t x) next xs ys e
+
+    append_behind : (o : Option (Asking A)) (next : Asking A) (xs ys : List Entry) →
+        follows o xs ≡ Some next → follows o (xs ++ ys) ≡ after_all next ys
+    append_behind None next xs ys e = not_some next e
+    append_behind (Some s) next xs ys e = after_append s next xs ys e
+
+-- an answer moves what asks and then goes on as it moves what asks
+one_then : {A B : Type 0} (t : Asking A) (k : A → Asking B) (x : Entry) (next : Asking A) →
+    after_one t x ≡ Some next → after_one (and_then t k) x ≡ Some (and_then next k)
+one_then (Gives a) k x next e = not_some next e
+one_then (AsksList root f) k (Lists listed found) next e = moved (bytes_eq root listed) (f found) next e
+  where
+    moved : (b : Bool) (s next : Asking A) → cond b (Some s) None ≡ Some next → cond b (Some (and_then s k)) None ≡ Some (and_then next k)
+    moved true s next e = ap (option_map (λ t. and_then t k)) e
+    moved false s next e = not_some next e
+one_then (AsksList root f) k (Reads read found) next e = not_some next e
+one_then (AsksRead path f) k (Lists listed found) next e = not_some next e
+one_then (AsksRead path f) k (Reads read found) next e = moved (bytes_eq path read) (f found) next e
+  where
+    moved : (b : Bool) (s next : Asking A) → cond b (Some s) None ≡ Some next → cond b (Some (and_then s k)) None ≡ Some (and_then next k)
+    moved true s next e = ap (option_map (λ t. and_then t k)) e
+    moved false s next e = not_some next e
+
+mutual
+  pub after_then : {A B : Type 0} (t next : Asking A) (k : A → Asking B) (xs : List Entry) →
+      after_all t xs ≡ Some next → after_all (and_then t k) xs ≡ Some (and_then next k)
+  after_then t next k [] e = ap (option_map (λ s. and_then s k)) e
+  after_then t next k (x ∷ xs) e = then_behind t (after_one t x) next k x xs refl e
+
+  then_behind : {A B : Type 0} (t : Asking A) (o : Option (Asking A)) (next : Asking A) (k : A → Asking B) (x : Entry) (xs : List Entry) →
+      after_one t x ≡ o → follows o xs ≡ Some next → after_all (and_then t k) (x ∷ xs) ≡ Some (and_then next k)
+  then_behind t None next k x xs is e = not_some next e
+  then_behind t (Some s) next k x xs is e =
+      ap (option_and_then (λ t'. after_all t' xs)) (one_then t k x s is) ∙ after_then s next k xs e
+
+-- ---- what was reached
+
+answers_joined : (xs ys : List Entry) (old middle new : Option (List Entry)) → Answered xs old middle → Answered ys middle new → Answered (xs ++ ys) old new
+answers_joined xs ys None middle new p q = q ∙ ap (option_map (λ told. told ++ ys)) p
+answers_joined xs ys (Some told) middle new p q = q ∙ ap (option_map (λ told. told ++ ys)) p ∙ ap Some (append_assoc told xs ys)
+
+pub nothing_answered : (told : Option (List Entry)) → Answered [] told told
+nothing_answered None = refl
+nothing_answered (Some told) = ap Some (sym (append-nil told))
+
+-- nothing was asked
+pub stays : {A : Type 0} (t : Asking A) (told : Option (List Entry)) → Reached t t told told
+stays t told = record { added = []; answered = nothing_answered told; follows = refl }
+
+pub goes_on : {A : Type 0} {t middle next : Asking A} {old between new : Option (List Entry)} → Reached t middle old between → Reached middle next between new → Reached t next old new
+goes_on {t = t} {middle = middle} {next = next} {old = old} {between = between} {new = new} r s = record {
+  added = r.added ++ s.added;
+  answered = answers_joined r.added s.added old between new r.answered s.answered;
+  follows = after_append t middle r.added s.added r.follows ∙ s.follows;
+}
+
+pub goes_then : {A B : Type 0} {t next : Asking A} {old new : Option (List Entry)} (k : A → Asking B) → Reached t next old new → Reached (and_then t k) (and_then next k) old new
+goes_then {t = t} {next = next} k r = record { added = r.added; answered = r.answered; follows = after_then t next k r.added r.follows }
+
+-- the store answered what was asked
+pub was_read : {A : Type 0} (path : List ℕ) (f : Found → Asking A) (found : Found) (old new : Option (List Entry)) →
+    new ≡ option_map (after_answer (Reads path found)) old → Reached (AsksRead path f) (f found) old new
+was_read path f found old new is = record {
+  added = Reads path found ∷ [];
+  answered = is;
+  follows = ap (λ b. option_and_then (λ s. after_all s []) (cond b (Some (f found)) None)) (bytes_same path);
+}
+
+pub was_listed : {A : Type 0} (root : List ℕ) (f : List Listed → Asking A) (found : List Listed) (old new : Option (List Entry)) →
+    new ≡ option_map (after_answer (Lists root found)) old → Reached (AsksList root f) (f found) old new
+was_listed root f found old new is = record {
+  added = Lists root found ∷ [];
+  answered = is;
+  follows = ap (λ b. option_and_then (λ s. after_all s []) (cond b (Some (f found)) None)) (bytes_same root);
+}
+
+-- ---- what was refused
+
+-- a refusal behind what was reached
+pub refused_on : {A : Type 0} {t middle : Asking A} {old between new : Option (List Entry)} {faults faults' : ℕ} (e : SessionError) →
+    Reached t middle old between → Refused e middle between new faults faults' → Refused e t old new faults faults'
+refused_on StoreFault r (rose, failed) = (rose, record { next = failed.next; reached = goes_on r failed.reached; call = failed.call; asked = failed.asked })
+refused_on NoMemory r (same, gave) = (same, record { next = gave.next; reached = goes_on r gave.reached })
+
+pub refused_then : {A B : Type 0} {t : Asking A} {old new : Option (List Entry)} {faults faults' : ℕ} (k : A → Asking B) (e : SessionError) →
+    Refused e t old new faults faults' → Refused e (and_then t k) old new faults faults'
+refused_then k StoreFault (rose, failed) = (rose, record { next = and_then failed.next k; reached = goes_then k failed.reached; call = failed.call; asked = asked_then failed.next k failed.call failed.asked })
+  where
+    asked_then : {A B : Type 0} (t : Asking A) (k : A → Asking B) (call : Call) → next_call t ≡ Some call → next_call (and_then t k) ≡ Some call
+    asked_then (Gives x) k call e = not_some call e
+    asked_then (AsksList root f) k call e = e
+    asked_then (AsksRead path f) k call e = e
+refused_then k NoMemory (same, gave) = (same, record { next = and_then gave.next k; reached = goes_then k gave.reached })
+
+-- memory was wanted where nothing more was asked
+pub gave_up : {A : Type 0} {t next : Asking A} {old new : Option (List Entry)} → Reached t next old new → GaveUp t old new
+gave_up {next = next} r = record { next = next; reached = r }

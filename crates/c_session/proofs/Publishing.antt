@@ -1,0 +1,52 @@
+-- The text of a notification is what is written piece by piece.
+use Rattle.std.proofs.Common.{◌≡◌, ◌≤◌, ℕ, ℤ, List, [], ◌∷◌, ◌++◌, Option, None, Some, false, map, refl, sym, ap, ◌∙◌, append_assoc, arith, codes}
+use Rattle.serde_json.specs.Data.{Data, string}
+use Rattle.serde_json.specs.View.{items_of}
+use Rattle.serde_json.specs.Written.{compact_text, items_text}
+use Rattle.serde_json.proofs.OnLiterals.{serde_json_on_literals}
+use Rattle.c_tokens.specs.declared.types.LexFault.{LexFault}
+use Rattle.c_tokens.specs.Laws.{InOrder, ranges}
+use Rattle.text_lines.specs.declared.encoding.Encoding.{Encoding}
+use Rattle.c_session.specs.Faults.{AreWithin}
+use Rattle.c_session.specs.Published.{publish_start, publish_end, version_part}
+use Rattle.c_session.specs.Replies.{framed, diagnostic, publish, publish_data}
+
+-- what stands in order lies within the limit
+pub order_limit : (from limit : ℕ) (faults : List LexFault) → InOrder from limit (ranges faults) → from ≤ limit
+order_limit from limit [] order = order
+order_limit from limit (fault ∷ faults) order =
+    let rest : fault.end ≤ limit = order_limit fault.end limit faults order.2 in omega (arith, order.0, order.1, rest)
+
+pub order_within : (from limit : ℕ) (faults : List LexFault) → InOrder from limit (ranges faults) → AreWithin limit faults
+order_within from limit [] order = tt
+order_within from limit (fault ∷ faults) order =
+    let rest : fault.end ≤ limit = order_limit fault.end limit faults order.2 in
+    (omega (arith, order.1, rest), rest, order_within fault.end limit faults order.2)
+
+-- the text as it is made of its members
+spelled_out : (items uri version : List ℕ) → List ℕ
+spelled_out items uri version = publish_start ++ ((items ++ (codes ",\"uri\":" ++ (uri ++ version))) ++ codes "}")
+
+members_spelled : (diagnostics : List Data) (uri : List ℕ) (version : Option ℤ) →
+    compact_text (publish_data diagnostics uri version) ≡ spelled_out (items_text false (items_of diagnostics)) (compact_text (string uri)) (version_part version ++ codes "}")
+unfolding serde_json_on_literals spelled_out
+members_spelled diagnostics uri None = refl
+members_spelled diagnostics uri (Some version) = refl
+
+regrouped : (start items a uri version : List ℕ) →
+    start ++ ((items ++ (a ++ (uri ++ (version ++ codes "}")))) ++ codes "}") ≡ start ++ items ++ (a ++ uri ++ version ++ codes "}}")
+regrouped start items a uri version = simp append_assoc
+
+pub publish_spelled : (diagnostics : List Data) (uri : List ℕ) (version : Option ℤ) →
+    compact_text (publish_data diagnostics uri version) ≡ publish_start ++ items_text false (items_of diagnostics) ++ publish_end uri version
+unfolding spelled_out publish_end
+publish_spelled diagnostics uri version = members_spelled diagnostics uri version
+    ∙ regrouped publish_start (items_text false (items_of diagnostics)) (codes ",\"uri\":") (compact_text (string uri)) (version_part version)
+
+-- what is written of a document, behind its header
+pub published : (encoding : Encoding) (uri : List ℕ) (version : Option ℤ) (faults : List LexFault) (text content : List ℕ) →
+    content ≡ publish_start ++ items_text false (items_of (map (diagnostic text encoding) faults)) ++ publish_end uri version →
+    framed content ≡ publish encoding uri version faults text
+unfolding publish
+published encoding uri version faults text content is =
+    ap framed (is ∙ sym (publish_spelled (map (diagnostic text encoding) faults) uri version))

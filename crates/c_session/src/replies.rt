@@ -1,0 +1,138 @@
+// The bytes of each answer: a JSON-RPC 2.0 message behind its header (LSP 3.17, base protocol).
+ghost use Rattle.std.specs.Prelude.{◌≡◌, ◌++◌, false, option_map, string_bytes, IfOk, OnOk};
+ghost use Rattle.serde_json.specs.View.{view};
+ghost use Rattle.serde_json.specs.Written.{has_float, compact_text};
+ghost use Rattle.c_session.specs.Replies.{framed, id_data, id_or_null, response_data, error_data, log_data, response, error, log, encoding_name, initialize_result};
+ghost use Rattle.c_session.specs.Seen.{seen_id};
+
+use crate::message::Id;
+use serde_json::{Value, json};
+use std::alloc::{AllocError, Global};
+use text_lines::Encoding;
+
+/// A content behind its header.
+#[tactic(auto, unfolding(crate::specs::Replies::framed))]
+pub(crate) fn framed(alloc: Global, content: &str) -> Result<Vec<u8>, AllocError>
+    ensures { IfOk result (λ v. v.items ≡ framed content.now) }
+{
+    let length = content.len();
+    let mut text = format!(in alloc; "Content-Length: {length}\r\n\r\n")?;
+    text.push_str(content)?;
+    Ok(text.into_bytes())
+}
+
+fn id_value(alloc: Global, id: Id<'_>) -> Result<Value, AllocError>
+    ensures { IfOk result (λ v. view v ≡ id_data (seen_id id.entry)) }
+{
+    match id {
+        Id::Text(text) => {
+            let text = String::from_str(alloc, text)?;
+            Ok(Value::String(text))
+        }
+        Id::Int(number) => Ok(Value::from(number)),
+        Id::Big(number) => Ok(Value::from(number)),
+    }
+}
+
+/// The id's value, null where there is none.
+fn id_or_null(alloc: Global, id: Option<Id<'_>>) -> Result<Value, AllocError>
+    ensures { IfOk result (λ v. view v ≡ id_or_null (option_map seen_id id.entry)) }
+{
+    match id {
+        Some(id) => {
+            let value = id_value(alloc, id)?;
+            Ok(value)
+        }
+        None => Ok(Value::Null),
+    }
+}
+
+/// The text of a value behind its header.
+fn written(alloc: Global, value: &Value) -> Result<Vec<u8>, AllocError>
+    requires { has_float (view value.now) ≡ false }
+    ensures { IfOk result (λ v. v.items ≡ framed (compact_text (view value.now))) }
+{
+    let text = value.to_string(alloc)?;
+    framed(alloc, text.as_str())
+}
+
+fn response_value(alloc: Global, id: Value, answer: Value) -> Result<Value, AllocError>
+    ensures { IfOk result (λ v. view v ≡ response_data (view id) (view answer)) }
+{
+    json!(in alloc; {"id": id, "jsonrpc": "2.0", "result": answer})
+}
+
+/// A response with a result.
+#[tactic(auto, unfolding(crate::specs::Replies::response), using(crate::proofs::Floats::response_has_none))]
+pub(crate) fn response(alloc: Global, id: Id<'_>, answer: Value) -> Result<Vec<u8>, AllocError>
+    requires { has_float (view answer) ≡ false }
+    ensures { IfOk result (λ v. v.items ≡ response (seen_id id.entry) (view answer)) }
+{
+    let id = id_value(alloc, id)?;
+    let value = response_value(alloc, id, answer)?;
+    written(alloc, &value)
+}
+
+fn error_value(alloc: Global, id: Value, code: i32, text: &str) -> Result<Value, AllocError>
+    ensures { IfOk result (λ v. view v ≡ error_data (view id) code text.now) }
+{
+    json!(in alloc; {"error": {"code": code, "message": text}, "id": id, "jsonrpc": "2.0"})
+}
+
+/// A response with an error: its code and its text.
+#[tactic(auto, unfolding(crate::specs::Replies::error), using(crate::proofs::Floats::error_has_none))]
+pub(crate) fn error(
+    alloc: Global,
+    id: Option<Id<'_>>,
+    code: i32,
+    text: &str,
+) -> Result<Vec<u8>, AllocError>
+    ensures { IfOk result (λ v. v.items ≡ error (option_map seen_id id.entry) code text.now) }
+{
+    let id = id_or_null(alloc, id)?;
+    let value = error_value(alloc, id, code, text)?;
+    written(alloc, &value)
+}
+
+fn log_value(alloc: Global, text: &str) -> Result<Value, AllocError>
+    ensures { IfOk result (λ v. view v ≡ log_data text.now) }
+{
+    json!(in alloc; {"jsonrpc": "2.0", "method": "window/logMessage", "params": {"message": text, "type": 1u8}})
+}
+
+/// The notification `window/logMessage` of type 1, an error.
+#[tactic(auto, unfolding(crate::specs::Replies::log))]
+pub(crate) fn log(alloc: Global, text: &str) -> Result<Vec<u8>, AllocError>
+    ensures { IfOk result (λ v. v.items ≡ log text.now) }
+{
+    let value = log_value(alloc, text)?;
+    written(alloc, &value)
+}
+
+/// Writes a log message behind what is written.
+pub(crate) fn push_log(alloc: Global, out: &mut Vec<u8>, text: &str) -> Result<(), AllocError>
+    ensures { OnOk result (out.new.items ≡ out.old.items ++ log text.now) }
+{
+    let message = log(alloc, text)?;
+    out.extend_from_slice(message.as_slice())?;
+    Ok(())
+}
+
+/// The name of a position encoding (LSP 3.17, PositionEncodingKind).
+fn encoding_name(encoding: Encoding) -> &'static str
+    ensures { result.now ≡ encoding_name encoding }
+{
+    match encoding {
+        Encoding::Utf8 => "utf-8",
+        Encoding::Utf16 => "utf-16",
+        Encoding::Utf32 => "utf-32",
+    }
+}
+
+/// The result of `initialize` (LSP 3.17, InitializeResult).
+pub(crate) fn initialize_result(alloc: Global, encoding: Encoding) -> Result<Value, AllocError>
+    ensures { IfOk result (λ v. view v ≡ initialize_result encoding) }
+{
+    let name = encoding_name(encoding);
+    json!(in alloc; {"capabilities": {"positionEncoding": name, "textDocumentSync": {"change": 2u8, "openClose": true}}})
+}
