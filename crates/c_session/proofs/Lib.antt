@@ -1,4 +1,5 @@
 pub mod Asking
+pub mod Differing
 pub mod Elements
 pub mod Floats
 pub mod Publishing
