@@ -23,6 +23,11 @@ text_is None (Some b) same = absurd (true≢false (sym same))
 text_is (Some a) None same = absurd (true≢false (sym same))
 text_is (Some a) (Some b) same = ap Some ((bytes_eq-Decides a b).0 same)
 
+-- no text is new to itself
+pub no_news_itself : (path : List ℕ) (text : Option (List ℕ)) → has_news path text text ≡ false
+unfolding has_news
+no_news_itself path text = rw (same_list_itself (shown_of path text), same_text_itself text) refl
+
 or_true : (b : Bool) → (b || true) ≡ true
 or_true true = refl
 or_true false = refl
@@ -50,8 +55,7 @@ module _ (faults shown : List LexFault) (empty : Bool) (is : faults ≡ shown) (
 module _ (path : List ℕ) (old new : Option (List ℕ)) where
   -- the same text is no news
   pub no_news_of_same : same_text old new ≡ true → has_news path old new ≡ false
-  unfolding has_news
-  no_news_of_same same = rw (text_is old new same, same_list_itself (shown_of path new), same_text_itself new) refl
+  no_news_of_same same = rw (text_is old new same) (no_news_itself path new)
 
   -- another text of a file that shows something is news
   pub news_where_shown : same_text old new ≡ false → is_nonempty (shown_of path new) ≡ true → has_news path old new ≡ true

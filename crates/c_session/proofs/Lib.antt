@@ -2,5 +2,8 @@ pub mod Asking
 pub mod Differing
 pub mod Elements
 pub mod Floats
+pub mod PathSets
+pub mod Publications
 pub mod Publishing
+pub mod Remembered
 pub mod Utf8
