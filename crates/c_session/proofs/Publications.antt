@@ -56,7 +56,7 @@ pub news_published : (encoding : Encoding) (prior : Prior) (start now : Texts) �
 news_published encoding prior start now is =
     told prior start now is encoding
     ∙ ap (flat_map (publication encoding now)) (same_paths prior start now is
-        ∙ ap (λ test. filter test (path_set (paths_of start ++ paths_of now))) (λ i path. all_published prior start now is path i))
+    ∙ ap (λ test. filter test (path_set (paths_of start ++ paths_of now))) (λ i path. all_published prior start now is path i))
 
 module _ (path : List ℕ) (before after : Texts) (same : SameBut path before after) where
   abbrev passes : List ℕ → Bool
@@ -67,8 +67,8 @@ module _ (path : List ℕ) (before after : Texts) (same : SameBut path before af
   only q true equal passes = ap (λ x. ties x path) ((bytes_eq-Decides q path).0 equal) ∙ ties_itself path
   only q false other passes =
       absurd (true≢false (sym passes ∙ ap (λ b. has_news q (text_at before q) (text_at after q) || (b || false)) other
-        ∙ sym (or_nothing (has_news q (text_at before q) (text_at after q)))
-        ∙ ap (has_news q (text_at before q)) (same q other) ∙ no_news_itself q (text_at before q)))
+      ∙ sym (or_nothing (has_news q (text_at before q) (text_at after q)))
+      ∙ ap (has_news q (text_at before q)) (same q other) ∙ no_news_itself q (text_at before q)))
 
   itself : passes path ≡ true
   itself = ap (λ b. has_news path (text_at before path) (text_at after path) || (b || false)) ((bytes_eq-Decides path path).1 refl) ∙ or_true (has_news path (text_at before path) (text_at after path))
@@ -80,8 +80,8 @@ module _ (path : List ℕ) (before after : Texts) (same : SameBut path before af
   alone : is_some (text_at after path) ≡ true → filter passes (path_set (paths_of before ++ paths_of after)) ≡ path ∷ []
   alone some =
       same_filtered passes (path_set (paths_of before ++ paths_of after)) (path ∷ []) (keys_rise (marked (paths_of before ++ paths_of after))) tt (λ q through.
-        let tied : ties q path ≡ true = only q (bytes_eq q path) refl through in
-        has_path_of_two before after q ∙ ap (λ b. is_some (text_at before q) || b) (ap (λ x. is_some (text_at after x)) (tied_is q path tied) ∙ some) ∙ or_one (is_some (text_at before q)) ∙ sym (ap (λ b. b || false) tied))
+      let tied : ties q path ≡ true = only q (bytes_eq q path) refl through in
+      has_path_of_two before after q ∙ ap (λ b. is_some (text_at before q) || b) (ap (λ x. is_some (text_at after x)) (tied_is q path tied) ∙ some) ∙ or_one (is_some (text_at before q)) ∙ sym (ap (λ b. b || false) tied))
       ∙ ap (λ b. cond b (path ∷ []) []) itself
     where
       or_one : (b : Bool) → (b || true) ≡ true

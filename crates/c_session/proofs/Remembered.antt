@@ -66,7 +66,6 @@ module _ (t : Texts) where
   empty_holds path text found = absurd (true≢false (ap is_some (sym found ∙ get-empty by_bytes path)))
 
 module _ (old new : Texts) where
-
   -- a path for which nothing is kept has no text at either moment
   no_text : (q : List ℕ) → get (all_remembered (all_remembered empty old (paths_of old)) old (paths_of new)) q ≡ None → text_at new q ≡ text_at old q
   no_text q none =
