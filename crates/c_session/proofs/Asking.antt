@@ -1,11 +1,11 @@
 -- Laws of what asks the store.
-use Rattle.std.proofs.Common.{◌≡◌, ◌≤◌, ◌+◌, ℕ, List, [], ◌∷◌, ◌++◌, length, Option, None, Some, option_and_then, option_map, Bool, true, false, cond, is_some, T, refl, sym, ap, ◌∙◌, subst, append-nil, append_assoc, bytes_eq, arith}
+use Rattle.std.proofs.Common.{◌≡◌, ◌≤◌, ◌<◌, ◌+◌, ℕ, List, [], ◌∷◌, ◌++◌, length, Option, None, Some, option_and_then, option_map, Bool, true, false, cond, is_some, T, refl, sym, ap, ◌∙◌, subst, append-nil, append_assoc, bytes_eq, arith}
 use Rattle.std.proofs.lemmas.Slice.Eq.{bytes_eq-Decides}
 use Rattle.io_edges.specs.Store.{Call, Entry, Lists, Reads, ListCall, ReadCall, after_answer}
 use Rattle.io_edges.specs.declared.ends.Listed.{Listed}
 use Rattle.io_edges.specs.declared.ends.Found.{Found}
 use Rattle.c_session.specs.Asking.{Asking, Gives, AsksList, AsksRead, and_then, after_one, after_all, next_call}
-use Rattle.c_session.specs.Handled.{Answered, Reached, Failed, GaveUp, Refused}
+use Rattle.c_session.specs.Handled.{Answered, Reached, Failed, GaveUp, IsFault, Refused}
 use Rattle.c_session.specs.declared.error.SessionError.{SessionError}
 use Rattle.c_session.specs.declared.error.SessionError.TheVariants.{StoreFault, NoMemory}
 
@@ -122,3 +122,18 @@ refused_then k NoMemory (same, gave) = (same, record { next = and_then gave.next
 -- memory was wanted where nothing more was asked
 pub gave_up : {A : Type 0} {t next : Asking A} {old new : Option (List Entry)} → Reached t next old new → GaveUp t old new
 gave_up {next = next} r = record { next = next; reached = r }
+
+pub stays_at : {A : Type 0} (t : Asking A) {old new : Option (List Entry)} → new ≡ old → Reached t t old new
+stays_at t {old = old} same = subst (λ told. Reached t t old told) (sym same) (stays t old)
+
+-- the store was asked behind what was reached, and refused
+pub stopped_at : {A : Type 0} {t next : Asking A} (call : Call) (e : SessionError) {old between new : Option (List Entry)} {faults middle faults' : ℕ} →
+    Reached t next old between → next_call next ≡ Some call → new ≡ between → middle ≡ faults → IsFault e middle faults' → Refused e t old new faults faults'
+stopped_at {next = next} call StoreFault {faults' = faults'} r asked same kept rose =
+    (subst (λ n. n < faults') kept rose, record { next = next; reached = goes_on r (stays_at next same); call = call; asked = asked })
+stopped_at {next = next} call NoMemory {faults' = faults'} r asked same kept is = (is ∙ kept, gave_up (goes_on r (stays_at next same)))
+
+-- memory was wanted behind what was reached
+pub wanted_memory : {A : Type 0} {t next : Asking A} {old new : Option (List Entry)} {faults faults' : ℕ} →
+    Reached t next old new → faults' ≡ faults → Refused NoMemory t old new faults faults'
+wanted_memory r kept = (kept, gave_up r)

@@ -2,6 +2,7 @@ pub mod Asking
 pub mod Differing
 pub mod Elements
 pub mod Floats
+pub mod Loads
 pub mod PathSets
 pub mod Publications
 pub mod Publishing

@@ -132,6 +132,24 @@ pub(crate) fn load_files<D: Store>(
     Ok(())
 }
 
+/// Loads a file of which the text before is kept.
+fn take_back(
+    alloc: Global,
+    docs: &mut Docs,
+    logs: &mut Vec<u8>,
+    prior: &mut PriorTexts,
+    path: &Path,
+    found: &Found,
+) -> Result<(), AllocError>
+    ensures taken { OnOk result (loading docs.new logs.new.items ≡ settles (load_log path.now) (loading docs.old logs.old.items) (with_found docs.old path.now found.now)) }
+    ensures prior { OnOk result (KeepsPrior prior.old docs.old prior.new docs.new) }
+{
+    match prior.remember(docs, path) {
+        Ok(()) => load_found(alloc, docs, logs, path, found),
+        Err(_) => Err(AllocError),
+    }
+}
+
 /// Reads the file of a document that was closed, where it is one that is read; the text that the file had before is kept.
 pub(crate) fn read_back<D: Store>(
     alloc: Global,
@@ -147,14 +165,17 @@ pub(crate) fn read_back<D: Store>(
     ensures refused { IfErr result (λ e. Refused e (read_back (loading docs.old logs.old.items) path.now) (D.answers store.old) (D.answers store.new) (D.faults store.old) (D.faults store.new)) }
     ensures prior { OnOk result (KeepsPrior prior.old docs.old prior.new docs.new) }
 {
-    if !is_read(alloc, docs.root(), path)? {
-        return Ok(());
+    match is_read(alloc, docs.root(), path) {
+        Ok(true) => {}
+        Ok(false) => return Ok(()),
+        Err(_) => return Err(SessionError::NoMemory),
     }
     let found = match read_file(alloc, store, path) {
         Ok(found) => found,
         Err(error) => return Err(error),
     };
-    prior.remember(docs, path)?;
-    load_found(alloc, docs, logs, path, &found)?;
-    Ok(())
+    match take_back(alloc, docs, logs, prior, path, &found) {
+        Ok(()) => Ok(()),
+        Err(_) => Err(SessionError::NoMemory),
+    }
 }

@@ -52,6 +52,17 @@ pub struct Session {
     phase: Phase,
 }
 
+/// Bytes that are told, or want of memory.
+fn told(bytes: Result<Vec<u8>, AllocError>) -> Result<Vec<u8>, SessionError>
+    ensures told { IfOk result (λ v. bytes ≡ Ok v) }
+    ensures error { IfErr result (λ e. e ≡ SessionError.NoMemory) }
+{
+    match bytes {
+        Ok(bytes) => Ok(bytes),
+        Err(_) => Err(SessionError::NoMemory),
+    }
+}
+
 impl Session {
     /// A session before its first content.
     pub fn new(alloc: Global) -> Session
@@ -119,12 +130,19 @@ impl Session {
         self.reply_to_edit("textDocument/didChange", edited)
     }
 
-    /// Writes behind a response and log messages the diagnostics of the files that have news.
-    fn finish(&self, out: &mut Vec<u8>, logs: &[u8], prior: &PriorTexts) -> Result<(), AllocError>
-        ensures { OnOk result (out.new.items ≡ (out.old.items ++ logs.now) ++ news self.now.encoding prior.now self.now.docs) }
+    /// A response, and behind it log messages and the diagnostics of the files that have news.
+    fn finish(
+        &self,
+        response: Vec<u8>,
+        logs: &[u8],
+        prior: &PriorTexts,
+    ) -> Result<Vec<u8>, AllocError>
+        ensures { IfOk result (λ v. v.items ≡ (response.items ++ logs.now) ++ news self.now.encoding prior.now self.now.docs) }
     {
+        let mut out = response;
         out.extend_from_slice(logs)?;
-        push_news(self.alloc, out, &self.docs, self.encoding, prior)
+        push_news(self.alloc, &mut out, &self.docs, self.encoding, prior)?;
+        Ok(out)
     }
 
     /// `textDocument/didClose`.
@@ -141,10 +159,7 @@ impl Session {
         let mut prior = PriorTexts::new(self.alloc);
         match close_document(self.alloc, &mut self.docs, &mut prior, params) {
             Ok(path) => self.after_close(&path, &mut prior, store),
-            Err(refusal) => {
-                let bytes = self.refuse("textDocument/didClose", refusal)?;
-                Ok(bytes)
-            }
+            Err(refusal) => told(self.refuse("textDocument/didClose", refusal)),
         }
     }
 
@@ -165,9 +180,7 @@ impl Session {
             Ok(()) => {}
             Err(error) => return Err(error),
         }
-        let mut out = Vec::new(self.alloc);
-        self.finish(&mut out, logs.as_slice(), prior)?;
-        Ok(out)
+        told(self.finish(Vec::new(self.alloc), logs.as_slice(), prior))
     }
 
     /// `workspace/didChangeWatchedFiles`.
@@ -183,13 +196,10 @@ impl Session {
     {
         match watching_in(self.alloc, params) {
             Ok(changes) => self.after_changes(changes.as_slice(), store),
-            Err(error) => {
-                let bytes = self.refuse(
-                    "workspace/didChangeWatchedFiles",
-                    Refusal::of_params(error),
-                )?;
-                Ok(bytes)
-            }
+            Err(error) => told(self.refuse(
+                "workspace/didChangeWatchedFiles",
+                Refusal::of_params(error),
+            )),
         }
     }
 
@@ -210,9 +220,7 @@ impl Session {
             Ok(()) => {}
             Err(error) => return Err(error),
         }
-        let mut out = Vec::new(self.alloc);
-        self.finish(&mut out, logs.as_slice(), &prior)?;
-        Ok(out)
+        told(self.finish(Vec::new(self.alloc), logs.as_slice(), &prior))
     }
 
     /// The session begins with these texts: it answers `initialize`, and publishes what they show.
@@ -227,12 +235,11 @@ impl Session {
         let Loaded { docs, logs } = loaded;
         let prior = prior_of(self.alloc, &self.docs, &docs)?;
         let answer = initialize_result(self.alloc, encoding)?;
-        let mut out = response(self.alloc, id, answer)?;
+        let bytes = response(self.alloc, id, answer)?;
         self.docs = docs;
         self.encoding = encoding;
         self.phase = Phase::Running;
-        self.finish(&mut out, logs.as_slice(), &prior)?;
-        Ok(out)
+        self.finish(bytes, logs.as_slice(), &prior)
     }
 
     /// `initialize`.
@@ -249,18 +256,14 @@ impl Session {
     {
         let beginning = match beginning_in(self.alloc, params) {
             Ok(beginning) => beginning,
-            Err(refusal) => {
-                let bytes = self.reject(id, refusal)?;
-                return Ok(bytes);
-            }
+            Err(refusal) => return told(self.reject(id, refusal)),
         };
         let Beginning { root, encoding } = beginning;
         let loaded = match load_root(self.alloc, root, store) {
             Ok(loaded) => loaded,
             Err(error) => return Err(error),
         };
-        let bytes = self.begin(id, encoding, loaded)?;
-        Ok(bytes)
+        told(self.begin(id, encoding, loaded))
     }
 
     /// A request before `initialize`.
@@ -280,8 +283,7 @@ impl Session {
         if method == "initialize" {
             return self.on_initialize(id, params, store);
         }
-        let bytes = error(self.alloc, Some(id), -32002, "not initialized")?;
-        Ok(bytes)
+        told(error(self.alloc, Some(id), -32002, "not initialized"))
     }
 
     /// A request between `initialize` and `shutdown`.
@@ -314,14 +316,8 @@ impl Session {
     {
         match self.phase {
             Phase::Fresh => self.on_fresh_request(id, method, params, store),
-            Phase::Running => {
-                let bytes = self.on_running_request(id, method)?;
-                Ok(bytes)
-            }
-            Phase::Down => {
-                let bytes = error(self.alloc, Some(id), -32600, "shut down")?;
-                Ok(bytes)
-            }
+            Phase::Running => told(self.on_running_request(id, method)),
+            Phase::Down => told(error(self.alloc, Some(id), -32600, "shut down")),
         }
     }
 
@@ -339,12 +335,10 @@ impl Session {
         ensures refused { IfErr result (λ e. Refused e (running_notification (state_of self.old) method.now (option_map (λ v. view v.now) params.entry)) (D.answers store.old) (D.answers store.new) (D.faults store.old) (D.faults store.new)) }
     {
         if method == "textDocument/didOpen" {
-            let bytes = self.on_open(params)?;
-            return Ok(bytes);
+            return told(self.on_open(params));
         }
         if method == "textDocument/didChange" {
-            let bytes = self.on_change(params)?;
-            return Ok(bytes);
+            return told(self.on_change(params));
         }
         if method == "textDocument/didClose" {
             return self.on_close(params, store);
@@ -431,10 +425,10 @@ impl Session {
             Message::Notification { method, params } => {
                 self.on_notification(*method, *params, store)
             }
-            _ => {
-                let reply = self.on_other(message)?;
-                Ok(reply)
-            }
+            _ => match self.on_other(message) {
+                Ok(reply) => Ok(reply),
+                Err(_) => Err(SessionError::NoMemory),
+            },
         }
     }
 
@@ -451,7 +445,10 @@ impl Session {
         ensures counted { OnOk result (D.faults store.new ≡ D.faults store.old) }
         ensures refused { IfErr result (λ e. Refused e (asks (state_of self.old) content.now) (D.answers store.old) (D.answers store.new) (D.faults store.old) (D.faults store.new)) }
     {
-        let value = read_content(self.alloc, content)?;
+        let value = match read_content(self.alloc, content) {
+            Ok(value) => value,
+            Err(_) => return Err(SessionError::NoMemory),
+        };
         let message = message_of(&value);
         self.on_message(&message, store)
     }

@@ -99,8 +99,14 @@ fn load_under<D: Store>(
         Ok(found) => found,
         Err(error) => return Err(error),
     };
-    let mut logs = unreadable_logs(alloc, found.as_slice())?;
-    let paths = to_load(alloc, &root, found.as_slice())?;
+    let mut logs = match unreadable_logs(alloc, found.as_slice()) {
+        Ok(logs) => logs,
+        Err(_) => return Err(SessionError::NoMemory),
+    };
+    let paths = match to_load(alloc, &root, found.as_slice()) {
+        Ok(paths) => paths,
+        Err(_) => return Err(SessionError::NoMemory),
+    };
     let mut docs = Docs::new(alloc, Some(root));
     match load_files(alloc, &mut docs, &mut logs, paths.as_slice(), store) {
         Ok(()) => Ok(Loaded { docs, logs }),

@@ -87,8 +87,10 @@ fn reread<D: Store>(
         Ok(found) => found,
         Err(error) => return Err(error),
     };
-    take_found(alloc, docs, logs, path, &found)?;
-    Ok(())
+    match take_found(alloc, docs, logs, path, &found) {
+        Ok(()) => Ok(()),
+        Err(_) => Err(SessionError::NoMemory),
+    }
 }
 
 /// Takes over one change of a file of the root.
@@ -109,10 +111,22 @@ fn update<D: Store>(
     match kind {
         FileChangeKind::Created => reread(alloc, docs, logs, path, store),
         FileChangeKind::Changed => reread(alloc, docs, logs, path, store),
-        FileChangeKind::Deleted => {
-            take_away(alloc, docs, logs, path)?;
-            Ok(())
-        }
+        FileChangeKind::Deleted => match take_away(alloc, docs, logs, path) {
+            Ok(()) => Ok(()),
+            Err(_) => Err(SessionError::NoMemory),
+        },
+    }
+}
+
+/// Logs that a change is refused, in a step that may end with an error of the session.
+fn log_refusal(alloc: Global, logs: &mut Vec<u8>, refusal: Refusal) -> Result<(), SessionError>
+    ensures refused { OnOk result (refusal ≢ NoMemory) }
+    ensures log { OnOk result (logs.new.items ≡ logs.old.items ++ log (watched_log (reason refusal))) }
+    ensures error { IfErr result (λ e. e ≡ SessionError.NoMemory) }
+{
+    match push_refusal(alloc, logs, refusal) {
+        Ok(()) => Ok(()),
+        Err(_) => Err(SessionError::NoMemory),
     }
 }
 
@@ -133,20 +147,20 @@ fn update_at<D: Store>(
 {
     let path = match path_at(alloc, change.uri) {
         Ok(path) => path,
-        Err(refusal) => {
-            push_refusal(alloc, logs, refusal)?;
-            return Ok(());
-        }
+        Err(refusal) => return log_refusal(alloc, logs, refusal),
     };
-    if !is_read(alloc, docs.root(), &path)? {
-        return Ok(());
+    match is_read(alloc, docs.root(), &path) {
+        Ok(true) => {}
+        Ok(false) => return Ok(()),
+        Err(_) => return Err(SessionError::NoMemory),
     }
     if docs.is_outside(&path) {
-        push_refusal(alloc, logs, Refusal::Texts(DocError::OutsideRoot))?;
-        return Ok(());
+        return log_refusal(alloc, logs, Refusal::Texts(DocError::OutsideRoot));
     }
-    prior.remember(docs, &path)?;
-    update(alloc, docs, logs, &path, change.kind, store)
+    match prior.remember(docs, &path) {
+        Ok(()) => update(alloc, docs, logs, &path, change.kind, store),
+        Err(_) => Err(SessionError::NoMemory),
+    }
 }
 
 /// Takes over each change of a watched file in turn, and keeps the texts that the files had before.
