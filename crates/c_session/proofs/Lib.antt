@@ -1,8 +1,12 @@
 pub mod Asking
+pub mod Differing
 pub mod Elements
 pub mod Floats
 pub mod Loads
+pub mod PathSets
 pub mod Priors
+pub mod Publications
 pub mod Publishing
+pub mod Remembered
 pub mod Telling
 pub mod Utf8

@@ -8,7 +8,7 @@ use Rattle.c_tokens.specs.declared.types.LexFault.{LexFault}
 use Rattle.c_tokens.specs.Laws.{InOrder, ranges}
 use Rattle.text_lines.specs.declared.encoding.Encoding.{Encoding}
 use Rattle.c_session.specs.Faults.{AreWithin}
-use Rattle.c_session.specs.Published.{publish_start, publish_end, version_part}
+use Rattle.c_session.specs.Published.{number_data, publish_start, publish_end, version_part}
 use Rattle.c_session.specs.Replies.{framed, diagnostic, publish, publish_data}
 
 -- what stands in order lies within the limit
@@ -50,3 +50,8 @@ pub published : (encoding : Encoding) (uri : List ℕ) (version : Option ℤ) (f
 unfolding publish
 published encoding uri version faults text content is =
     ap framed (is ∙ sym (publish_spelled (map (diagnostic text encoding) faults) uri version))
+
+-- the version behind what is written
+pub versioned : (body text : List ℕ) (z : ℤ) (version : Option ℤ) → {new : List ℕ} → version ≡ Some z → text ≡ compact_text (number_data z) →
+    new ≡ (body ++ codes ",\"version\":") ++ text → new ≡ body ++ version_part version
+versioned body text z version is written made = made ∙ rw (is, written) (append_assoc body (codes ",\"version\":") (compact_text (number_data z)))

@@ -49,11 +49,7 @@ fn is_loaded(alloc: Global, root: &Path, path: &Path) -> Result<bool, AllocError
 }
 
 /// Whether the store is asked for a file: there is a root, and the file is one that is loaded.
-pub(crate) fn is_read(
-    alloc: Global,
-    root: Option<&Path>,
-    path: &Path,
-) -> Result<bool, AllocError>
+pub(crate) fn is_read(alloc: Global, root: Option<&Path>, path: &Path) -> Result<bool, AllocError>
     ensures { IfOk result (λ b. b ≡ is_read (option_map (λ p. p.now) root.entry) path.now) }
 {
     match root {
@@ -94,11 +90,7 @@ fn wanted_path(alloc: Global, root: &Path, text: &str) -> Result<Option<Path>, A
 }
 
 /// The files that are loaded from what a store lists, in order of path, each once.
-pub(crate) fn to_load(
-    alloc: Global,
-    root: &Path,
-    found: &[Listed],
-) -> Result<Vec<Path>, AllocError>
+pub(crate) fn to_load(alloc: Global, root: &Path, found: &[Listed]) -> Result<Vec<Path>, AllocError>
     ensures { IfOk result (λ v. v.items ≡ to_load root.now found.now) }
 {
     let mut paths = PathSet::new(alloc);

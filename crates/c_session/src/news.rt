@@ -1,9 +1,11 @@
 // What is published after a message that changed texts.
 ghost use Rattle.std.specs.Prelude.{◌≡◌, ◌≤◌, ◌++◌, ◌&&◌, ◌||◌, [], not, length, option_map, IfOk, IfSome, OnOk, IfNone, Some, None, if◌then◌else◌, string_bytes, unwrap_or};
+ghost use Rattle.c_tokens.specs.Lexed.{lexed};
 ghost use Rattle.c_session.specs.Faults.{AreWithin};
 ghost use Rattle.c_session.specs.Shown.{shown_of, shown, same_text, has_news, uri_for, publication};
-ghost use Rattle.c_session.specs.News.{IsPrior, IsNews, news_of, news};
+ghost use Rattle.c_session.specs.News.{IsPrior, IsNews, all_remembered, news_of, news};
 ghost use Rattle.doc_texts.specs.Prior.{prior_text};
+ghost use Rattle.doc_texts.specs.Texts.{text_at};
 
 use crate::diagnostics::{Showing, push_diagnostics_of};
 use crate::files::is_source;
@@ -13,10 +15,20 @@ use std::alloc::{AllocError, Global};
 use text_lines::Encoding;
 use uri_paths::{Path, uri_of};
 
+/// The lexical faults of a text.
+fn faults_in(alloc: Global, text: &str) -> Result<Faults, AllocError>
+    requires { length text.now ≤ 4194304 }
+    ensures faults { IfOk result (λ faults. faults ≡ (lexed text.now).faults) }
+    ensures within { IfOk result (λ faults. AreWithin (length text.now) faults) }
+{
+    let found = lex(alloc, text)?;
+    Ok(found.faults)
+}
+
 /// What a file with this text shows: the lexical faults of a C source.
 #[tactic(auto, unfolding(crate::specs::Shown::shown_of))]
 fn shown_of(alloc: Global, path: &Path, text: Option<&str>) -> Result<Faults, AllocError>
-    requires { IfSome text.entry (λ t. length t.now ≤ 4194304) }
+    requires { IfSome text (λ t. length t.now ≤ 4194304) }
     ensures shown { IfOk result (λ faults. faults ≡ shown_of path.now (option_map (λ t. t.now) text.entry)) }
     ensures within { IfOk result (λ faults. AreWithin (length (unwrap_or (option_map (λ t. t.now) text.entry) [])) faults) }
 {
@@ -26,8 +38,8 @@ fn shown_of(alloc: Global, path: &Path, text: Option<&str>) -> Result<Faults, Al
     match text {
         None => Ok(Faults::from_vec(Vec::new(alloc))),
         Some(text) => {
-            let found = lex(alloc, text)?;
-            Ok(found.faults)
+            let faults = faults_in(alloc, text)?;
+            Ok(faults)
         }
     }
 }
@@ -49,19 +61,20 @@ fn news_in(
     old: Option<&str>,
     new: Option<&str>,
 ) -> Result<Option<Faults>, AllocError>
-    requires old { IfSome old.entry (λ t. length t.now ≤ 4194304) }
-    requires new { IfSome new.entry (λ t. length t.now ≤ 4194304) }
+    requires old { IfSome old (λ t. length t.now ≤ 4194304) }
+    requires new { IfSome new (λ t. length t.now ≤ 4194304) }
     ensures news { IfOk result (λ o. IsNews o path.now (option_map (λ t. t.now) old.entry) (option_map (λ t. t.now) new.entry)) }
 {
     if same_text(old, new) {
         return Ok(None);
     }
     let shown = shown_of(alloc, path, new)?;
-    if shown.as_slice().is_empty() {
-        let before = shown_of(alloc, path, old)?;
-        if before.as_slice().is_empty() {
-            return Ok(None);
-        }
+    if !shown.as_slice().is_empty() {
+        return Ok(Some(shown));
+    }
+    let before = shown_of(alloc, path, old)?;
+    if before.as_slice().is_empty() {
+        return Ok(None);
     }
     Ok(Some(shown))
 }
@@ -136,7 +149,7 @@ fn push_news_of(
     old: Option<&str>,
     path: &Path,
 ) -> Result<(), AllocError>
-    requires { IfSome old.entry (λ t. length t.now ≤ 4194304) }
+    requires { IfSome old (λ t. length t.now ≤ 4194304) }
     ensures { OnOk result (out.new.items ≡ out.old.items ++ news_of encoding docs.now (option_map (λ t. t.now) old.entry) path.now) }
 {
     match news_in(alloc, path, old, docs.text(path))? {
