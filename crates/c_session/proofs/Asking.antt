@@ -141,3 +141,21 @@ pub wanted_memory : {A : Type 0} (t next : Asking A) (e : SessionError) (old new
     e ≡ NoMemory → Reached t next old new → faults' ≡ faults → Refused e t old new faults faults'
 wanted_memory t next e old new faults faults' is r kept =
     subst (λ x. Refused x t old new faults faults') (sym is) (kept, gave_up r)
+
+-- the store was asked at once, and refused
+pub read_stops : {A : Type 0} (path : List ℕ) (f : Found → Asking A) (e : SessionError) (old new : Option (List Entry)) (faults faults' : ℕ) →
+    new ≡ old → IsFault e faults faults' → Refused e (AsksRead path f) old new faults faults'
+read_stops path f e old new faults faults' same fault =
+    stopped_at (AsksRead path f) (AsksRead path f) (ReadCall path) e old old new faults faults faults' (stays (AsksRead path f) old) refl same refl fault
+
+-- the answer gave this
+pub read_gives : {A : Type 0} (path : List ℕ) (f : Found → A) (found : Found) (x : A) (old new : Option (List Entry)) →
+    new ≡ option_map (after_answer (Reads path found)) old → x ≡ f found → Reached (AsksRead path (λ o. Gives (f o))) (Gives x) old new
+read_gives path f found x old new read is =
+    subst (λ y. Reached (AsksRead path (λ o. Gives (f o))) (Gives y) old new) (sym is) (was_read path (λ o. Gives (f o)) found old new read)
+
+-- a refusal behind what was reached, the count of faults being the same by then
+pub refused_behind : {A : Type 0} (t middle : Asking A) (old between new : Option (List Entry)) (faults middle_faults faults' : ℕ) (e : SessionError) →
+    Reached t middle old between → middle_faults ≡ faults → Refused e middle between new middle_faults faults' → Refused e t old new faults faults'
+refused_behind t middle old between new faults middle_faults faults' e r kept h =
+    refused_on t middle old between new faults faults' e r (subst (λ n. Refused e middle between new n faults') kept h)

@@ -7,6 +7,7 @@ pub mod PathSets
 pub mod Priors
 pub mod Publications
 pub mod Publishing
+pub mod Reasoning
 pub mod Remembered
 pub mod Telling
 pub mod Utf8

@@ -1,13 +1,15 @@
 -- Laws of files that are read into the texts.
 use Rattle.std.proofs.Common.{◌≡◌, ℕ, List, [], ◌∷◌, Option, Some, option_map, Bool, true, cond, refl, sym, ap, ◌∙◌, subst}
-use Rattle.io_edges.specs.Store.{Entry, Reads, ReadCall, after_answer}
+use Rattle.io_edges.specs.Store.{Entry, Lists, Reads, ListCall, ReadCall, after_answer}
 use Rattle.io_edges.specs.declared.ends.Found.{Found}
+use Rattle.io_edges.specs.declared.ends.Listed.{Listed}
+use Rattle.doc_texts.specs.Texts.{Texts, texts_under}
 use Rattle.c_session.specs.Asking.{Asking, Gives, AsksRead}
-use Rattle.c_session.specs.Files.{with_found}
-use Rattle.c_session.specs.Handled.{Reached, Refused, IsFault}
-use Rattle.c_session.specs.Loading.{Loading, with_file, loads, settles, load_log, is_read, read_back}
+use Rattle.c_session.specs.Files.{with_found, to_load, unreadable_logs}
+use Rattle.c_session.specs.Handled.{Reached, Refused, GaveUp, IsFault}
+use Rattle.c_session.specs.Loading.{Loading, with_file, loads, loads_root, settles, load_log, is_read, read_back}
 use Rattle.c_session.specs.declared.error.SessionError.{SessionError}
-use Rattle.c_session.proofs.Asking.{was_read, stays, reached_same, goes_on, stopped_at}
+use Rattle.c_session.proofs.Asking.{was_read, was_listed, stays, reached_same, goes_on, gave_up, stopped_at}
 
 -- one more file was read and taken
 pub loads_turns : (t : Asking Loading) (l : Loading) (rest : List (List ℕ)) (old between new : Option (List Entry))
@@ -49,3 +51,30 @@ pub back_stops : (l : Loading) (path : List ℕ) (e : SessionError) (old new : O
     is_read l.texts.root path ≡ true → new ≡ old → IsFault e faults faults' → Refused e (read_back l path) old new faults faults'
 back_stops l path e old new faults faults' is same fault =
     stopped_at (read_back l path) (read_behind l path) (ReadCall path) e old old new faults faults faults' (back_asks l path old is) refl same refl fault
+
+-- ---- the files of a root
+
+abbrev under_root : List ℕ → List Listed → Asking Loading
+under_root root found = loads (record { texts = texts_under (Some root); logs = unreadable_logs found }) (to_load root found)
+
+-- the store listed the files
+pub root_listed : (root : List ℕ) (found : List Listed) (docs : Texts) (logs : List ℕ) (paths : List (List ℕ)) (old new : Option (List Entry)) →
+    new ≡ option_map (after_answer (Lists root found)) old → docs ≡ texts_under (Some root) → logs ≡ unreadable_logs found → paths ≡ to_load root found →
+    Reached (loads_root (Some root)) (loads (record { texts = docs; logs = logs }) paths) old new
+root_listed root found docs logs paths old new listed is_docs are_logs are_paths =
+    subst (λ t. Reached (loads_root (Some root)) t old new)
+    (ap (λ (d : Texts). loads (record { texts = d; logs = unreadable_logs found }) (to_load root found)) (sym is_docs)
+    ∙ ap (λ (l : List ℕ). loads (record { texts = docs; logs = l }) (to_load root found)) (sym are_logs)
+    ∙ ap (λ (ps : List (List ℕ)). loads (record { texts = docs; logs = logs }) ps) (sym are_paths))
+    (was_listed root (under_root root) found old new listed)
+
+-- memory was wanted then
+pub root_wants : (root : List ℕ) (found : List Listed) (old new : Option (List Entry)) →
+    new ≡ option_map (after_answer (Lists root found)) old → GaveUp (loads_root (Some root)) old new
+root_wants root found old new listed = gave_up (was_listed root (under_root root) found old new listed)
+
+-- the store refused to list them
+pub root_stops : (root : List ℕ) (e : SessionError) (old new : Option (List Entry)) (faults faults' : ℕ) →
+    new ≡ old → IsFault e faults faults' → Refused e (loads_root (Some root)) old new faults faults'
+root_stops root e old new faults faults' same fault =
+    stopped_at (loads_root (Some root)) (loads_root (Some root)) (ListCall root) e old old new faults faults faults' (stays (loads_root (Some root)) old) refl same refl fault

@@ -264,10 +264,10 @@ impl Session {
         let beginning = match beginning_in(self.alloc, params) {
             Ok(beginning) => beginning,
             Err(refusal) => {
-                return match self.reject(id, refusal) {
-                    Ok(bytes) => Ok(bytes),
-                    Err(_) => Err(SessionError::NoMemory),
-                };
+                match self.reject(id, refusal) {
+                    Ok(bytes) => return Ok(bytes),
+                    Err(_) => return Err(SessionError::NoMemory),
+                }
             }
         };
         let Beginning { root, encoding } = beginning;
@@ -359,16 +359,16 @@ impl Session {
         ensures refused { IfErr result (λ e. Refused e (running_notification (state_of self.old) method.now (option_map (λ v. view v.now) params.entry)) (D.answers store.old) (D.answers store.new) (D.faults store.old) (D.faults store.new)) }
     {
         if method == "textDocument/didOpen" {
-            return match self.on_open(params) {
-                Ok(bytes) => Ok(bytes),
-                Err(_) => Err(SessionError::NoMemory),
-            };
+            match self.on_open(params) {
+                Ok(bytes) => return Ok(bytes),
+                Err(_) => return Err(SessionError::NoMemory),
+            }
         }
         if method == "textDocument/didChange" {
-            return match self.on_change(params) {
-                Ok(bytes) => Ok(bytes),
-                Err(_) => Err(SessionError::NoMemory),
-            };
+            match self.on_change(params) {
+                Ok(bytes) => return Ok(bytes),
+                Err(_) => return Err(SessionError::NoMemory),
+            }
         }
         if method == "textDocument/didClose" {
             return self.on_close(params, store);

@@ -1,5 +1,5 @@
 // Files that changed outside the editor (LSP 3.17, workspace/didChangeWatchedFiles).
-ghost use Rattle.std.specs.Prelude.{◌≡◌, ◌≢◌, ◌+◌, ◌<◌, ◌^◌, ◌++◌, None, IfErr, OnOk, map};
+ghost use Rattle.std.specs.Prelude.{◌≡◌, ◌≢◌, ◌+◌, ◌<◌, ◌^◌, ◌++◌, codes, None, IfErr, OnOk, map};
 ghost use Rattle.doc_texts.specs.Docs.{is_outside, loaded};
 ghost use Rattle.c_session.specs.Files.{with_found};
 ghost use Rattle.c_session.specs.Asking.{Gives};
@@ -27,15 +27,27 @@ use io_edges::{Found, Store};
 use std::alloc::{AllocError, Global};
 use uri_paths::Path;
 
+/// Logs why a change is refused.
+fn push_reason(alloc: Global, logs: &mut Vec<u8>, reason: &str) -> Result<(), AllocError>
+    ensures { OnOk result (logs.new.items ≡ logs.old.items ++ log (codes "workspace/didChangeWatchedFiles: " ++ reason.now)) }
+{
+    let text = format!(in alloc; "workspace/didChangeWatchedFiles: {reason}")?;
+    push_log(alloc, logs, text.as_str())
+}
+
 /// Logs that a change is refused.
 fn push_refusal(alloc: Global, logs: &mut Vec<u8>, refusal: Refusal) -> Result<(), AllocError>
     ensures refused { OnOk result (refusal ≢ NoMemory) }
     ensures log { OnOk result (logs.new.items ≡ logs.old.items ++ log (watched_log (reason refusal))) }
 {
-    let reason = refusal.text(alloc)?;
-    let reason = reason.as_str();
-    let text = format!(in alloc; "workspace/didChangeWatchedFiles: {reason}")?;
-    push_log(alloc, logs, text.as_str())
+    let reason = match refusal.text(alloc) {
+        Ok(reason) => reason,
+        Err(_) => return Err(AllocError),
+    };
+    match push_reason(alloc, logs, reason.as_str()) {
+        Ok(()) => Ok(()),
+        Err(_) => Err(AllocError),
+    }
 }
 
 /// Gives the texts what a file has now, or logs why they refuse it.
@@ -50,7 +62,10 @@ fn take_found(
 {
     match set_found(docs, path, found) {
         Ok(()) => Ok(()),
-        Err(error) => push_refusal(alloc, logs, Refusal::of_texts(error)),
+        Err(error) => match push_refusal(alloc, logs, Refusal::of_texts(error)) {
+            Ok(()) => Ok(()),
+            Err(_) => Err(AllocError),
+        },
     }
 }
 
@@ -65,7 +80,10 @@ fn take_away(
 {
     match docs.load(path, None) {
         Ok(()) => Ok(()),
-        Err(error) => push_refusal(alloc, logs, Refusal::of_texts(error)),
+        Err(error) => match push_refusal(alloc, logs, Refusal::of_texts(error)) {
+            Ok(()) => Ok(()),
+            Err(_) => Err(AllocError),
+        },
     }
 }
 
@@ -118,18 +136,6 @@ fn update<D: Store>(
     }
 }
 
-/// Logs that a change is refused, in a step that may end with an error of the session.
-fn log_refusal(alloc: Global, logs: &mut Vec<u8>, refusal: Refusal) -> Result<(), SessionError>
-    ensures refused { OnOk result (refusal ≢ NoMemory) }
-    ensures log { OnOk result (logs.new.items ≡ logs.old.items ++ log (watched_log (reason refusal))) }
-    ensures error { IfErr result (λ e. e ≡ SessionError.NoMemory) }
-{
-    match push_refusal(alloc, logs, refusal) {
-        Ok(()) => Ok(()),
-        Err(_) => Err(SessionError::NoMemory),
-    }
-}
-
 /// Takes over one change of a watched file, and keeps the text that the file had before.
 fn update_at<D: Store>(
     alloc: Global,
@@ -147,7 +153,12 @@ fn update_at<D: Store>(
 {
     let path = match path_at(alloc, change.uri) {
         Ok(path) => path,
-        Err(refusal) => return log_refusal(alloc, logs, refusal),
+        Err(refusal) => {
+            match push_refusal(alloc, logs, refusal) {
+                Ok(()) => return Ok(()),
+                Err(_) => return Err(SessionError::NoMemory),
+            }
+        }
     };
     match is_read(alloc, docs.root(), &path) {
         Ok(true) => {}
@@ -155,11 +166,18 @@ fn update_at<D: Store>(
         Err(_) => return Err(SessionError::NoMemory),
     }
     if docs.is_outside(&path) {
-        return log_refusal(alloc, logs, Refusal::Texts(DocError::OutsideRoot));
+        match push_refusal(alloc, logs, Refusal::Texts(DocError::OutsideRoot)) {
+            Ok(()) => return Ok(()),
+            Err(_) => return Err(SessionError::NoMemory),
+        }
     }
     match prior.remember(docs, &path) {
-        Ok(()) => update(alloc, docs, logs, &path, change.kind, store),
-        Err(_) => Err(SessionError::NoMemory),
+        Ok(()) => {}
+        Err(_) => return Err(SessionError::NoMemory),
+    }
+    match update(alloc, docs, logs, &path, change.kind, store) {
+        Ok(()) => Ok(()),
+        Err(error) => Err(error),
     }
 }
 
