@@ -1,5 +1,5 @@
 -- Laws of what asks the store.
-use Rattle.std.proofs.Common.{◌≡◌, ◌≤◌, ◌<◌, ◌+◌, ℕ, List, [], ◌∷◌, ◌++◌, length, Option, None, Some, option_and_then, option_map, Bool, true, false, cond, is_some, T, refl, sym, ap, ◌∙◌, subst, append-nil, append_assoc, bytes_eq, arith}
+use Rattle.std.proofs.Common.{◌≡◌, ◌<◌, ℕ, List, [], ◌∷◌, ◌++◌, Option, None, Some, option_and_then, option_map, Bool, true, false, cond, is_some, T, refl, sym, ap, ◌∙◌, subst, append-nil, append_assoc, bytes_eq}
 use Rattle.std.proofs.lemmas.Slice.Eq.{bytes_eq-Decides}
 use Rattle.io_edges.specs.Store.{Call, Entry, Lists, Reads, ListCall, ReadCall, after_answer}
 use Rattle.io_edges.specs.declared.ends.Listed.{Listed}
@@ -17,48 +17,43 @@ not_some x e = absurd (subst (λ o. T (is_some o)) (sym e) tt)
 
 -- ---- answers one after the other
 
-module _ {A : Type 0} where
-  follows : Option (Asking A) → List Entry → Option (Asking A)
-  follows o xs = option_and_then (λ s. after_all s xs) o
+abbrev follows : {A : Type 0} → Option (Asking A) → List Entry → Option (Asking A)
+follows o xs = option_and_then (λ s. after_all s xs) o
 
-  mutual
-    pub after_append : (t next : Asking A) (xs ys : List Entry) → after_all t xs ≡ Some next → after_all t (xs ++ ys) ≡ after_all next ys
-    after_append t next [] ys e = ap (λ o. follows o ys) e
-    after_append t next (x ∷ xs) ys e = append_behind (after_one t x) next xs ys e
+append_behind : {A : Type 0} (o : Option (Asking A)) (next : Asking A) (xs ys : List Entry) →
+    ((s : Asking A) → after_all s xs ≡ Some next → after_all s (xs ++ ys) ≡ after_all next ys) →
+    follows o xs ≡ Some next → follows o (xs ++ ys) ≡ after_all next ys
+append_behind None next xs ys ih e = not_some next e
+append_behind (Some s) next xs ys ih e = ih s e
 
-    append_behind : (o : Option (Asking A)) (next : Asking A) (xs ys : List Entry) →
-        follows o xs ≡ Some next → follows o (xs ++ ys) ≡ after_all next ys
-    append_behind None next xs ys e = not_some next e
-    append_behind (Some s) next xs ys e = after_append s next xs ys e
+pub after_append : {A : Type 0} (t next : Asking A) (xs ys : List Entry) → after_all t xs ≡ Some next → after_all t (xs ++ ys) ≡ after_all next ys
+after_append t next [] ys e = ap (λ o. follows o ys) e
+after_append t next (x ∷ xs) ys e = append_behind (after_one t x) next xs ys (λ s. after_append s next xs ys) e
 
 -- an answer moves what asks and then goes on as it moves what asks
+moved : {A B : Type 0} (k : A → Asking B) (b : Bool) (s next : Asking A) → cond b (Some s) None ≡ Some next → cond b (Some (and_then s k)) None ≡ Some (and_then next k)
+moved k true s next e = ap (option_map (λ t. and_then t k)) e
+moved k false s next e = not_some next e
+
 one_then : {A B : Type 0} (t : Asking A) (k : A → Asking B) (x : Entry) (next : Asking A) →
     after_one t x ≡ Some next → after_one (and_then t k) x ≡ Some (and_then next k)
 one_then (Gives a) k x next e = not_some next e
-one_then (AsksList root f) k (Lists listed found) next e = moved (bytes_eq root listed) (f found) next e
-  where
-    moved : (b : Bool) (s next : Asking A) → cond b (Some s) None ≡ Some next → cond b (Some (and_then s k)) None ≡ Some (and_then next k)
-    moved true s next e = ap (option_map (λ t. and_then t k)) e
-    moved false s next e = not_some next e
+one_then (AsksList root f) k (Lists listed found) next e = moved k (bytes_eq root listed) (f found) next e
 one_then (AsksList root f) k (Reads read found) next e = not_some next e
 one_then (AsksRead path f) k (Lists listed found) next e = not_some next e
-one_then (AsksRead path f) k (Reads read found) next e = moved (bytes_eq path read) (f found) next e
-  where
-    moved : (b : Bool) (s next : Asking A) → cond b (Some s) None ≡ Some next → cond b (Some (and_then s k)) None ≡ Some (and_then next k)
-    moved true s next e = ap (option_map (λ t. and_then t k)) e
-    moved false s next e = not_some next e
+one_then (AsksRead path f) k (Reads read found) next e = moved k (bytes_eq path read) (f found) next e
 
-mutual
-  pub after_then : {A B : Type 0} (t next : Asking A) (k : A → Asking B) (xs : List Entry) →
-      after_all t xs ≡ Some next → after_all (and_then t k) xs ≡ Some (and_then next k)
-  after_then t next k [] e = ap (option_map (λ s. and_then s k)) e
-  after_then t next k (x ∷ xs) e = then_behind t (after_one t x) next k x xs refl e
+then_behind : {A B : Type 0} (t : Asking A) (o : Option (Asking A)) (next : Asking A) (k : A → Asking B) (x : Entry) (xs : List Entry) →
+    ((s : Asking A) → after_all s xs ≡ Some next → after_all (and_then s k) xs ≡ Some (and_then next k)) →
+    after_one t x ≡ o → follows o xs ≡ Some next → after_all (and_then t k) (x ∷ xs) ≡ Some (and_then next k)
+then_behind t None next k x xs ih is e = not_some next e
+then_behind t (Some s) next k x xs ih is e =
+    ap (option_and_then (λ t'. after_all t' xs)) (one_then t k x s is) ∙ ih s e
 
-  then_behind : {A B : Type 0} (t : Asking A) (o : Option (Asking A)) (next : Asking A) (k : A → Asking B) (x : Entry) (xs : List Entry) →
-      after_one t x ≡ o → follows o xs ≡ Some next → after_all (and_then t k) (x ∷ xs) ≡ Some (and_then next k)
-  then_behind t None next k x xs is e = not_some next e
-  then_behind t (Some s) next k x xs is e =
-      ap (option_and_then (λ t'. after_all t' xs)) (one_then t k x s is) ∙ after_then s next k xs e
+pub after_then : {A B : Type 0} (t next : Asking A) (k : A → Asking B) (xs : List Entry) →
+    after_all t xs ≡ Some next → after_all (and_then t k) xs ≡ Some (and_then next k)
+after_then t next k [] e = ap (option_map (λ s. and_then s k)) e
+after_then t next k (x ∷ xs) e = then_behind t (after_one t x) next k x xs (λ s. after_then s next k xs) refl e
 
 -- ---- what was reached
 
@@ -74,6 +69,13 @@ nothing_answered (Some told) = ap Some (sym (append-nil told))
 pub stays : {A : Type 0} (t : Asking A) (told : Option (List Entry)) → Reached t t told told
 stays t told = record { added = []; answered = nothing_answered told; follows = refl }
 
+pub stays_at : {A : Type 0} (t : Asking A) (old new : Option (List Entry)) → new ≡ old → Reached t t old new
+stays_at t old new same = subst (λ told. Reached t t old told) (sym same) (stays t old)
+
+-- what is asked is the same
+pub reached_same : {A : Type 0} (t t' : Asking A) (told : Option (List Entry)) → t ≡ t' → Reached t t' told told
+reached_same t t' told same = subst (λ x. Reached t x told told) same (stays t told)
+
 pub goes_on : {A : Type 0} {t middle next : Asking A} {old between new : Option (List Entry)} → Reached t middle old between → Reached middle next between new → Reached t next old new
 goes_on {t = t} {middle = middle} {next = next} {old = old} {between = between} {new = new} r s = record {
   added = r.added ++ s.added;
@@ -81,8 +83,8 @@ goes_on {t = t} {middle = middle} {next = next} {old = old} {between = between} 
   follows = after_append t middle r.added s.added r.follows ∙ s.follows;
 }
 
-pub goes_then : {A B : Type 0} {t next : Asking A} {old new : Option (List Entry)} (k : A → Asking B) → Reached t next old new → Reached (and_then t k) (and_then next k) old new
-goes_then {t = t} {next = next} k r = record { added = r.added; answered = r.answered; follows = after_then t next k r.added r.follows }
+pub goes_then : {A B : Type 0} (t next : Asking A) (old new : Option (List Entry)) (k : A → Asking B) → Reached t next old new → Reached (and_then t k) (and_then next k) old new
+goes_then t next old new k r = record { added = r.added; answered = r.answered; follows = after_then t next k r.added r.follows }
 
 -- the store answered what was asked
 pub was_read : {A : Type 0} (path : List ℕ) (f : Found → Asking A) (found : Found) (old new : Option (List Entry)) →
@@ -103,37 +105,39 @@ was_listed root f found old new is = record {
 
 -- ---- what was refused
 
--- a refusal behind what was reached
-pub refused_on : {A : Type 0} {t middle : Asking A} {old between new : Option (List Entry)} {faults faults' : ℕ} (e : SessionError) →
-    Reached t middle old between → Refused e middle between new faults faults' → Refused e t old new faults faults'
-refused_on StoreFault r (rose, failed) = (rose, record { next = failed.next; reached = goes_on r failed.reached; call = failed.call; asked = failed.asked })
-refused_on NoMemory r (same, gave) = (same, record { next = gave.next; reached = goes_on r gave.reached })
-
-pub refused_then : {A B : Type 0} {t : Asking A} {old new : Option (List Entry)} {faults faults' : ℕ} (k : A → Asking B) (e : SessionError) →
-    Refused e t old new faults faults' → Refused e (and_then t k) old new faults faults'
-refused_then k StoreFault (rose, failed) = (rose, record { next = and_then failed.next k; reached = goes_then k failed.reached; call = failed.call; asked = asked_then failed.next k failed.call failed.asked })
-  where
-    asked_then : {A B : Type 0} (t : Asking A) (k : A → Asking B) (call : Call) → next_call t ≡ Some call → next_call (and_then t k) ≡ Some call
-    asked_then (Gives x) k call e = not_some call e
-    asked_then (AsksList root f) k call e = e
-    asked_then (AsksRead path f) k call e = e
-refused_then k NoMemory (same, gave) = (same, record { next = and_then gave.next k; reached = goes_then k gave.reached })
-
--- memory was wanted where nothing more was asked
 pub gave_up : {A : Type 0} {t next : Asking A} {old new : Option (List Entry)} → Reached t next old new → GaveUp t old new
 gave_up {next = next} r = record { next = next; reached = r }
 
-pub stays_at : {A : Type 0} (t : Asking A) {old new : Option (List Entry)} → new ≡ old → Reached t t old new
-stays_at t {old = old} same = subst (λ told. Reached t t old told) (sym same) (stays t old)
+-- a refusal behind what was reached
+pub refused_on : {A : Type 0} (t middle : Asking A) (old between new : Option (List Entry)) (faults faults' : ℕ) (e : SessionError) →
+    Reached t middle old between → Refused e middle between new faults faults' → Refused e t old new faults faults'
+refused_on t middle old between new faults faults' StoreFault r h = (h.0, record { next = h.1.next; reached = goes_on r h.1.reached; call = h.1.call; asked = h.1.asked })
+refused_on t middle old between new faults faults' NoMemory r h = (h.0, record { next = h.1.next; reached = goes_on r h.1.reached })
+
+asked_then : {A B : Type 0} (t : Asking A) (k : A → Asking B) (call : Call) → next_call t ≡ Some call → next_call (and_then t k) ≡ Some call
+asked_then (Gives x) k call e = not_some call e
+asked_then (AsksList root f) k call e = e
+asked_then (AsksRead path f) k call e = e
+
+pub refused_then : {A B : Type 0} (t : Asking A) (old new : Option (List Entry)) (faults faults' : ℕ) (k : A → Asking B) (e : SessionError) →
+    Refused e t old new faults faults' → Refused e (and_then t k) old new faults faults'
+refused_then t old new faults faults' k StoreFault h = (h.0, record {
+  next = and_then h.1.next k;
+  reached = goes_then t h.1.next old new k h.1.reached;
+  call = h.1.call;
+  asked = asked_then h.1.next k h.1.call h.1.asked;
+})
+refused_then t old new faults faults' k NoMemory h = (h.0, record { next = and_then h.1.next k; reached = goes_then t h.1.next old new k h.1.reached })
 
 -- the store was asked behind what was reached, and refused
-pub stopped_at : {A : Type 0} {t next : Asking A} (call : Call) (e : SessionError) {old between new : Option (List Entry)} {faults middle faults' : ℕ} →
+pub stopped_at : {A : Type 0} (t next : Asking A) (call : Call) (e : SessionError) (old between new : Option (List Entry)) (faults middle faults' : ℕ) →
     Reached t next old between → next_call next ≡ Some call → new ≡ between → middle ≡ faults → IsFault e middle faults' → Refused e t old new faults faults'
-stopped_at {next = next} call StoreFault {faults' = faults'} r asked same kept rose =
-    (subst (λ n. n < faults') kept rose, record { next = next; reached = goes_on r (stays_at next same); call = call; asked = asked })
-stopped_at {next = next} call NoMemory {faults' = faults'} r asked same kept is = (is ∙ kept, gave_up (goes_on r (stays_at next same)))
+stopped_at t next call StoreFault old between new faults middle faults' r asked same kept rose =
+    (subst (λ n. n < faults') kept rose, record { next = next; reached = goes_on r (stays_at next between new same); call = call; asked = asked })
+stopped_at t next call NoMemory old between new faults middle faults' r asked same kept is = (is ∙ kept, gave_up (goes_on r (stays_at next between new same)))
 
 -- memory was wanted behind what was reached
-pub wanted_memory : {A : Type 0} {t next : Asking A} {old new : Option (List Entry)} {faults faults' : ℕ} →
-    Reached t next old new → faults' ≡ faults → Refused NoMemory t old new faults faults'
-wanted_memory r kept = (kept, gave_up r)
+pub wanted_memory : {A : Type 0} (t next : Asking A) (e : SessionError) (old new : Option (List Entry)) (faults faults' : ℕ) →
+    e ≡ NoMemory → Reached t next old new → faults' ≡ faults → Refused e t old new faults faults'
+wanted_memory t next e old new faults faults' is r kept =
+    subst (λ x. Refused x t old new faults faults') (sym is) (kept, gave_up r)

@@ -4,7 +4,9 @@ pub mod Elements
 pub mod Floats
 pub mod Loads
 pub mod PathSets
+pub mod Priors
 pub mod Publications
 pub mod Publishing
 pub mod Remembered
+pub mod Telling
 pub mod Utf8

@@ -68,7 +68,7 @@ did_change_watched = codes "workspace/didChangeWatchedFiles"
 
 -- a change that is refused
 abbrev pub watched_log : Reason → List ℕ
-watched_log r = did_change_watched ++ codes ": " ++ reason_text r
+watched_log r = codes "workspace/didChangeWatchedFiles: " ++ reason_text r
 
 -- a file of the root was created or changed, which are the same here, or deleted
 abbrev pub updates : Loading → List ℕ → FileChangeKind → Asking Loading

@@ -145,7 +145,11 @@ fn take_back(
     ensures prior { OnOk result (KeepsPrior prior.old docs.old prior.new docs.new) }
 {
     match prior.remember(docs, path) {
-        Ok(()) => load_found(alloc, docs, logs, path, found),
+        Ok(()) => {}
+        Err(_) => return Err(AllocError),
+    }
+    match load_found(alloc, docs, logs, path, found) {
+        Ok(()) => Ok(()),
         Err(_) => Err(AllocError),
     }
 }

@@ -7,7 +7,7 @@ ghost use Rattle.c_session.specs.React.{asks, tells, edits, opened_by, changed_b
 ghost use Rattle.c_session.specs.Params.{watching_in};
 ghost use Rattle.c_session.specs.Reasons.{reason_text, by_params};
 ghost use Rattle.c_session.specs.Refused.{reason, IsReply};
-ghost use Rattle.c_session.specs.Loading.{read_back};
+ghost use Rattle.c_session.specs.Loading.{read_back, did_change_watched};
 ghost use Rattle.c_session.specs.News.{news, HasPublished};
 ghost use Rattle.c_session.specs.Replies.{log, error};
 ghost use Rattle.c_session.specs.SeenParams.{seen_file_change};
@@ -50,17 +50,6 @@ pub struct Session {
     docs: Docs,
     encoding: Encoding,
     phase: Phase,
-}
-
-/// Bytes that are told, or want of memory.
-fn told(bytes: Result<Vec<u8>, AllocError>) -> Result<Vec<u8>, SessionError>
-    ensures told { IfOk result (λ v. bytes ≡ Ok v) }
-    ensures error { IfErr result (λ e. e ≡ SessionError.NoMemory) }
-{
-    match bytes {
-        Ok(bytes) => Ok(bytes),
-        Err(_) => Err(SessionError::NoMemory),
-    }
 }
 
 impl Session {
@@ -159,7 +148,10 @@ impl Session {
         let mut prior = PriorTexts::new(self.alloc);
         match close_document(self.alloc, &mut self.docs, &mut prior, params) {
             Ok(path) => self.after_close(&path, &mut prior, store),
-            Err(refusal) => told(self.refuse("textDocument/didClose", refusal)),
+            Err(refusal) => match self.refuse("textDocument/didClose", refusal) {
+                Ok(bytes) => Ok(bytes),
+                Err(_) => Err(SessionError::NoMemory),
+            },
         }
     }
 
@@ -180,7 +172,10 @@ impl Session {
             Ok(()) => {}
             Err(error) => return Err(error),
         }
-        told(self.finish(Vec::new(self.alloc), logs.as_slice(), prior))
+        match self.finish(Vec::new(self.alloc), logs.as_slice(), prior) {
+            Ok(bytes) => Ok(bytes),
+            Err(_) => Err(SessionError::NoMemory),
+        }
     }
 
     /// `workspace/didChangeWatchedFiles`.
@@ -196,10 +191,19 @@ impl Session {
     {
         match watching_in(self.alloc, params) {
             Ok(changes) => self.after_changes(changes.as_slice(), store),
-            Err(error) => told(self.refuse(
-                "workspace/didChangeWatchedFiles",
-                Refusal::of_params(error),
-            )),
+            Err(error) => self.refuse_changes(Refusal::of_params(error)),
+        }
+    }
+
+    /// The log message where the params of changes are refused.
+    fn refuse_changes(&self, refusal: Refusal) -> Result<Vec<u8>, SessionError>
+        ensures refused { IfOk result (λ _. refusal ≢ NoMemory) }
+        ensures log { IfOk result (λ v. v.items ≡ log (did_change_watched ++ codes ": " ++ reason_text (reason refusal))) }
+        ensures error { IfErr result (λ e. e ≡ SessionError.NoMemory) }
+    {
+        match self.refuse("workspace/didChangeWatchedFiles", refusal) {
+            Ok(bytes) => Ok(bytes),
+            Err(_) => Err(SessionError::NoMemory),
         }
     }
 
@@ -220,7 +224,10 @@ impl Session {
             Ok(()) => {}
             Err(error) => return Err(error),
         }
-        told(self.finish(Vec::new(self.alloc), logs.as_slice(), &prior))
+        match self.finish(Vec::new(self.alloc), logs.as_slice(), &prior) {
+            Ok(bytes) => Ok(bytes),
+            Err(_) => Err(SessionError::NoMemory),
+        }
     }
 
     /// The session begins with these texts: it answers `initialize`, and publishes what they show.
@@ -256,14 +263,22 @@ impl Session {
     {
         let beginning = match beginning_in(self.alloc, params) {
             Ok(beginning) => beginning,
-            Err(refusal) => return told(self.reject(id, refusal)),
+            Err(refusal) => {
+                return match self.reject(id, refusal) {
+                    Ok(bytes) => Ok(bytes),
+                    Err(_) => Err(SessionError::NoMemory),
+                };
+            }
         };
         let Beginning { root, encoding } = beginning;
         let loaded = match load_root(self.alloc, root, store) {
             Ok(loaded) => loaded,
             Err(error) => return Err(error),
         };
-        told(self.begin(id, encoding, loaded))
+        match self.begin(id, encoding, loaded) {
+            Ok(bytes) => Ok(bytes),
+            Err(_) => Err(SessionError::NoMemory),
+        }
     }
 
     /// A request before `initialize`.
@@ -283,7 +298,10 @@ impl Session {
         if method == "initialize" {
             return self.on_initialize(id, params, store);
         }
-        told(error(self.alloc, Some(id), -32002, "not initialized"))
+        match error(self.alloc, Some(id), -32002, "not initialized") {
+            Ok(bytes) => Ok(bytes),
+            Err(_) => Err(SessionError::NoMemory),
+        }
     }
 
     /// A request between `initialize` and `shutdown`.
@@ -316,8 +334,14 @@ impl Session {
     {
         match self.phase {
             Phase::Fresh => self.on_fresh_request(id, method, params, store),
-            Phase::Running => told(self.on_running_request(id, method)),
-            Phase::Down => told(error(self.alloc, Some(id), -32600, "shut down")),
+            Phase::Running => match self.on_running_request(id, method) {
+                Ok(bytes) => Ok(bytes),
+                Err(_) => Err(SessionError::NoMemory),
+            },
+            Phase::Down => match error(self.alloc, Some(id), -32600, "shut down") {
+                Ok(bytes) => Ok(bytes),
+                Err(_) => Err(SessionError::NoMemory),
+            },
         }
     }
 
@@ -335,10 +359,16 @@ impl Session {
         ensures refused { IfErr result (λ e. Refused e (running_notification (state_of self.old) method.now (option_map (λ v. view v.now) params.entry)) (D.answers store.old) (D.answers store.new) (D.faults store.old) (D.faults store.new)) }
     {
         if method == "textDocument/didOpen" {
-            return told(self.on_open(params));
+            return match self.on_open(params) {
+                Ok(bytes) => Ok(bytes),
+                Err(_) => Err(SessionError::NoMemory),
+            };
         }
         if method == "textDocument/didChange" {
-            return told(self.on_change(params));
+            return match self.on_change(params) {
+                Ok(bytes) => Ok(bytes),
+                Err(_) => Err(SessionError::NoMemory),
+            };
         }
         if method == "textDocument/didClose" {
             return self.on_close(params, store);
