@@ -1,7 +1,7 @@
 -- Whether a file has news.
-use Rattle.std.proofs.Common.{◌≡◌, ℕ, Bool, true, false, not, ◌&&◌, ◌||◌, List, [], ◌∷◌, length, Option, None, Some, refl, sym, ap, ◌∙◌, true≢false, ◌==◌}
+use Rattle.std.proofs.Common.{◌≡◌, ℕ, Bool, true, false, not, List, [], ◌∷◌, length, Option, None, Some, refl, sym, ap, ◌∙◌, true≢false, ◌==◌}
 use Rattle.std.proofs.Math.Dec.{eqb-suc-zero}
-use Rattle.std.proofs.lemmas.Bool.{eq-eqb}
+use Rattle.std.proofs.lemmas.Bool.{eq-eqb, or_right, and_right}
 use Rattle.std.proofs.lemmas.Slice.Eq.{bytes_eq-Decides}
 use Rattle.c_tokens.specs.declared.types.LexFault.{LexFault}
 use Rattle.c_session.specs.Shown.{shown_of, same_fault, same_list, same_text, is_nonempty, has_news}
@@ -28,14 +28,6 @@ pub no_news_itself : (path : List ℕ) (text : Option (List ℕ)) → has_news p
 unfolding has_news
 no_news_itself path text = rw (same_list_itself (shown_of path text), same_text_itself text) refl
 
-or_true : (b : Bool) → (b || true) ≡ true
-or_true true = refl
-or_true false = refl
-
-and_false : (b : Bool) → (b && false) ≡ false
-and_false true = refl
-and_false false = refl
-
 nothing_is : (faults : List LexFault) → is_nonempty faults ≡ false → faults ≡ []
 nothing_is [] none = refl
 nothing_is (fault ∷ faults) none = absurd (true≢false (sym (ap not (eqb-suc-zero (length faults))) ∙ none))
@@ -60,12 +52,12 @@ module _ (path : List ℕ) (old new : Option (List ℕ)) where
   -- another text of a file that shows something is news
   pub news_where_shown : same_text old new ≡ false → is_nonempty (shown_of path new) ≡ true → has_news path old new ≡ true
   unfolding has_news
-  news_where_shown other some = rw (other, some) (or_true (not (same_list (shown_of path old) (shown_of path new))))
+  news_where_shown other some = rw (other, some) (or_right (not (same_list (shown_of path old) (shown_of path new))) true refl)
 
   -- a file that showed nothing and shows nothing has none
   pub no_news_of_nothing : is_nonempty (shown_of path new) ≡ false → is_nonempty (shown_of path old) ≡ false → has_news path old new ≡ false
   unfolding has_news
-  no_news_of_nothing none before = rw (nothing_is (shown_of path new) none, nothing_is (shown_of path old) before) (and_false (not (same_text old new)))
+  no_news_of_nothing none before = rw (nothing_is (shown_of path new) none, nothing_is (shown_of path old) before) (and_right (not (same_text old new)) false refl)
 
   -- what is shown no more is news
   pub news_where_gone : is_nonempty (shown_of path new) ≡ false → is_nonempty (shown_of path old) ≡ true → has_news path old new ≡ true

@@ -86,7 +86,14 @@ module _ (test : List ℕ → Bool) where
   -- two lists that rise are left with the same paths where they have the same ones among those that pass
   pub same_filtered : (xs ys : List (List ℕ)) → Rise xs → Rise ys → ((q : List ℕ) → test q ≡ true → list_any (ties q) xs ≡ list_any (ties q) ys) → filter test xs ≡ filter test ys
   same_filtered xs ys rise_x rise_y alike =
-      let same = same_entries by_bytes nat_list_cmp_total apart (where_key by_bytes test (units xs)) (where_key by_bytes test (units ys)) (is_sorted-where_key by_bytes test (units xs) rise_x) (is_sorted-where_key by_bytes test (units ys) rise_y) (λ q. found_where q xs ∙ kept (test q) (find by_bytes q (units xs)) (find by_bytes q (units ys)) (λ passes. found_units q xs ∙ alike q passes ∙ sym (found_units q ys)) ∙ sym (found_where q ys)) in
+      let left = where_key by_bytes test (units xs) in
+      let right = where_key by_bytes test (units ys) in
+      let found = λ (q : List ℕ). found_where q xs
+      ∙ kept (test q) (find by_bytes q (units xs)) (find by_bytes q (units ys)) (λ passes. found_units q xs ∙ alike q passes ∙ sym (found_units q ys))
+      ∙ sym (found_where q ys) in
+      let left_rises = is_sorted-where_key by_bytes test (units xs) rise_x in
+      let right_rises = is_sorted-where_key by_bytes test (units ys) rise_y in
+      let same = same_entries by_bytes nat_list_cmp_total apart left right left_rises right_rises found in
       sym (keys_of_units (filter test xs)) ∙ ap (λ es. map (λ e. e.0) es) (sym (where_units xs) ∙ same ∙ where_units ys) ∙ keys_of_units (filter test ys)
 
 -- ---- what is written for each of some paths
@@ -113,11 +120,11 @@ some_or : {X : Type 0} (b : Bool) (x : X) (o : Option X) → is_some (cond b (So
 some_or true x o = refl
 some_or false x o = refl
 
-or_none : (b : Bool) → b ≡ (b || false)
+pub or_none : (b : Bool) → b ≡ (b || false)
 or_none true = refl
 or_none false = refl
 
-swap_or : (a b c : Bool) → ((a || b) || c) ≡ (b || (a || c))
+pub swap_or : (a b c : Bool) → ((a || b) || c) ≡ (b || (a || c))
 swap_or true true c = refl
 swap_or true false c = refl
 swap_or false b c = refl

@@ -1,8 +1,9 @@
 -- What is written by the prior texts is what is published, file by file.
-use Rattle.std.proofs.Common.{◌≡◌, ℕ, Bool, true, false, cond, List, [], ◌∷◌, ◌++◌, flat_map, ◌||◌, Option, Some, None, is_some, option_and_then, if◌then◌else◌, sym, refl, ap, ◌∙◌, true≢false, append-nil}
-use Rattle.std.specs.FinMap.{get, contains_key, keys, contains_key-keys}
+use Rattle.std.proofs.Common.{◌≡◌, ℕ, Bool, true, false, cond, List, [], ◌∷◌, ◌++◌, flat_map, ◌||◌, Option, Some, None, is_some, option_and_then, sym, refl, ap, ◌∙◌, true≢false, append-nil}
+use Rattle.std.specs.FinMap.{get, keys, contains_key-keys}
 use Rattle.std.specs.List.{list_any, filter}
 use Rattle.std.specs.Str.{bytes_eq}
+use Rattle.std.proofs.lemmas.Bool.{or_right}
 use Rattle.std.proofs.lemmas.Slice.Eq.{bytes_eq-Decides}
 use Rattle.text_lines.specs.declared.encoding.Encoding.{Encoding}
 use Rattle.doc_texts.specs.Texts.{Texts, text_at, path_set, paths_of, marked}
@@ -10,17 +11,13 @@ use Rattle.doc_texts.specs.Prior.{Prior, prior_text}
 use Rattle.c_session.specs.News.{IsPrior, SameBut, news, news_of}
 use Rattle.c_session.specs.Shown.{has_news, is_published, publication, publications}
 use Rattle.c_session.proofs.Differing.{no_news_itself}
-use Rattle.c_session.proofs.PathSets.{ties, tied_is, ties_itself, keys_rise, same_filtered, flat_map_alike, flat_map_tested, has_path_of_two}
+use Rattle.c_session.proofs.PathSets.{or_none, ties, tied_is, ties_itself, keys_rise, same_filtered, flat_map_alike, flat_map_tested, has_path_of_two}
 
 -- a file with news has a text before or now
 one_text : (path : List ℕ) (a b : Option (List ℕ)) → has_news path a b ≡ true → (is_some a || is_some b) ≡ true
 one_text path None None news = absurd (true≢false (sym news ∙ no_news_itself path None))
 one_text path None (Some b) news = refl
 one_text path (Some a) b news = refl
-
-or_nothing : (b : Bool) → b ≡ (b || false)
-or_nothing true = refl
-or_nothing false = refl
 
 module _ (prior : Prior) (start now : Texts) (is : IsPrior start prior now) where
   abbrev differs : List ℕ → Bool
@@ -50,7 +47,7 @@ module _ (prior : Prior) (start now : Texts) (is : IsPrior start prior now) wher
       ∙ flat_map_tested differs (publication encoding now) (keys prior)
 
   all_published : (path : List ℕ) → differs path ≡ is_published [] start now path
-  all_published path = or_nothing (differs path)
+  all_published path = or_none (differs path)
 
 pub news_published : (encoding : Encoding) (prior : Prior) (start now : Texts) → IsPrior start prior now → news encoding prior now ≡ publications [] encoding start now
 news_published encoding prior start now is =
@@ -67,26 +64,18 @@ module _ (path : List ℕ) (before after : Texts) (same : SameBut path before af
   only q true equal passes = ap (λ x. ties x path) ((bytes_eq-Decides q path).0 equal) ∙ ties_itself path
   only q false other passes =
       absurd (true≢false (sym passes ∙ ap (λ b. has_news q (text_at before q) (text_at after q) || (b || false)) other
-      ∙ sym (or_nothing (has_news q (text_at before q) (text_at after q)))
+      ∙ sym (or_none (has_news q (text_at before q) (text_at after q)))
       ∙ ap (has_news q (text_at before q)) (same q other) ∙ no_news_itself q (text_at before q)))
 
   itself : passes path ≡ true
-  itself = ap (λ b. has_news path (text_at before path) (text_at after path) || (b || false)) ((bytes_eq-Decides path path).1 refl) ∙ or_true (has_news path (text_at before path) (text_at after path))
-    where
-      or_true : (b : Bool) → (b || true) ≡ true
-      or_true true = refl
-      or_true false = refl
+  itself = ap (λ b. has_news path (text_at before path) (text_at after path) || (b || false)) ((bytes_eq-Decides path path).1 refl) ∙ or_right (has_news path (text_at before path) (text_at after path)) true refl
 
   alone : is_some (text_at after path) ≡ true → filter passes (path_set (paths_of before ++ paths_of after)) ≡ path ∷ []
   alone some =
       same_filtered passes (path_set (paths_of before ++ paths_of after)) (path ∷ []) (keys_rise (marked (paths_of before ++ paths_of after))) tt (λ q through.
       let tied : ties q path ≡ true = only q (bytes_eq q path) refl through in
-      has_path_of_two before after q ∙ ap (λ b. is_some (text_at before q) || b) (ap (λ x. is_some (text_at after x)) (tied_is q path tied) ∙ some) ∙ or_one (is_some (text_at before q)) ∙ sym (ap (λ b. b || false) tied))
+      has_path_of_two before after q ∙ ap (λ b. is_some (text_at before q) || b) (ap (λ x. is_some (text_at after x)) (tied_is q path tied) ∙ some) ∙ or_right (is_some (text_at before q)) true refl ∙ sym (ap (λ b. b || false) tied))
       ∙ ap (λ b. cond b (path ∷ []) []) itself
-    where
-      or_one : (b : Bool) → (b || true) ≡ true
-      or_one true = refl
-      or_one false = refl
 
 pub touched_published : (encoding : Encoding) (path : List ℕ) (before after : Texts) → SameBut path before after → is_some (text_at after path) ≡ true →
     publications (path ∷ []) encoding before after ≡ publication encoding after path

@@ -7,19 +7,10 @@ use Rattle.std.proofs.lemmas.Bool.{or_parts}
 use Rattle.doc_texts.specs.Texts.{Texts, text_at, paths_of}
 use Rattle.doc_texts.specs.Prior.{Prior, remembered}
 use Rattle.c_session.specs.News.{IsPrior, all_remembered}
-use Rattle.c_session.proofs.PathSets.{by_bytes, ties, tied_is, has_put, has_path}
+use Rattle.c_session.proofs.PathSets.{or_none, swap_or, by_bytes, ties, tied_is, has_put, has_path}
 
 some_is : {X : Type 0} (x y : X) → Some x ≡ Some y → x ≡ y
 some_is x y same = cc
-
-or_none : (b : Bool) → b ≡ (b || false)
-or_none true = refl
-or_none false = refl
-
-or_later : (a b c : Bool) → ((a || b) || c) ≡ (b || (a || c))
-or_later true true c = refl
-or_later true false c = refl
-or_later false b c = refl
 
 nothing : {X : Type 0} (o : Option X) → is_some o ≡ false → o ≡ None
 nothing None none = refl
@@ -60,7 +51,7 @@ module _ (t : Texts) where
 
   has_all : (prior : Prior) (paths : List (List ℕ)) (q : List ℕ) → contains_key (all_remembered prior t paths) q ≡ (contains_key prior q || list_any (ties q) paths)
   has_all prior [] q = or_none (contains_key prior q)
-  has_all prior (p ∷ paths) q = has_all (remembered prior t p) paths q ∙ ap (λ b. b || list_any (ties q) paths) (has_more prior p q) ∙ or_later (ties q p) (contains_key prior q) (list_any (ties q) paths)
+  has_all prior (p ∷ paths) q = has_all (remembered prior t p) paths q ∙ ap (λ b. b || list_any (ties q) paths) (has_more prior p q) ∙ swap_or (ties q p) (contains_key prior q) (list_any (ties q) paths)
 
   empty_holds : Holds empty
   empty_holds path text found = absurd (true≢false (ap is_some (sym found ∙ get-empty by_bytes path)))
