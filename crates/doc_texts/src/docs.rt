@@ -2,7 +2,7 @@
 ghost use Rattle.std.specs.Prelude.{◌≡◌, ◌≢◌, ◌≤◌, ◌+◌, ◌-◌, ℕ, length, Err, Some, None, option_map, IfOk, IfSome, OnOk, OnErr};
 ghost use Rattle.doc_texts.specs.Texts.{text_at, version_at, uri_at, paths_of, file_count, byte_count, texts_under, with_disk, without_disk, with_open, without_open};
 ghost use Rattle.doc_texts.specs.Docs.{is_outside, allowed, fits, loaded, opened, changed, closed, IsDone};
-ghost use Rattle.doc_texts.specs.Kept.{Counted, files_with, disk_size};
+ghost use Rattle.doc_texts.specs.Kept.{Counted, files_with, disk_size, open_size};
 ghost use Rattle.doc_texts.specs.Limits.{longest_text, most_bytes};
 ghost use Rattle.std.specs.FinMap.{get};
 
@@ -144,14 +144,12 @@ impl Docs {
         if self.is_outside(path) {
             return Err(DocError::OutsideRoot);
         }
-        let Some(document) = self.opened.get(path) else {
+        let Some(text) = self.open_text(path) else {
             return Err(DocError::NotOpen);
         };
-        let freed = document.text().len();
-        let text = edited(self.alloc, document.text(), changes, encoding)?;
-        let (_, bytes) = self.room(path, freed, text.as_str().len())?;
-        self.set_open(path, version, text, bytes);
-        Ok(())
+        let freed = text.len();
+        let text = edited(self.alloc(), text, changes, encoding)?;
+        self.set_open(path, version, text, freed)
     }
 
     /// Closes a document (LSP 3.17, textDocument/didClose): its open text is dropped. It takes no memory and costs a logarithm of
@@ -176,12 +174,9 @@ impl Docs {
         ensures text { option_map (λ text. text.now) result ≡ text_at self.now path.now }
         ensures short { IfSome result (λ text. length text.now ≤ 4194304) }
     {
-        if let Some(document) = self.opened.get(path) {
-            return Some(document.text());
-        }
-        match self.disk.get(path) {
-            Some(text) => Some(text.as_str()),
-            None => None,
+        match self.opened.get(path) {
+            Some(document) => Some(document.text()),
+            None => self.disk_text(path),
         }
     }
 
@@ -219,13 +214,24 @@ impl Docs {
         set.paths()
     }
 
+    /// A path's text on disk.
+    fn disk_text(&self, path: &Path) -> Option<&str>
+        ensures text { option_map (λ text. text.now) result ≡ get self.now.disk path.now }
+        ensures short { IfSome result (λ text. length text.now ≤ longest_text) }
+    {
+        match self.disk.get(path) {
+            Some(text) => Some(text.as_str()),
+            None => None,
+        }
+    }
+
     /// How many bytes a path's text on disk has, or 0.
     fn disk_len(&self, path: &Path) -> usize
         ensures size { result ≡ disk_size self.now path.now }
         ensures within { result ≤ byte_count self.now }
     {
-        match self.disk.get(path) {
-            Some(text) => text.as_str().len(),
+        match self.disk_text(path) {
+            Some(text) => text.len(),
             None => 0,
         }
     }
@@ -235,28 +241,23 @@ impl Docs {
         ensures files { result ≡ files_with self.now path.now }
         ensures within { result ≤ 4097 }
     {
-        if self.opened.contains_key(path) || self.disk.contains_key(path) {
+        if self.text(path).is_some() {
             return self.files;
         }
         self.files + 1
     }
 
-    /// How many files and bytes of texts there are where a path has a text and these bytes go and come, or the first limit that
-    /// this passes.
-    fn room(&self, path: &Path, freed: usize, added: usize) -> Result<(usize, usize), DocError>
-        requires freed { freed ≤ byte_count self.now }
-        requires added { added ≤ longest_text }
-        ensures { result ≡ allowed (files_with self.now path.now) (byte_count self.now - freed + added) (files_with self.now path.now, byte_count self.now - freed + added) }
+    /// The bytes of all texts.
+    fn total(&self) -> usize
+        ensures bytes { result ≡ byte_count self.now }
+        ensures within { result ≤ 67108864 }
     {
-        let files = self.files_with(path);
-        let bytes = self.bytes - freed + added;
-        if files > MOST_FILES {
-            return Err(DocError::TooManyFiles);
-        }
-        if bytes > MOST_BYTES {
-            return Err(DocError::TooMuchText);
-        }
-        Ok((files, bytes))
+        self.bytes
+    }
+
+    /// The allocator.
+    fn alloc(&self) -> Global {
+        self.alloc
     }
 
     /// Sets a path's text on disk.
@@ -264,9 +265,11 @@ impl Docs {
         requires { length text.now ≤ longest_text }
         ensures { IsDone result self.old self.new (fits (with_disk self.old path.now text.now)) }
     {
-        let (files, bytes) = self.room(path, self.disk_len(path), text.len())?;
+        let files = self.files_with(path);
+        let bytes = self.total() - self.disk_len(path) + text.len();
+        check_limits(files, bytes)?;
         let key = path.share()?;
-        let kept = KeptText::from_str(self.alloc, text)?;
+        let kept = KeptText::from_str(self.alloc(), text)?;
         self.put_disk(key, kept, files, bytes)?;
         Ok(())
     }
@@ -278,7 +281,11 @@ impl Docs {
         text: KeptText,
         files: usize,
         bytes: usize,
-    ) -> Result<(), AllocError> {
+    ) -> Result<(), AllocError>
+        requires { Counted (with_disk self.old path text) files bytes }
+        ensures ok { OnOk result (self.new ≡ with_disk self.old path text) }
+        ensures kept { OnErr result (self.new ≡ self.old) }
+    {
         self.disk.insert(path, text)?;
         self.files = files;
         self.bytes = bytes;
@@ -304,9 +311,11 @@ impl Docs {
         requires shut { get self.old.opened path.now ≡ None }
         ensures { IsDone result self.old self.new (fits (with_open self.old path.now (record { uri = uri.now; version = version; text = text.now }))) }
     {
-        let (files, bytes) = self.room(path, 0, text.len())?;
+        let files = self.files_with(path);
+        let bytes = self.total() + text.len();
+        check_limits(files, bytes)?;
         let key = path.share()?;
-        let document = OpenDoc::new(self.alloc, uri, version, text)?;
+        let document = OpenDoc::new(self.alloc(), uri, version, text)?;
         self.put_open(key, document, files, bytes)?;
         Ok(())
     }
@@ -318,23 +327,55 @@ impl Docs {
         document: OpenDoc,
         files: usize,
         bytes: usize,
-    ) -> Result<(), AllocError> {
+    ) -> Result<(), AllocError>
+        requires { Counted (with_open self.old path document) files bytes }
+        ensures ok { OnOk result (self.new ≡ with_open self.old path document) }
+        ensures kept { OnErr result (self.new ≡ self.old) }
+    {
         self.opened.insert(path, document)?;
         self.files = files;
         self.bytes = bytes;
         Ok(())
     }
 
-    /// Gives the document that is open at a path another text, with which there are so many bytes of texts.
-    fn set_open(&mut self, path: &Path, version: i32, text: KeptText, bytes: usize)
+    /// The text of the document that is open at a path.
+    fn open_text(&self, path: &Path) -> Option<&str>
+        ensures text { option_map (λ text. text.now) result ≡ option_map (λ document. document.text) (get self.now.opened path.now) }
+        ensures short { IfSome result (λ text. length text.now ≤ longest_text) }
+    {
+        match self.opened.get(path) {
+            Some(document) => Some(document.text()),
+            None => None,
+        }
+    }
+
+    /// Gives the document that is open at a path another text, in place of one of `freed` bytes.
+    fn set_open(
+        &mut self,
+        path: &Path,
+        version: i32,
+        text: KeptText,
+        freed: usize,
+    ) -> Result<(), DocError>
+        requires { open_size self.old path.now ≡ freed }
+        ensures { IfSome (get self.old.opened path.now) (λ document. IsDone result self.old self.new (fits (with_open self.old path.now (record { uri = document.uri; version = version; text = text })))) }
+    {
+        let bytes = self.total() - freed + text.as_str().len();
+        check_limits(self.files_with(path), bytes)?;
+        self.put_text(path, version, text, bytes);
+        Ok(())
+    }
+
+    /// Keeps another text of the document that is open at a path, with which there are so many bytes of texts.
+    fn put_text(&mut self, path: &Path, version: i32, text: KeptText, bytes: usize)
         requires summed { IfSome (get self.old.opened path.now) (λ document. bytes ≡ byte_count (with_open self.old path.now (record { uri = document.uri; version = version; text = text }))) }
         requires small { bytes ≤ most_bytes }
         ensures { IfSome (get self.old.opened path.now) (λ document. self.new ≡ with_open self.old path.now (record { uri = document.uri; version = version; text = text })) }
     {
         if let Some(document) = self.opened.get_mut(path) {
             document.set(version, text);
+            self.bytes = bytes;
         }
-        self.bytes = bytes;
     }
 
     /// Drops the document that is open at a path, if there is one.
@@ -349,4 +390,18 @@ impl Docs {
             self.files -= 1;
         }
     }
+}
+
+/// The first limit that so many files, or so many bytes of texts, are beyond.
+#[tactic(auto, unfolding(crate::specs::Docs::allowed))]
+fn check_limits(files: usize, bytes: usize) -> Result<(), DocError>
+    ensures { result ≡ allowed files bytes tt }
+{
+    if files > MOST_FILES {
+        return Err(DocError::TooManyFiles);
+    }
+    if bytes > MOST_BYTES {
+        return Err(DocError::TooMuchText);
+    }
+    Ok(())
 }
