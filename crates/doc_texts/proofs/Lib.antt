@@ -4,3 +4,4 @@ pub mod Edits
 pub mod Found
 pub mod Limited
 pub mod Dropped
+pub mod Meant

@@ -4,7 +4,7 @@ ghost use Rattle.doc_texts.specs.Texts.{text_at, version_at, uri_at, paths_of, f
 ghost use Rattle.doc_texts.specs.Docs.{is_outside, allowed, fits, loaded, opened, changed, closed, IsDone};
 ghost use Rattle.doc_texts.specs.Kept.{Counted, files_with, disk_size, open_size};
 ghost use Rattle.doc_texts.specs.Limits.{longest_text, most_bytes};
-ghost use Rattle.std.specs.FinMap.{get};
+ghost use Rattle.std.specs.FinMap.{get, contains_key};
 
 use crate::changes::edited;
 use crate::error::DocError;
@@ -119,7 +119,7 @@ impl Docs {
         if self.is_outside(path) {
             return Err(DocError::OutsideRoot);
         }
-        if self.opened.contains_key(path) {
+        if self.is_open(path) {
             return Err(DocError::AlreadyOpen);
         }
         if text.len() > LONGEST_TEXT {
@@ -161,7 +161,7 @@ impl Docs {
         if self.is_outside(path) {
             return Err(DocError::OutsideRoot);
         }
-        if !self.opened.contains_key(path) {
+        if !self.is_open(path) {
             return Err(DocError::NotOpen);
         }
         self.drop_open(path);
@@ -336,6 +336,13 @@ impl Docs {
         self.files = files;
         self.bytes = bytes;
         Ok(())
+    }
+
+    /// Whether a document is open at a path.
+    fn is_open(&self, path: &Path) -> bool
+        ensures { result ≡ contains_key self.now.opened path.now }
+    {
+        self.opened.contains_key(path)
     }
 
     /// The text of the document that is open at a path.
