@@ -1,9 +1,10 @@
--- What stays counted where a text goes.
-use Rattle.std.proofs.Common.{◌≡◌, ℕ, ◌+◌, ◌-◌, ◌≤◌, true, false, List, length, Option, Some, None, is_some, sym, refl, ap, ◌∙◌, subst, arith, true≢false, zero, suc}
+-- What stays counted where a text goes, or takes the place of another.
+use Rattle.std.proofs.Common.{◌≡◌, ℕ, ◌+◌, ◌-◌, ◌≤◌, true, false, List, length, Option, Some, None, is_some, sym, refl, ap, ◌∙◌, subst, arith, true≢false, cond, zero, suc}
 use Rattle.std.specs.FinMap.{get, len, empty, get-empty, empty_of_len, contains_key}
 use Rattle.doc_texts.specs.Kept.{Counted, disk_size, open_size}
-use Rattle.doc_texts.specs.Texts.{Texts, OpenText, shown, text_at, file_count, byte_count, without_disk, without_open}
-use Rattle.doc_texts.proofs.Counts.{marks, held, files_len, files_without_disk, files_without_disk_open, files_without_open, files_without_open_disk, bytes_without_disk, bytes_without_open}
+use Rattle.doc_texts.specs.Limits.{most_bytes}
+use Rattle.doc_texts.specs.Texts.{Texts, OpenText, shown, text_at, file_count, byte_count, without_disk, with_open, without_open}
+use Rattle.doc_texts.proofs.Counts.{marks, held, files_len, files_with_open, files_without_disk, files_without_disk_open, files_without_open, files_without_open_disk, bytes_without_disk, bytes_without_open}
 use Rattle.doc_texts.proofs.Found.{disk_size_is, disk_size_within, open_size_is, open_size_within}
 use Rattle.doc_texts.proofs.Maps.{by_bytes}
 
@@ -84,3 +85,14 @@ module _ (t : Texts) (p : List ℕ) (files bytes : ℕ) (k : Counted t files byt
       few = k.few;
       small = omega (arith, k.small);
     }
+
+files_again : (t : Texts) (p : List ℕ) (d e : OpenText) → Some d ≡ get t.opened p → file_count (with_open t p e) ≡ file_count t
+files_again t p d e found = files_with_open t p e ∙ ap (λ b. cond b (file_count t) (file_count t + 1)) (is_open t p d found)
+
+pub open_again : (t : Texts) (p : List ℕ) (files bytes : ℕ) → Counted t files bytes → (d e : OpenText) → Some d ≡ get t.opened p → (n : ℕ) → n ≡ byte_count (with_open t p e) → n ≤ most_bytes → Counted (with_open t p e) files n
+open_again t p files bytes k d e found n summed small = record {
+  counted = k.counted ∙ sym (files_again t p d e found);
+  summed = summed;
+  few = k.few;
+  small = small;
+}

@@ -1,5 +1,5 @@
 -- Texts within the limits, and beyond them.
-use Rattle.std.proofs.Common.{◌≡◌, ◌≢◌, ℕ, ◌+◌, ◌-◌, ◌≤◌, Bool, true, false, cond, List, length, Option, Some, None, Result, Ok, Err, nat_lt, sym, refl, ap, ◌∙◌, subst, arith, true≢false}
+use Rattle.std.proofs.Common.{◌≡◌, ◌≢◌, ℕ, ◌+◌, ◌-◌, ◌≤◌, ℤ, Bool, true, false, cond, List, length, Option, Some, None, IfSome, Result, Ok, Err, nat_lt, sym, refl, ap, ◌∙◌, subst, arith, true≢false}
 use Rattle.std.proofs.lemmas.Bool.{ltb-false, le-ltb}
 use Rattle.doc_texts.specs.declared.error.DocError.{DocError}
 use Rattle.doc_texts.specs.declared.error.DocError.TheVariants.{TooManyFiles, TooMuchText, NoMemory}
@@ -25,6 +25,10 @@ both_false true c x y is = absurd (cc is)
 both_false false true x y is = absurd (cc is)
 both_false false false x y is = (refl, refl)
 
+pub small_enough : (files bytes : ℕ) → ◌≡◌ {A = Result (Unit {0}) DocError} (Ok tt) (allowed files bytes tt) → bytes ≤ most_bytes
+unfolding allowed
+small_enough files bytes is = ltb-false most_bytes bytes (both_false (nat_lt most_files files) (nat_lt most_bytes bytes) tt tt is).1
+
 module _ (files bytes : ℕ) (t : Texts) (counted : files ≡ file_count t) (summed : bytes ≡ byte_count t) where
   pub beyond : (e : DocError) → ◌≡◌ {A = Result (Unit {0}) DocError} (Err e) (allowed files bytes tt) → fits t ≡ Err e
   unfolding allowed
@@ -35,6 +39,23 @@ module _ (files bytes : ℕ) (t : Texts) (counted : files ≡ file_count t) (sum
   within_limits is =
       let both = both_false (nat_lt most_files files) (nat_lt most_bytes bytes) tt tt is in
       record { counted = counted; summed = summed; few = ltb-false most_files files both.0; small = ltb-false most_bytes bytes both.1 }
+
+pub if_some_at : {X : Type 0} (r s : Option X) (P : X → Type 0) → r ≡ s → IfSome s P → IfSome r P
+if_some_at r s P same h = subst (λ o. IfSome o P) (sym same) h
+
+pub if_some_from : {X : Type 0} (r : Option X) (x : X) (P : X → Type 0) → r ≡ Some x → IfSome r P → P x
+if_some_from r x P same h = subst (λ o. IfSome o P) same h
+
+pub if_some_more : {X : Type 0} (r : Option X) {P Q : X → Type 0} → ((x : X) → P x → Q x) → IfSome r P → IfSome r Q
+if_some_more None more h = tt
+if_some_more (Some x) more h = more x h
+
+pub if_some_all : {X : Type 0} (r : Option X) {P : X → Type 0} → ((x : X) → P x) → IfSome r P
+if_some_all None all = tt
+if_some_all (Some x) all = all x
+
+pub same_version : (uri text : List ℕ) (v w : ℤ) → v ≡ w → ◌≡◌ {A = OpenText} (record { uri = uri; version = v; text = text }) (record { uri = uri; version = w; text = text })
+same_version uri text v w same = λ i. record { uri = uri; version = same i; text = text }
 
 pub counted_at : {files bytes : ℕ} (t u : Texts) → t ≡ u → Counted t files bytes → Counted u files bytes
 counted_at {files} {bytes} t u same k = subst (λ t. Counted t files bytes) same k

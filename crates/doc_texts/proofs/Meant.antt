@@ -1,5 +1,5 @@
 -- What each call means, by the test that decides.
-use Rattle.std.proofs.Common.{◌≡◌, ◌≢◌, ℕ, ◌<◌, ◌≤◌, ℤ, true, false, List, length, Option, Some, None, Result, Ok, Err, nat_lt, IsUtf8, sym, refl, ap, ◌∙◌, subst}
+use Rattle.std.proofs.Common.{◌≡◌, ◌≢◌, ℕ, ◌<◌, ◌≤◌, ℤ, true, false, List, length, Option, Some, None, option_map, Result, Ok, Err, nat_lt, IsUtf8, sym, refl, ap, ◌∙◌, subst}
 use Rattle.std.specs.FinMap.{get, contains_key}
 use Rattle.std.specs.Str.{is_utf8}
 use Rattle.std.proofs.lemmas.Bool.{false_from_ne_true, le-ltb}
@@ -15,6 +15,18 @@ use Rattle.doc_texts.proofs.Edits.{is_lt}
 
 no_utf8 : (bytes : List ℕ) → ¬ (IsUtf8 bytes) → is_utf8 bytes ≡ false
 no_utf8 bytes h = false_from_ne_true (is_utf8 bytes) (λ is. h (IsUtf8-from_is_utf8 bytes is))
+
+pub same_err : {X E : Type 0} (a b : E) → ◌≡◌ {A = Result X E} (Err a) (Err b) → a ≡ b
+same_err a b is = cc is
+
+-- the document with a text
+pub document_with : (r : Option OpenText) (x : List ℕ) → Some x ≡ option_map (λ document. document.text) r → (d : OpenText) × (r ≡ Some d) × (x ≡ d.text)
+document_with None x is = absurd (cc is)
+document_with (Some d) x is = (d, refl, cc is)
+
+pub no_document : (r : Option OpenText) → None ≡ option_map (λ document. document.text) r → r ≡ None
+no_document None is = refl
+no_document (Some d) is = absurd (cc is)
 
 -- the same answer to what is meant as well
 pub done_at : {X : Type 0} (r : Result X DocError) (old new : Texts) {m m' : Result Texts DocError} → m' ≡ m → IsDone r old new m → IsDone r old new m'
@@ -79,9 +91,9 @@ module _ (t : Texts) (p : List ℕ) where
       unfolding changed
       change_refused e refused = rw (inside, found, ← refused) refl
 
-      pub change_text : (text : List ℕ) → Ok text ≡ all_edited d.text changes enc → changed t p version changes enc ≡ fits (with_open t p (record { uri = d.uri; version = version; text = text }))
+      pub change_text : (text : List ℕ) → Ok text ≡ all_edited d.text changes enc → (w : ℤ) → w ≡ version → changed t p version changes enc ≡ fits (with_open t p (record { uri = d.uri; version = w; text = text }))
       unfolding changed
-      change_text text made = rw (inside, found, ← made) refl
+      change_text text made w same = rw (inside, found, ← made, same) refl
 
   -- ---- closed
 

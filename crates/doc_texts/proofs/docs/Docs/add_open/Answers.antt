@@ -1,12 +1,9 @@
-use Rattle.std.proofs.Common.{◌≡◌, ℕ, ℤ, List, to_z-of_z, w32, refl, sym, ap, ap₂, ◌∙◌, length, Ok}
+use Rattle.std.proofs.Common.{to_z-of_z, w32, refl, sym, ap, ap₂, ◌∙◌, length, Ok}
 use Rattle.std.proofs.lemmas.Result.{err_from_is_err_and}
 use Rattle.doc_texts.specs.Texts.{OpenText, with_open}
 use Rattle.doc_texts.proofs.Counts.{files_with_open}
-use Rattle.doc_texts.proofs.Limited.{counted_at, beyond, within_limits, taken, bytes_add_open}
+use Rattle.doc_texts.proofs.Limited.{same_version, counted_at, beyond, within_limits, taken, bytes_add_open}
 use Rattle.doc_texts.proofs.docs.Docs.add_open.Goals as goal
-
-same_version : (uri text : List ℕ) (v w : ℤ) → v ≡ w → ◌≡◌ {A = OpenText} (record { uri = uri; version = v; text = text }) (record { uri = uri; version = w; text = text })
-same_version uri text v w same = λ i. record { uri = uri; version = same i; text = text }
 
 pub returns-in_err-check_limits : goal.returns-in_err-check_limits
 returns-in_err-check_limits c =
