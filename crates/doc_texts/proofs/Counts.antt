@@ -65,6 +65,15 @@ same_units (Some u) (Some v) e = refl
 pub same_marks : (s u : PathSet) → ((q : List ℕ) → contains_key s q ≡ contains_key u q) → s ≡ u
 same_marks s u h = same_at_each s u (λ q. same_units (get s q) (get u q) (h q))
 
+-- paths that are added in two parts
+pub add_append : (set : PathSet) (paths more : List (List ℕ)) → add_all (add_all set paths) more ≡ add_all set (paths ++ more)
+add_append set [] more = refl
+add_append set (p ∷ paths) more = add_append (insert set p tt) paths more
+
+pub paths_listed : (t : Texts) (none some all : PathSet) → none ≡ empty → some ≡ add_all none (keys t.disk) → all ≡ add_all some (keys t.opened) → keys all ≡ paths_of t
+unfolding paths_of
+paths_listed t none some all a b c = ap keys (c ∙ ap (λ set. add_all set (keys t.opened)) (b ∙ ap (λ set. add_all set (keys t.disk)) a) ∙ add_append empty (keys t.disk) (keys t.opened))
+
 pub files_len : (t : Texts) → file_count t ≡ len (marks t)
 unfolding file_count paths_of
 files_len t = length-map (entries (marks t)) (λ e. e.0) ∙ sym (len-entries (marks t))

@@ -3,7 +3,7 @@ use Rattle.std.proofs.Common.{◌≡◌, ℕ, ◌+◌, Bool, true, false, cond, 
 use Rattle.std.specs.BTreeMap as tree
 use Rattle.std.specs.BTreeMap.{BTreeMap, insert_entry, is_at}
 use Rattle.std.specs.Cmp.Lexicographic.{slice_cmp, nat_list_cmp_total}
-use Rattle.std.specs.FinMap.{FinMap, get, insert, remove, keys, values, entries, from_entries, find, put, is_sorted, entries_sorted, entries-insert, get-entries, get-insert, get-remove, get_tied, get-from_entries, same_map, slice_cmp-IsAntisymmetric, nat_cmp-IsAntisymmetric, IsAntisymmetric}
+use Rattle.std.specs.FinMap.{FinMap, empty, len-entries, len-empty, get, insert, remove, keys, values, entries, from_entries, find, put, is_sorted, entries_sorted, entries-insert, get-entries, get-insert, get-remove, get_tied, get-from_entries, same_map, slice_cmp-IsAntisymmetric, nat_cmp-IsAntisymmetric, IsAntisymmetric}
 use Rattle.std.specs.FinMap.Entries.{below_all, by_order}
 use Rattle.std.specs.List.{AllByRecursion}
 use Rattle.std.specs.List.Sorted.{IsStrictlySortedBy}
@@ -48,6 +48,10 @@ first false b p = p
 second : (a b : Bool) → T (a && b) → T b
 second true b p = p
 second false b p = absurd p
+
+none_there : {A : Type 0} (es : List A) → length es ≡ 0 → es ≡ []
+none_there [] e = refl
+none_there (x ∷ es) e = absurd (omega arith)
 
 -- ---- a tree's entries as a finite map
 
@@ -128,6 +132,21 @@ module _ {X : Type 0} where
   -- the keys rise
   pub keys_rise : (m : TextMap X) → IsStrictlySortedBy by_bytes (keys m)
   keys_rise m = sorted_is (entries m) (entries_sorted m)
+
+  -- ---- a tree's entries are the map's
+
+  put_first : (e : List ℕ × X) (es : List (List ℕ × X)) → AllByRecursion (λ y. by_bytes e.0 y ≡ Less) (keys_of es) → put by_bytes e.0 e.1 es ≡ e ∷ es
+  put_first e [] h = refl
+  put_first e (f ∷ es) h = ap (λ o. by_order o (e ∷ f ∷ es) ((f.0, e.1) ∷ es) (f ∷ put by_bytes e.0 e.1 es)) h.0
+
+  entries_seen : (es : List (List ℕ × X)) → IsStrictlySortedBy by_bytes (keys_of es) → entries (from_entries {R = by_bytes} es) ≡ es
+  unfolding IsStrictlySortedBy
+  entries_seen [] s = none_there (entries (empty {X = X} {R = by_bytes})) (sym (len-entries (empty {X = X} {R = by_bytes})) ∙ len-empty by_bytes X)
+  entries_seen (e ∷ es) s = entries-insert nat_list_cmp_total (from_entries es) e.0 e.1 ∙ ap (put by_bytes e.0 e.1) (entries_seen es s.1) ∙ put_first e es s.0
+
+  -- the keys of a tree
+  pub keys_seen : (m : BTreeMap (List ℕ) X) → tree.IsOrdered by_bytes m → keys (from_entries {R = by_bytes} m.entries) ≡ tree.keys m
+  keys_seen m s = ap (λ es. map (λ e. e.0) es) (entries_seen m.entries s)
 
   module _ (f : X → ℕ) where
     -- the weight of what stands at a key, or 0

@@ -1,10 +1,10 @@
 // The texts that stand, and the calls that change them.
 ghost use Rattle.std.specs.Prelude.{◌≡◌, ◌≢◌, ◌≤◌, ◌+◌, ◌-◌, ℕ, length, Err, Some, None, option_map, IfOk, IfSome, OnOk, OnErr};
-ghost use Rattle.doc_texts.specs.Texts.{text_at, version_at, uri_at, paths_of, file_count, byte_count, texts_under, with_disk, without_disk, with_open, without_open};
+ghost use Rattle.doc_texts.specs.Texts.{text_at, version_at, uri_at, paths_of, file_count, byte_count, texts_under, add_all, with_disk, without_disk, with_open, without_open};
 ghost use Rattle.doc_texts.specs.Docs.{is_outside, allowed, fits, loaded, opened, changed, closed, IsDone};
 ghost use Rattle.doc_texts.specs.Kept.{Counted, files_with, disk_size, open_size};
 ghost use Rattle.doc_texts.specs.Limits.{longest_text, most_bytes};
-ghost use Rattle.std.specs.FinMap.{get, contains_key};
+ghost use Rattle.std.specs.FinMap.{get, contains_key, keys};
 
 use crate::changes::edited;
 use crate::error::DocError;
@@ -204,14 +204,30 @@ impl Docs {
     pub fn paths(&self) -> Result<Vec<Path>, AllocError>
         ensures { IfOk result (λ paths. paths.items ≡ paths_of self.now) }
     {
-        let mut set = PathSet::new(self.alloc);
+        let mut set = PathSet::new(self.alloc());
+        self.list_disk(&mut set)?;
+        self.list_open(&mut set)?;
+        set.paths()
+    }
+
+    /// Adds the paths that have a text on disk.
+    fn list_disk(&self, set: &mut PathSet) -> Result<(), AllocError>
+        ensures { OnOk result (set.new ≡ add_all set.old (keys self.now.disk)) }
+    {
         for path in self.disk.keys() {
             set.insert(path.share()?)?;
         }
+        Ok(())
+    }
+
+    /// Adds the paths at which a document is open.
+    fn list_open(&self, set: &mut PathSet) -> Result<(), AllocError>
+        ensures { OnOk result (set.new ≡ add_all set.old (keys self.now.opened)) }
+    {
         for path in self.opened.keys() {
             set.insert(path.share()?)?;
         }
-        set.paths()
+        Ok(())
     }
 
     /// A path's text on disk.
