@@ -1,13 +1,13 @@
 -- How many files and bytes of texts there are after a change.
-use Rattle.std.proofs.Common.{◌≡◌, ◌≢◌, ℕ, ◌+◌, ◌-◌, ◌≤◌, Bool, true, false, cond, not, ◌&&◌, ◌||◌, List, [], ◌∷◌, ◌++◌, map, length, Option, Some, None, option_map, unwrap_or, sum_by, is_some, if◌then◌else◌, sym, refl, ap, ◌∙◌, subst, arith, true≢false}
+use Rattle.std.proofs.Common.{◌≡◌, ℕ, ◌+◌, ◌-◌, Bool, true, false, cond, not, ◌&&◌, ◌||◌, List, [], ◌∷◌, ◌++◌, map, length, Option, Some, None, sum_by, is_some, sym, refl, ap, ◌∙◌, arith, true≢false}
 use Rattle.std.specs.Cmp.Lexicographic.{nat_list_cmp_total}
-use Rattle.std.specs.FinMap.{FinMap, get, contains_key, insert, remove, keys, values, len, entries, empty, get-empty, contains_key-keys, len-entries, len-empty, len-insert, len-remove}
+use Rattle.std.specs.FinMap.{get, contains_key, insert, remove, keys, len, entries, empty, get-empty, contains_key-keys, len-entries, len-empty, len-insert, len-remove}
 use Rattle.std.specs.List.{list_any}
 use Rattle.std.proofs.lemmas.List.{length-map}
 use Rattle.std.proofs.lemmas.List.Folds.{list_any-append}
 use Rattle.doc_texts.specs.Texts.{PathSet, Texts, OpenText, texts_under, add_all, shown, text_at, marked, paths_of, file_count, byte_count, with_disk, without_disk, with_open, without_open}
 use Rattle.doc_texts.specs.Kept.{Counted, files_with, disk_size, open_size}
-use Rattle.doc_texts.proofs.Maps.{by_bytes, ties, ties_itself, at_tied, same_at_each, get_put, get_taken, sum_put, sum_taken}
+use Rattle.doc_texts.proofs.Maps.{by_bytes, ties, at_tied, same_at_each, get_put, get_taken, sum_put, sum_taken}
 
 -- ---- the set of paths that have a text
 

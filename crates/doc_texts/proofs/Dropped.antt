@@ -1,7 +1,7 @@
 -- What stays counted where a text goes, or takes the place of another.
-use Rattle.std.proofs.Common.{◌≡◌, ℕ, ◌+◌, ◌-◌, ◌≤◌, true, false, List, length, Option, Some, None, is_some, sym, refl, ap, ◌∙◌, subst, arith, true≢false, cond, zero, suc}
-use Rattle.std.specs.FinMap.{get, len, empty, get-empty, empty_of_len, contains_key}
-use Rattle.doc_texts.specs.Kept.{Counted, disk_size, open_size}
+use Rattle.std.proofs.Common.{◌≡◌, ℕ, ◌+◌, ◌-◌, ◌≤◌, true, false, List, length, Option, Some, None, is_some, sym, refl, ap, ◌∙◌, arith, true≢false, cond, zero, suc}
+use Rattle.std.specs.FinMap.{get, get-empty, empty_of_len, contains_key}
+use Rattle.doc_texts.specs.Kept.{Counted}
 use Rattle.doc_texts.specs.Limits.{most_bytes}
 use Rattle.doc_texts.specs.Texts.{Texts, OpenText, shown, text_at, file_count, byte_count, without_disk, with_open, without_open}
 use Rattle.doc_texts.proofs.Counts.{marks, held, files_len, files_with_open, files_without_disk, files_without_disk_open, files_without_open, files_without_open_disk, bytes_without_disk, bytes_without_open}

@@ -5,3 +5,5 @@ pub mod Found
 pub mod Limited
 pub mod Dropped
 pub mod Meant
+pub mod Remembered
+pub mod Followed

@@ -1,14 +1,14 @@
 -- Texts within the limits, and beyond them.
-use Rattle.std.proofs.Common.{◌≡◌, ◌≢◌, ℕ, ◌+◌, ◌-◌, ◌≤◌, ℤ, Bool, true, false, cond, List, length, Option, Some, None, IfSome, Result, Ok, Err, nat_lt, sym, refl, ap, ◌∙◌, subst, arith, true≢false}
+use Rattle.std.proofs.Common.{◌≡◌, ℕ, ◌+◌, ◌-◌, ◌≤◌, ℤ, Bool, true, false, cond, List, length, Option, Some, None, IfSome, Result, Ok, Err, nat_lt, sym, refl, ◌∙◌, subst, arith}
 use Rattle.std.proofs.lemmas.Bool.{ltb-false, le-ltb}
 use Rattle.doc_texts.specs.declared.error.DocError.{DocError}
-use Rattle.doc_texts.specs.declared.error.DocError.TheVariants.{TooManyFiles, TooMuchText, NoMemory}
+use Rattle.doc_texts.specs.declared.error.DocError.TheVariants.{TooManyFiles, TooMuchText}
 use Rattle.std.specs.FinMap.{get}
-use Rattle.doc_texts.specs.Docs.{allowed, fits, IsDone}
-use Rattle.doc_texts.specs.Kept.{Counted, files_with, disk_size, open_size}
+use Rattle.doc_texts.specs.Docs.{allowed, fits}
+use Rattle.doc_texts.specs.Kept.{Counted, disk_size, open_size}
 use Rattle.doc_texts.specs.Limits.{most_files, most_bytes}
 use Rattle.doc_texts.specs.Texts.{Texts, OpenText, file_count, byte_count, with_disk, with_open}
-use Rattle.doc_texts.proofs.Counts.{files_with_disk, files_with_open, bytes_with_disk, bytes_with_open}
+use Rattle.doc_texts.proofs.Counts.{bytes_with_disk, bytes_with_open}
 use Rattle.doc_texts.proofs.Found.{disk_size_within, open_size_within, open_size_is}
 
 abbrev chain : {X : Type 0} → Bool → Bool → X → Result X DocError

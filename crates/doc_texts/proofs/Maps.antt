@@ -1,15 +1,14 @@
 -- Finite maps from texts: those of a tree's entries, and sums over their values.
-use Rattle.std.proofs.Common.{◌≡◌, ℕ, ◌+◌, Bool, true, false, cond, not, T, List, [], ◌∷◌, map, length, ◌&&◌, Option, Some, None, option_map, unwrap_or, sum_by, is_some, is_eq, is_lt, nat_cmp, Ordering, Less, Equal, Greater, sym, refl, ap, ◌∙◌, subst, arith, true≢false}
+use Rattle.std.proofs.Common.{◌≡◌, ℕ, ◌+◌, Bool, true, false, cond, T, List, [], ◌∷◌, map, length, ◌&&◌, Option, Some, None, option_map, unwrap_or, sum_by, is_eq, is_lt, nat_cmp, Ordering, Less, Equal, Greater, sym, refl, ap, ◌∙◌, arith, true≢false}
 use Rattle.std.specs.BTreeMap as tree
 use Rattle.std.specs.BTreeMap.{BTreeMap, insert_entry, is_at}
 use Rattle.std.specs.Cmp.Lexicographic.{slice_cmp, nat_list_cmp_total}
-use Rattle.std.specs.FinMap.{FinMap, empty, len-entries, len-empty, get, insert, remove, keys, values, entries, from_entries, find, put, is_sorted, entries_sorted, entries-insert, get-entries, get-insert, get-remove, get_tied, get-from_entries, same_map, slice_cmp-IsAntisymmetric, nat_cmp-IsAntisymmetric, IsAntisymmetric}
+use Rattle.std.specs.FinMap.{empty, len-entries, len-empty, get, insert, remove, keys, values, entries, from_entries, find, put, is_sorted, entries_sorted, entries-insert, get-entries, get-insert, get-remove, get_tied, get-from_entries, same_map, slice_cmp-IsAntisymmetric, nat_cmp-IsAntisymmetric, IsAntisymmetric}
 use Rattle.std.specs.FinMap.Entries.{below_all, by_order}
 use Rattle.std.specs.List.{AllByRecursion}
 use Rattle.std.specs.List.Sorted.{IsStrictlySortedBy}
 use Rattle.std.specs.Map.{lookup, keys_of, values_of}
 use Rattle.std.specs.Ordering.{eq_by_cmp, match_ordering}
-use Rattle.std.proofs.lemmas.Bool.{and_parts}
 use Rattle.std.proofs.lemmas.Cmp.{tied_itself, eq_by_cmp_equiv}
 use Rattle.std.proofs.lemmas.Map.Entries.{sum_by-insert_entry}
 use Rattle.doc_texts.specs.Texts.{TextMap}
@@ -35,6 +34,9 @@ equal : (o : Ordering) → is_eq o ≡ true → o ≡ Equal
 equal Less e = absurd (true≢false (sym e))
 equal Equal e = refl
 equal Greater e = absurd (true≢false (sym e))
+
+pub same_key : (q k : List ℕ) → ties q k ≡ true → q ≡ k
+same_key q k tie = apart q k (equal _ tie)
 
 less : (o : Ordering) → T (is_lt o) → o ≡ Less
 less Less p = refl

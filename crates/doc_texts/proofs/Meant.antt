@@ -1,5 +1,5 @@
 -- What each call means, by the test that decides.
-use Rattle.std.proofs.Common.{◌≡◌, ◌≢◌, ℕ, ◌<◌, ◌≤◌, ℤ, true, false, List, length, Option, Some, None, option_map, Result, Ok, Err, nat_lt, IsUtf8, sym, refl, ap, ◌∙◌, subst}
+use Rattle.std.proofs.Common.{◌≡◌, ℕ, ◌<◌, ◌≤◌, ℤ, true, false, List, length, Option, Some, None, option_map, Result, Ok, Err, IsUtf8, sym, refl, subst}
 use Rattle.std.specs.FinMap.{get, contains_key}
 use Rattle.std.specs.Str.{is_utf8}
 use Rattle.std.proofs.lemmas.Bool.{false_from_ne_true, le-ltb}
@@ -7,7 +7,7 @@ use Rattle.std.proofs.lemmas.Str.{IsUtf8-from_is_utf8, is_utf8-from_IsUtf8}
 use Rattle.text_lines.specs.declared.edit.Change.{Change}
 use Rattle.text_lines.specs.declared.encoding.Encoding.{Encoding}
 use Rattle.doc_texts.specs.declared.error.DocError.{DocError}
-use Rattle.doc_texts.specs.declared.error.DocError.TheVariants.{AlreadyOpen, NotOpen, TooLong, OutsideRoot, NotText, NoMemory}
+use Rattle.doc_texts.specs.declared.error.DocError.TheVariants.{AlreadyOpen, NotOpen, TooLong, OutsideRoot, NotText}
 use Rattle.doc_texts.specs.Docs.{is_outside, fits, with_bytes, loaded, opened, all_edited, changed, closed, IsDone}
 use Rattle.doc_texts.specs.Limits.{longest_text}
 use Rattle.doc_texts.specs.Texts.{Texts, OpenText, with_disk, without_disk, with_open, without_open}

@@ -1,6 +1,7 @@
 // The texts that some paths had at an earlier moment.
 ghost use Rattle.std.specs.Prelude.{◌≡◌, ◌≤◌, length, option_map, OnOk, OnErr, IfOk, IfSome};
 ghost use Rattle.std.specs.FinMap.{empty, keys};
+ghost use Rattle.doc_texts.specs.Limits.{longest_text};
 ghost use Rattle.doc_texts.specs.Texts.{text_at};
 ghost use Rattle.doc_texts.specs.Prior.{remembered, prior_text};
 
@@ -73,8 +74,8 @@ impl PriorTexts {
         ensures short { IfSome result (λ text. length text.now ≤ 4194304) }
     {
         match self.texts.get(path) {
-            Some(Some(text)) => Some(text.as_str()),
-            _ => None,
+            Some(kept) => lent(kept),
+            None => None,
         }
     }
 }
@@ -86,5 +87,16 @@ fn copy_of(alloc: Global, docs: &Docs, path: &Path) -> Result<Option<KeptText>, 
     match docs.text(path) {
         Some(text) => Ok(Some(KeptText::from_str(alloc, text)?)),
         None => Ok(None),
+    }
+}
+
+/// The text that is kept, if there is one.
+fn lent(kept: &Option<KeptText>) -> Option<&str>
+    ensures text { option_map (λ text. text.now) result ≡ kept.now }
+    ensures short { IfSome result (λ text. length text.now ≤ longest_text) }
+{
+    match kept {
+        Some(text) => Some(text.as_str()),
+        None => None,
     }
 }

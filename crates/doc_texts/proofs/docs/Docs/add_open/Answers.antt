@@ -1,4 +1,4 @@
-use Rattle.std.proofs.Common.{to_z-of_z, w32, refl, sym, ap, ap₂, ◌∙◌, length, Ok}
+use Rattle.std.proofs.Common.{to_z-of_z, w32, refl, sym, ap, ap₂, ◌∙◌, Ok}
 use Rattle.std.proofs.lemmas.Result.{err_from_is_err_and}
 use Rattle.doc_texts.specs.Texts.{OpenText, with_open}
 use Rattle.doc_texts.proofs.Counts.{files_with_open}

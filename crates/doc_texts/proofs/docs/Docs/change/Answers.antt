@@ -1,8 +1,7 @@
-use Rattle.std.proofs.Common.{refl, sym, ap, ◌∙◌, option_map, length, w32, to_z-of_z}
+use Rattle.std.proofs.Common.{refl, sym, ap, ◌∙◌, length, w32, to_z-of_z}
 use Rattle.std.specs.FinMap.{get}
 use Rattle.std.proofs.lemmas.Result.{err_from_is_err_and}
 use Rattle.doc_texts.specs.Docs.{all_edited}
-use Rattle.doc_texts.proofs.Dropped.{none_is}
 use Rattle.doc_texts.proofs.Edits.{ok_no_err}
 use Rattle.doc_texts.proofs.Found.{open_size_is}
 use Rattle.doc_texts.proofs.Limited.{if_some_from}

@@ -1,4 +1,4 @@
-use Rattle.std.proofs.Common.{Some, None, length, ap, sym, ◌∙◌, ◌≤◌, subst}
+use Rattle.std.proofs.Common.{Some, None, sym, ◌≤◌, subst}
 use Rattle.doc_texts.specs.Texts.{byte_count}
 use Rattle.doc_texts.proofs.Found.{disk_size_is, disk_size_within}
 use Rattle.doc_texts.proofs.docs.Docs.disk_len.Goals as goal

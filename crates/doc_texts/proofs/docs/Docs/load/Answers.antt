@@ -1,4 +1,4 @@
-use Rattle.std.proofs.Common.{arith, ◌<◌, ◌≤◌, length, subst, sym, refl, ap, ◌∙◌, Ok, Some, option_map}
+use Rattle.std.proofs.Common.{arith, ◌<◌, ◌≤◌, length, subst, sym, refl, ap, ◌∙◌, Ok, option_map}
 use Rattle.doc_texts.specs.Docs.{loaded, fits}
 use Rattle.doc_texts.specs.Limits.{longest_text}
 use Rattle.doc_texts.specs.Texts.{with_disk}

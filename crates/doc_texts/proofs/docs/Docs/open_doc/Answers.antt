@@ -1,4 +1,4 @@
-use Rattle.std.proofs.Common.{sym, refl, ap, ◌∙◌, arith, w32, to_z-of_z}
+use Rattle.std.proofs.Common.{sym, refl, arith, w32, to_z-of_z}
 use Rattle.doc_texts.proofs.Dropped.{none_is}
 use Rattle.doc_texts.proofs.Meant.{done_at, open_outside, open_open, open_long, open_text}
 use Rattle.doc_texts.proofs.docs.Docs.open_doc.Goals as goal

@@ -1,5 +1,5 @@
-use Rattle.std.proofs.Common.{Some, None, is_some, refl, sym, ap, ◌∙◌, w32, to_z-of_z}
-use Rattle.doc_texts.specs.Texts.{OpenText, byte_count, with_open}
+use Rattle.std.proofs.Common.{Some, None, is_some, sym, ap, ◌∙◌, w32, to_z-of_z}
+use Rattle.doc_texts.specs.Texts.{with_open}
 use Rattle.doc_texts.proofs.Found.{open_is, open_put}
 use Rattle.doc_texts.proofs.Dropped.{open_again}
 use Rattle.doc_texts.proofs.Limited.{same_version, counted_at, if_some_at, if_some_from}

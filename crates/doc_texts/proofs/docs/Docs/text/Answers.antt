@@ -1,4 +1,4 @@
-use Rattle.std.proofs.Common.{Some, None, option_map, ap, sym, ◌∙◌}
+use Rattle.std.proofs.Common.{Some, option_map, ap, sym, ◌∙◌}
 use Rattle.doc_texts.proofs.Found.{text_open, text_shut}
 use Rattle.doc_texts.proofs.docs.Docs.text.Goals as goal
 
