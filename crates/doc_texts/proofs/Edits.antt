@@ -1,12 +1,10 @@
 -- One change of a text, and those that follow it.
-use Rattle.std.proofs.Common.{◌≡◌, ℕ, ◌<◌, ◌≤◌, Bool, true, false, cond, List, ◌∷◌, length, Option, Some, None, Result, Ok, Err, nat_lt, refl, ap, ◌∙◌, arith}
+use Rattle.std.proofs.Common.{◌≡◌, ℕ, ◌<◌, true, false, cond, List, ◌∷◌, length, Option, Some, None, Ok, Err, nat_lt, refl, ap, ◌∙◌, arith}
 use Rattle.std.proofs.lemmas.Bool.{le-ltb, lt-ltb}
 use Rattle.text_lines.specs.declared.edit.Change.{Change}
 use Rattle.text_lines.specs.declared.encoding.Encoding.{Encoding}
 use Rattle.text_lines.specs.declared.pos.Pos.{Pos}
 use Rattle.text_lines.specs.Edits.{edited, EndsBefore, IsReversed}
-use Rattle.text_lines.specs.Positions.{offset_of}
-use Rattle.doc_texts.specs.declared.error.DocError.{DocError}
 use Rattle.doc_texts.specs.declared.error.DocError.TheVariants.{Reversed, TooLong}
 use Rattle.doc_texts.specs.Docs.{ends_before, all_edited}
 use Rattle.doc_texts.specs.Limits.{longest_text}

@@ -1,2 +1,9 @@
+pub mod Maps
+pub mod Counts
 pub mod Edits
-pub mod Stub
+pub mod Found
+pub mod Limited
+pub mod Dropped
+pub mod Meant
+pub mod Remembered
+pub mod Followed

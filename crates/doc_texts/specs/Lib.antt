@@ -2,3 +2,4 @@ pub mod Limits
 pub mod Texts
 pub mod Prior
 pub mod Docs
+pub mod Kept

@@ -1,5 +1,5 @@
 -- The texts that some paths had at an earlier moment.
-use Rattle.std.specs.Prelude.{ℕ, List, Option, Some, None, option_and_then, if◌then◌else◌}
+use Rattle.std.specs.Prelude.{ℕ, List, Option, option_and_then, if◌then◌else◌}
 use Rattle.std.specs.FinMap.{get, insert, contains_key}
 use Rattle.doc_texts.specs.Texts.{TextMap, Texts, text_at}
 

@@ -1,9 +1,10 @@
 // The texts that stand, and the calls that change them.
 ghost use Rattle.std.specs.Prelude.{◌≡◌, ◌≢◌, ◌≤◌, ◌+◌, ◌-◌, ℕ, length, Err, Some, None, option_map, IfOk, IfSome, OnOk, OnErr};
-ghost use Rattle.doc_texts.specs.Texts.{text_at, version_at, uri_at, paths_of, file_count, byte_count, texts_under, with_disk, without_disk, with_open, without_open};
+ghost use Rattle.doc_texts.specs.Texts.{text_at, version_at, uri_at, paths_of, file_count, byte_count, texts_under, add_all, with_disk, without_disk, with_open, without_open};
 ghost use Rattle.doc_texts.specs.Docs.{is_outside, allowed, fits, loaded, opened, changed, closed, IsDone};
+ghost use Rattle.doc_texts.specs.Kept.{Counted, files_with, disk_size, open_size};
 ghost use Rattle.doc_texts.specs.Limits.{longest_text, most_bytes};
-ghost use Rattle.std.specs.FinMap.{get};
+ghost use Rattle.std.specs.FinMap.{get, contains_key, keys};
 
 use crate::changes::edited;
 use crate::error::DocError;
@@ -27,16 +28,26 @@ const MOST_BYTES: usize = 67_108_864;
 pub struct Docs {
     alloc: Global,
     root: Option<Path>,
+    disk: BTreeMap<Path, KeptText>,
+    opened: BTreeMap<Path, OpenDoc>,
+    /// How many paths have a text.
+    files: usize,
+    /// The bytes of all texts.
+    bytes: usize,
 }
 
 impl Model for Docs {
-    ghost use Rattle.doc_texts.specs.Texts.{Texts, texts_code, texts_under};
+    ghost use Rattle.doc_texts.specs.Texts.{Texts, texts_code};
 
     ghost Value = { Texts };
 
     ghost coded = { texts_code };
 
-    ghost view = { λ a. texts_under a.root };
+    ghost use Rattle.doc_texts.specs.Kept.{texts_in, IsCounted};
+
+    ghost view = { texts_in };
+
+    ghost invariant = { IsCounted };
 }
 
 impl Docs {
@@ -44,7 +55,14 @@ impl Docs {
     pub fn new(alloc: Global, root: Option<Path>) -> Docs
         ensures { result ≡ texts_under root }
     {
-        Docs { alloc, root }
+        Docs {
+            alloc,
+            root,
+            disk: BTreeMap::new(alloc),
+            opened: BTreeMap::new(alloc),
+            files: 0,
+            bytes: 0,
+        }
     }
 
     /// The path of the root, if there is one.
@@ -64,12 +82,31 @@ impl Docs {
         }
     }
 
+    /// Sets the text on disk at a path, or drops it where there are no bytes. It costs the text and a logarithm of the number of
+    /// files. All is unchanged after a refusal, which is the first that holds of OutsideRoot, NotText, TooLong, TooManyFiles and
+    /// TooMuchText, or want of memory.
     pub fn load(&mut self, path: &Path, bytes: Option<&[u8]>) -> Result<(), DocError>
         ensures { IsDone result self.old self.new (loaded self.old path.now (option_map (λ bytes. bytes.now) bytes.entry)) }
     {
-        Err(DocError::NoMemory)
+        if self.is_outside(path) {
+            return Err(DocError::OutsideRoot);
+        }
+        let Some(bytes) = bytes else {
+            self.drop_disk(path);
+            return Ok(());
+        };
+        let Ok(text) = str::from_utf8(bytes) else {
+            return Err(DocError::NotText);
+        };
+        if text.len() > LONGEST_TEXT {
+            return Err(DocError::TooLong);
+        }
+        self.set_disk(path, text)
     }
 
+    /// Opens a document (LSP 3.17, textDocument/didOpen). It costs the text and a logarithm of the number of files. All is
+    /// unchanged after a refusal, which is the first that holds of OutsideRoot, AlreadyOpen, TooLong, TooManyFiles and
+    /// TooMuchText, or want of memory.
     pub fn open_doc(
         &mut self,
         path: &Path,
@@ -79,9 +116,22 @@ impl Docs {
     ) -> Result<(), DocError>
         ensures { IsDone result self.old self.new (opened self.old path.now uri.now version text.now) }
     {
-        Err(DocError::NoMemory)
+        if self.is_outside(path) {
+            return Err(DocError::OutsideRoot);
+        }
+        if self.is_open(path) {
+            return Err(DocError::AlreadyOpen);
+        }
+        if text.len() > LONGEST_TEXT {
+            return Err(DocError::TooLong);
+        }
+        self.add_open(path, uri, version, text)
     }
 
+    /// Changes an open document (LSP 3.17, textDocument/didChange), each change in the text that the one before left. The document
+    /// keeps the URI that it was opened with. It costs one copy of the text, what the changes cost and a logarithm of the number
+    /// of files. All is unchanged after a refusal, which is the first that holds of OutsideRoot, NotOpen, Reversed and TooLong
+    /// change by change, and TooMuchText, or want of memory.
     pub fn change(
         &mut self,
         path: &Path,
@@ -91,40 +141,290 @@ impl Docs {
     ) -> Result<(), DocError>
         ensures { IsDone result self.old self.new (changed self.old path.now version changes.now encoding) }
     {
-        Err(DocError::NoMemory)
+        if self.is_outside(path) {
+            return Err(DocError::OutsideRoot);
+        }
+        let Some(text) = self.open_text(path) else {
+            return Err(DocError::NotOpen);
+        };
+        let freed = text.len();
+        let text = edited(self.alloc(), text, changes, encoding)?;
+        self.set_open(path, version, text, freed)
     }
 
+    /// Closes a document (LSP 3.17, textDocument/didClose): its open text is dropped. It takes no memory and costs a logarithm of
+    /// the number of files. All is unchanged after a refusal, which is the first that holds of OutsideRoot and NotOpen.
     pub fn close_doc(&mut self, path: &Path) -> Result<(), DocError>
         ensures done { IsDone result self.old self.new (closed self.old path.now) }
+        ensures never { result ≢ Err DocError.NoMemory }
     {
-        Err(DocError::NoMemory)
+        if self.is_outside(path) {
+            return Err(DocError::OutsideRoot);
+        }
+        if !self.is_open(path) {
+            return Err(DocError::NotOpen);
+        }
+        self.drop_open(path);
+        Ok(())
     }
 
+    /// The text at a path: that of the open document, else that on disk. It takes no memory and costs a logarithm of the number
+    /// of files.
     pub fn text(&self, path: &Path) -> Option<&str>
         ensures text { option_map (λ text. text.now) result ≡ text_at self.now path.now }
         ensures short { IfSome result (λ text. length text.now ≤ 4194304) }
     {
-        let _alloc = self.alloc;
-        None
+        match self.opened.get(path) {
+            Some(document) => Some(document.text()),
+            None => self.disk_text(path),
+        }
     }
 
+    /// The version of the document that is open at a path. It takes no memory and costs a logarithm of the number of files.
     pub fn version(&self, path: &Path) -> Option<i32>
         ensures { result ≡ version_at self.now path.now }
     {
-        let _alloc = self.alloc;
-        None
+        match self.opened.get(path) {
+            Some(document) => Some(document.version()),
+            None => None,
+        }
     }
 
+    /// The URI that the document at a path was opened with. It takes no memory and costs a logarithm of the number of files.
     pub fn uri(&self, path: &Path) -> Option<&str>
         ensures { option_map (λ uri. uri.now) result ≡ uri_at self.now path.now }
     {
-        let _alloc = self.alloc;
-        None
+        match self.opened.get(path) {
+            Some(document) => Some(document.uri()),
+            None => None,
+        }
     }
 
+    /// The paths that have a text, in byte order, each once. It costs n log n for n files.
     pub fn paths(&self) -> Result<Vec<Path>, AllocError>
         ensures { IfOk result (λ paths. paths.items ≡ paths_of self.now) }
     {
-        Err(AllocError)
+        let mut set = PathSet::new(self.alloc());
+        self.list_disk(&mut set)?;
+        self.list_open(&mut set)?;
+        set.paths()
     }
+
+    /// Adds the paths that have a text on disk.
+    fn list_disk(&self, set: &mut PathSet) -> Result<(), AllocError>
+        ensures { OnOk result (set.new ≡ add_all set.old (keys self.now.disk)) }
+    {
+        for path in self.disk.keys() {
+            set.insert(path.share()?)?;
+        }
+        Ok(())
+    }
+
+    /// Adds the paths at which a document is open.
+    fn list_open(&self, set: &mut PathSet) -> Result<(), AllocError>
+        ensures { OnOk result (set.new ≡ add_all set.old (keys self.now.opened)) }
+    {
+        for path in self.opened.keys() {
+            set.insert(path.share()?)?;
+        }
+        Ok(())
+    }
+
+    /// A path's text on disk.
+    fn disk_text(&self, path: &Path) -> Option<&str>
+        ensures text { option_map (λ text. text.now) result ≡ get self.now.disk path.now }
+        ensures short { IfSome result (λ text. length text.now ≤ longest_text) }
+    {
+        match self.disk.get(path) {
+            Some(text) => Some(text.as_str()),
+            None => None,
+        }
+    }
+
+    /// How many bytes a path's text on disk has, or 0.
+    fn disk_len(&self, path: &Path) -> usize
+        ensures size { result ≡ disk_size self.now path.now }
+        ensures within { result ≤ byte_count self.now }
+    {
+        match self.disk_text(path) {
+            Some(text) => text.len(),
+            None => 0,
+        }
+    }
+
+    /// How many files there are where a path has a text.
+    fn files_with(&self, path: &Path) -> usize
+        ensures files { result ≡ files_with self.now path.now }
+        ensures within { result ≤ 4097 }
+    {
+        if self.text(path).is_some() {
+            return self.files;
+        }
+        self.files + 1
+    }
+
+    /// The bytes of all texts.
+    fn total(&self) -> usize
+        ensures bytes { result ≡ byte_count self.now }
+        ensures within { result ≤ 67108864 }
+    {
+        self.bytes
+    }
+
+    /// The allocator.
+    fn alloc(&self) -> Global {
+        self.alloc
+    }
+
+    /// Sets a path's text on disk.
+    fn set_disk(&mut self, path: &Path, text: &str) -> Result<(), DocError>
+        requires { length text.now ≤ longest_text }
+        ensures { IsDone result self.old self.new (fits (with_disk self.old path.now text.now)) }
+    {
+        let files = self.files_with(path);
+        let bytes = self.total() - self.disk_len(path) + text.len();
+        check_limits(files, bytes)?;
+        let key = path.share()?;
+        let kept = KeptText::from_str(self.alloc(), text)?;
+        self.put_disk(key, kept, files, bytes)?;
+        Ok(())
+    }
+
+    /// Keeps a path's text on disk, with which there are so many files and bytes of texts.
+    fn put_disk(
+        &mut self,
+        path: Path,
+        text: KeptText,
+        files: usize,
+        bytes: usize,
+    ) -> Result<(), AllocError>
+        requires { Counted (with_disk self.old path text) files bytes }
+        ensures ok { OnOk result (self.new ≡ with_disk self.old path text) }
+        ensures kept { OnErr result (self.new ≡ self.old) }
+    {
+        self.disk.insert(path, text)?;
+        self.files = files;
+        self.bytes = bytes;
+        Ok(())
+    }
+
+    /// Drops a path's text on disk, if there is one.
+    fn drop_disk(&mut self, path: &Path)
+        ensures { self.new ≡ without_disk self.old path.now }
+    {
+        let Some(text) = self.disk.remove(path) else {
+            return;
+        };
+        self.bytes -= text.as_str().len();
+        if !self.opened.contains_key(path) {
+            self.files -= 1;
+        }
+    }
+
+    /// Opens a document where none is open.
+    fn add_open(&mut self, path: &Path, uri: &str, version: i32, text: &str) -> Result<(), DocError>
+        requires short { length text.now ≤ longest_text }
+        requires shut { get self.old.opened path.now ≡ None }
+        ensures { IsDone result self.old self.new (fits (with_open self.old path.now (record { uri = uri.now; version = version; text = text.now }))) }
+    {
+        let files = self.files_with(path);
+        let bytes = self.total() + text.len();
+        check_limits(files, bytes)?;
+        let key = path.share()?;
+        let document = OpenDoc::new(self.alloc(), uri, version, text)?;
+        self.put_open(key, document, files, bytes)?;
+        Ok(())
+    }
+
+    /// Keeps an open document, with which there are so many files and bytes of texts.
+    fn put_open(
+        &mut self,
+        path: Path,
+        document: OpenDoc,
+        files: usize,
+        bytes: usize,
+    ) -> Result<(), AllocError>
+        requires { Counted (with_open self.old path document) files bytes }
+        ensures ok { OnOk result (self.new ≡ with_open self.old path document) }
+        ensures kept { OnErr result (self.new ≡ self.old) }
+    {
+        self.opened.insert(path, document)?;
+        self.files = files;
+        self.bytes = bytes;
+        Ok(())
+    }
+
+    /// Whether a document is open at a path.
+    fn is_open(&self, path: &Path) -> bool
+        ensures { result ≡ contains_key self.now.opened path.now }
+    {
+        self.opened.contains_key(path)
+    }
+
+    /// The text of the document that is open at a path.
+    fn open_text(&self, path: &Path) -> Option<&str>
+        ensures text { option_map (λ text. text.now) result ≡ option_map (λ document. document.text) (get self.now.opened path.now) }
+        ensures short { IfSome result (λ text. length text.now ≤ longest_text) }
+    {
+        match self.opened.get(path) {
+            Some(document) => Some(document.text()),
+            None => None,
+        }
+    }
+
+    /// Gives the document that is open at a path another text, in place of one of `freed` bytes.
+    fn set_open(
+        &mut self,
+        path: &Path,
+        version: i32,
+        text: KeptText,
+        freed: usize,
+    ) -> Result<(), DocError>
+        requires { open_size self.old path.now ≡ freed }
+        ensures { IfSome (get self.old.opened path.now) (λ document. IsDone result self.old self.new (fits (with_open self.old path.now (record { uri = document.uri; version = version; text = text })))) }
+    {
+        let bytes = self.total() - freed + text.as_str().len();
+        check_limits(self.files_with(path), bytes)?;
+        self.put_text(path, version, text, bytes);
+        Ok(())
+    }
+
+    /// Keeps another text of the document that is open at a path, with which there are so many bytes of texts.
+    fn put_text(&mut self, path: &Path, version: i32, text: KeptText, bytes: usize)
+        requires summed { IfSome (get self.old.opened path.now) (λ document. bytes ≡ byte_count (with_open self.old path.now (record { uri = document.uri; version = version; text = text }))) }
+        requires small { bytes ≤ most_bytes }
+        ensures { IfSome (get self.old.opened path.now) (λ document. self.new ≡ with_open self.old path.now (record { uri = document.uri; version = version; text = text })) }
+    {
+        if let Some(document) = self.opened.get_mut(path) {
+            document.set(version, text);
+            self.bytes = bytes;
+        }
+    }
+
+    /// Drops the document that is open at a path, if there is one.
+    fn drop_open(&mut self, path: &Path)
+        ensures { self.new ≡ without_open self.old path.now }
+    {
+        let Some(document) = self.opened.remove(path) else {
+            return;
+        };
+        self.bytes -= document.text().len();
+        if !self.disk.contains_key(path) {
+            self.files -= 1;
+        }
+    }
+}
+
+/// The first limit that so many files, or so many bytes of texts, are beyond.
+#[tactic(auto, unfolding(crate::specs::Docs::allowed))]
+fn check_limits(files: usize, bytes: usize) -> Result<(), DocError>
+    ensures { result ≡ allowed files bytes tt }
+{
+    if files > MOST_FILES {
+        return Err(DocError::TooManyFiles);
+    }
+    if bytes > MOST_BYTES {
+        return Err(DocError::TooMuchText);
+    }
+    Ok(())
 }

@@ -5,10 +5,12 @@ mod changes;
 mod docs;
 mod error;
 mod kept;
+mod laws;
 mod path_set;
 mod prior;
 
 pub use docs::Docs;
 pub use error::DocError;
+pub use laws::{documents_follow, paths_are_sets, texts_follow};
 pub use path_set::PathSet;
 pub use prior::PriorTexts;

@@ -11,12 +11,12 @@ use uri_paths::Path;
 #[derive(Drop)]
 pub struct PathSet {
     alloc: Global,
+    paths: BTreeMap<Path, ()>,
 }
 
 impl Model for PathSet {
     ghost use base.Stored.{coded_unit};
     ghost use Rattle.std.specs.Coded.{coded_ℕ, coded_list};
-    ghost use Rattle.std.specs.Prelude.{[]};
     ghost use Rattle.std.specs.FinMap.{from_entries, code};
     ghost use Rattle.doc_texts.specs.Texts as texts;
 
@@ -24,7 +24,7 @@ impl Model for PathSet {
 
     ghost coded = { code (coded_list coded_ℕ) coded_unit };
 
-    ghost view = { λ _. from_entries [] };
+    ghost view = { λ set. from_entries set.paths.entries };
 }
 
 impl PathSet {
@@ -32,7 +32,10 @@ impl PathSet {
     pub fn new(alloc: Global) -> PathSet
         ensures { result ≡ empty }
     {
-        PathSet { alloc }
+        PathSet {
+            alloc,
+            paths: BTreeMap::new(alloc),
+        }
     }
 
     /// Adds a path, unless it is there. It costs a logarithm of the number of paths.
@@ -40,13 +43,18 @@ impl PathSet {
         ensures ok { OnOk result (self.new ≡ insert self.old path tt) }
         ensures kept { OnErr result (self.new ≡ self.old) }
     {
-        Err(AllocError)
+        self.paths.insert(path, ())?;
+        Ok(())
     }
 
     /// The paths in byte order.
     pub fn paths(&self) -> Result<Vec<Path>, AllocError>
         ensures { IfOk result (λ paths. paths.items ≡ keys self.now) }
     {
-        Err(AllocError)
+        let mut paths = Vec::new(self.alloc);
+        for path in self.paths.keys() {
+            paths.push(path.share()?)?;
+        }
+        Ok(paths)
     }
 }

@@ -1,6 +1,7 @@
 // The texts that some paths had at an earlier moment.
 ghost use Rattle.std.specs.Prelude.{◌≡◌, ◌≤◌, length, option_map, OnOk, OnErr, IfOk, IfSome};
 ghost use Rattle.std.specs.FinMap.{empty, keys};
+ghost use Rattle.doc_texts.specs.Limits.{longest_text};
 ghost use Rattle.doc_texts.specs.Texts.{text_at};
 ghost use Rattle.doc_texts.specs.Prior.{remembered, prior_text};
 
@@ -15,11 +16,11 @@ use uri_paths::Path;
 #[derive(Drop)]
 pub struct PriorTexts {
     alloc: Global,
+    texts: BTreeMap<Path, Option<KeptText>>,
 }
 
 impl Model for PriorTexts {
     ghost use Rattle.std.specs.Coded.{coded_ℕ, coded_list, coded_option};
-    ghost use Rattle.std.specs.Prelude.{[]};
     ghost use Rattle.std.specs.FinMap.{from_entries, code};
     ghost use Rattle.doc_texts.specs.Prior.{Prior};
 
@@ -27,7 +28,7 @@ impl Model for PriorTexts {
 
     ghost coded = { code (coded_list coded_ℕ) (coded_option (coded_list coded_ℕ)) };
 
-    ghost view = { λ _. from_entries [] };
+    ghost view = { λ prior. from_entries prior.texts.entries };
 }
 
 impl PriorTexts {
@@ -35,7 +36,10 @@ impl PriorTexts {
     pub fn new(alloc: Global) -> PriorTexts
         ensures { result ≡ empty }
     {
-        PriorTexts { alloc }
+        PriorTexts {
+            alloc,
+            texts: BTreeMap::new(alloc),
+        }
     }
 
     /// Keeps a copy of the text that a path has now, or that it has none, unless something is kept for it. It costs the text and a
@@ -44,14 +48,24 @@ impl PriorTexts {
         ensures ok { OnOk result (self.new ≡ remembered self.old docs.now path.now) }
         ensures kept { OnErr result (self.new ≡ self.old) }
     {
-        Err(AllocError)
+        if self.texts.contains_key(path) {
+            return Ok(());
+        }
+        let text = copy_of(self.alloc, docs, path)?;
+        let key = path.share()?;
+        self.texts.insert(key, text)?;
+        Ok(())
     }
 
     /// The paths for which something is kept, in byte order.
     pub fn paths(&self) -> Result<Vec<Path>, AllocError>
         ensures { IfOk result (λ paths. paths.items ≡ keys self.now) }
     {
-        Err(AllocError)
+        let mut paths = Vec::new(self.alloc);
+        for path in self.texts.keys() {
+            paths.push(path.share()?)?;
+        }
+        Ok(paths)
     }
 
     /// The text that is kept for a path, if it had one. It takes no memory and costs a logarithm of the number of paths.
@@ -59,7 +73,30 @@ impl PriorTexts {
         ensures text { option_map (λ text. text.now) result ≡ prior_text self.now path.now }
         ensures short { IfSome result (λ text. length text.now ≤ 4194304) }
     {
-        let _alloc = self.alloc;
-        None
+        match self.texts.get(path) {
+            Some(kept) => lent(kept),
+            None => None,
+        }
+    }
+}
+
+/// A copy of the text that a path has, if it has one.
+fn copy_of(alloc: Global, docs: &Docs, path: &Path) -> Result<Option<KeptText>, AllocError>
+    ensures { IfOk result (λ text. text ≡ text_at docs.now path.now) }
+{
+    match docs.text(path) {
+        Some(text) => Ok(Some(KeptText::from_str(alloc, text)?)),
+        None => Ok(None),
+    }
+}
+
+/// The text that is kept, if there is one.
+fn lent(kept: &Option<KeptText>) -> Option<&str>
+    ensures text { option_map (λ text. text.now) result ≡ kept.now }
+    ensures short { IfSome result (λ text. length text.now ≤ longest_text) }
+{
+    match kept {
+        Some(text) => Some(text.as_str()),
+        None => None,
     }
 }

@@ -1,5 +1,4 @@
-use Rattle.std.proofs.Common.{sym, ap, ◌∙◌, List, ◌∷◌, Ok, Err}
-use Rattle.text_lines.specs.declared.edit.EditError.TheVariants.{Reversed, TooLong}
+use Rattle.std.proofs.Common.{sym, ap, ◌∙◌, Err}
 use Rattle.doc_texts.specs.Docs.{all_edited}
 use Rattle.doc_texts.proofs.Edits.{ok_no_err, made_reversed, made_long, made_well}
 use Rattle.doc_texts.proofs.changes.make.Goals as goal

@@ -1,0 +1,42 @@
+// What changes of the texts leave, as laws of the definitions.
+ghost use Rattle.std.specs.Prelude.{◌≡◌, ◌≢◌, ℕ, List, Some, None, is_some, bytes_eq};
+ghost use Rattle.std.specs.Cmp.Lexicographic.{slice_cmp};
+ghost use Rattle.std.specs.FinMap.{get};
+ghost use Rattle.std.specs.List.{list_any};
+ghost use Rattle.std.specs.List.Sorted.{IsStrictlySortedBy};
+ghost use Rattle.std.specs.Ordering.{nat_cmp};
+ghost use Rattle.doc_texts.specs.Texts.{Texts, OpenText, shown, text_at, version_at, uri_at, path_set, paths_of, with_disk, without_disk, with_open, without_open};
+
+/// A law of the definitions, which has nothing to run: what the text at a path is after each change, at its path and at others.
+pub fn texts_follow()
+    ensures disk { (t : Texts) (p x : List ℕ) → text_at (with_disk t p x) p ≡ shown (get t.opened p) (Some x) }
+    ensures disk_others { (t : Texts) (p x q : List ℕ) → q ≢ p → text_at (with_disk t p x) q ≡ text_at t q }
+    ensures gone { (t : Texts) (p : List ℕ) → text_at (without_disk t p) p ≡ shown (get t.opened p) None }
+    ensures gone_others { (t : Texts) (p q : List ℕ) → q ≢ p → text_at (without_disk t p) q ≡ text_at t q }
+    ensures opened { (t : Texts) (p : List ℕ) (d : OpenText) → text_at (with_open t p d) p ≡ Some d.text }
+    ensures opened_others { (t : Texts) (p : List ℕ) (d : OpenText) (q : List ℕ) → q ≢ p → text_at (with_open t p d) q ≡ text_at t q }
+    ensures shut { (t : Texts) (p : List ℕ) → text_at (without_open t p) p ≡ get t.disk p }
+    ensures shut_others { (t : Texts) (p q : List ℕ) → q ≢ p → text_at (without_open t p) q ≡ text_at t q }
+{}
+
+/// A law of the definitions, which has nothing to run: what the version and the URI of an open document are after it is opened or
+/// changed, and after it is closed, at its path and at others.
+pub fn documents_follow()
+    ensures version { (t : Texts) (p : List ℕ) (d : OpenText) → version_at (with_open t p d) p ≡ Some d.version }
+    ensures version_others { (t : Texts) (p : List ℕ) (d : OpenText) (q : List ℕ) → q ≢ p → version_at (with_open t p d) q ≡ version_at t q }
+    ensures version_shut { (t : Texts) (p : List ℕ) → version_at (without_open t p) p ≡ None }
+    ensures version_shut_others { (t : Texts) (p q : List ℕ) → q ≢ p → version_at (without_open t p) q ≡ version_at t q }
+    ensures uri { (t : Texts) (p : List ℕ) (d : OpenText) → uri_at (with_open t p d) p ≡ Some d.uri }
+    ensures uri_others { (t : Texts) (p : List ℕ) (d : OpenText) (q : List ℕ) → q ≢ p → uri_at (with_open t p d) q ≡ uri_at t q }
+    ensures uri_shut { (t : Texts) (p : List ℕ) → uri_at (without_open t p) p ≡ None }
+    ensures uri_shut_others { (t : Texts) (p q : List ℕ) → q ≢ p → uri_at (without_open t p) q ≡ uri_at t q }
+{}
+
+/// A law of the definitions, which has nothing to run: a set of paths has those that it was made of, the paths of the texts are
+/// those that have a text, and both ascend strictly.
+pub fn paths_are_sets()
+    ensures set_members { (paths : List (List ℕ)) (q : List ℕ) → list_any (bytes_eq q) (path_set paths) ≡ list_any (bytes_eq q) paths }
+    ensures set_ascends { (paths : List (List ℕ)) → IsStrictlySortedBy (slice_cmp nat_cmp) (path_set paths) }
+    ensures members { (t : Texts) (q : List ℕ) → list_any (bytes_eq q) (paths_of t) ≡ is_some (text_at t q) }
+    ensures ascends { (t : Texts) → IsStrictlySortedBy (slice_cmp nat_cmp) (paths_of t) }
+{}
