@@ -1,5 +1,5 @@
 -- Laws of files that are read into the texts.
-use Rattle.std.proofs.Common.{◌≡◌, ℕ, List, [], ◌∷◌, Option, Some, option_map, Bool, true, cond, refl, sym, ap, ◌∙◌, subst}
+use Rattle.std.proofs.Common.{◌≡◌, ◌<◌, ◌+◌, ℕ, suc, arith, length, map, drop, get_or, drop-cons, List, [], ◌∷◌, Option, Some, option_map, Bool, true, cond, refl, sym, ap, ◌∙◌, subst}
 use Rattle.io_edges.specs.Store.{Entry, Lists, Reads, ListCall, ReadCall, after_answer}
 use Rattle.io_edges.specs.declared.ends.Found.{Found}
 use Rattle.io_edges.specs.declared.ends.Listed.{Listed}
@@ -7,9 +7,12 @@ use Rattle.doc_texts.specs.Texts.{Texts, texts_under}
 use Rattle.c_session.specs.Asking.{Asking, Gives, AsksRead}
 use Rattle.c_session.specs.Files.{with_found, to_load, unreadable_logs}
 use Rattle.c_session.specs.Handled.{Reached, Refused, GaveUp, IsFault}
-use Rattle.c_session.specs.Loading.{Loading, with_file, loads, loads_root, settles, load_log, is_read, read_back}
+use Rattle.c_session.specs.Loading.{Loading, with_file, loads, loads_root, settles, load_log, is_read, read_back, updates_at, updates_all}
+use Rattle.c_session.specs.Params.{FileChange}
+use Rattle.c_session.specs.Reasons.{by_uri}
+use Rattle.uri_paths.specs.Uris.{path_of_uri}
 use Rattle.c_session.specs.declared.error.SessionError.{SessionError}
-use Rattle.c_session.proofs.Asking.{was_read, was_listed, stays, reached_same, goes_on, gave_up, stopped_at}
+use Rattle.c_session.proofs.Asking.{was_read, was_listed, stays, reached_same, goes_on, goes_then, gave_up, refused_then, refused_behind, stopped_at}
 
 -- one more file was read and taken
 pub loads_turns : (t : Asking Loading) (l : Loading) (rest : List (List ℕ)) (old between new : Option (List Entry))
@@ -78,3 +81,28 @@ pub root_stops : (root : List ℕ) (e : SessionError) (old new : Option (List En
     new ≡ old → IsFault e faults faults' → Refused e (loads_root (Some root)) old new faults faults'
 root_stops root e old new faults faults' same fault =
     stopped_at (loads_root (Some root)) (loads_root (Some root)) (ListCall root) e old old new faults faults faults' (stays (loads_root (Some root)) old) refl same refl fault
+
+-- ---- files that changed
+
+one_more : (i : ℕ) → suc i ≡ i + 1
+one_more i = omega arith
+
+-- one more change was taken over
+pub changes_turn : {V : Type 0} (see : V → FileChange) (start : Asking Loading) (l l' : Loading) (xs : List V) (i : ℕ) (d : V) (old between new : Option (List Entry)) →
+    i < length xs → Reached start (updates_all l (map see (drop i xs))) old between →
+    Reached (updates_at l (see (get_or xs i d)).kind (by_uri (path_of_uri (see (get_or xs i d)).uri))) (Gives l') between new →
+    Reached start (updates_all l' (map see (drop (i + 1) xs))) old new
+changes_turn see start l l' xs i d old between new below r s =
+    subst (λ n. Reached start (updates_all l' (map see (drop n xs))) old new) (one_more i)
+    (goes_on (subst (λ ys. Reached start (updates_all l (map see ys)) old between) (drop-cons xs i d below) r)
+    (goes_then _ (Gives l') between new (λ m. updates_all m (map see (drop (suc i) xs))) s))
+
+-- one was refused
+pub changes_stop : {V : Type 0} (see : V → FileChange) (start : Asking Loading) (l : Loading) (xs : List V) (i : ℕ) (d : V) (old between new : Option (List Entry)) (faults middle faults' : ℕ) (e : SessionError) →
+    i < length xs → Reached start (updates_all l (map see (drop i xs))) old between → middle ≡ faults →
+    Refused e (updates_at l (see (get_or xs i d)).kind (by_uri (path_of_uri (see (get_or xs i d)).uri))) between new middle faults' →
+    Refused e start old new faults faults'
+changes_stop see start l xs i d old between new faults middle faults' e below r kept h =
+    refused_behind start (updates_all l (map see (get_or xs i d ∷ drop (suc i) xs))) old between new faults middle faults' e
+    (subst (λ ys. Reached start (updates_all l (map see ys)) old between) (drop-cons xs i d below) r) kept
+    (refused_then _ between new middle faults' (λ m. updates_all m (map see (drop (suc i) xs))) e h)

@@ -52,6 +52,14 @@ pub struct Session {
     phase: Phase,
 }
 
+/// A log message: why a notification of a method is refused.
+fn refusal_log(alloc: Global, method: &str, reason: &str) -> Result<Vec<u8>, AllocError>
+    ensures { IfOk result (λ v. v.items ≡ log (method.now ++ codes ": " ++ reason.now)) }
+{
+    let text = format!(in alloc; "{method}: {reason}")?;
+    log(alloc, text.as_str())
+}
+
 impl Session {
     /// A session before its first content.
     pub fn new(alloc: Global) -> Session
@@ -70,10 +78,14 @@ impl Session {
         ensures refused { IfOk result (λ _. refusal ≢ NoMemory) }
         ensures log { IfOk result (λ v. v.items ≡ log (method.now ++ codes ": " ++ reason_text (reason refusal))) }
     {
-        let reason = refusal.text(self.alloc)?;
-        let reason = reason.as_str();
-        let text = format!(in self.alloc; "{method}: {reason}")?;
-        log(self.alloc, text.as_str())
+        let reason = match refusal.text(self.alloc) {
+            Ok(reason) => reason,
+            Err(_) => return Err(AllocError),
+        };
+        match refusal_log(self.alloc, method, reason.as_str()) {
+            Ok(bytes) => Ok(bytes),
+            Err(_) => Err(AllocError),
+        }
     }
 
     /// The error response to a request whose params are refused.
@@ -81,8 +93,14 @@ impl Session {
         ensures refused { IfOk result (λ _. refusal ≢ NoMemory) }
         ensures error { IfOk result (λ v. v.items ≡ error (Some (seen_id id.entry)) invalid_params (reason_text (reason refusal))) }
     {
-        let text = refusal.text(self.alloc)?;
-        error(self.alloc, Some(id), -32602, text.as_str())
+        let text = match refusal.text(self.alloc) {
+            Ok(text) => text,
+            Err(_) => return Err(AllocError),
+        };
+        match error(self.alloc, Some(id), -32602, text.as_str()) {
+            Ok(bytes) => Ok(bytes),
+            Err(_) => Err(AllocError),
+        }
     }
 
     /// The reply where a document was opened or changed, or wasn't.
@@ -96,10 +114,15 @@ impl Session {
         match edited {
             Ok(path) => {
                 let mut out = Vec::new(self.alloc);
-                push_publication(self.alloc, &mut out, &self.docs, self.encoding, &path)?;
-                Ok(out)
+                match push_publication(self.alloc, &mut out, &self.docs, self.encoding, &path) {
+                    Ok(()) => Ok(out),
+                    Err(_) => Err(AllocError),
+                }
             }
-            Err(refusal) => self.refuse(method, refusal),
+            Err(refusal) => match self.refuse(method, refusal) {
+                Ok(bytes) => Ok(bytes),
+                Err(_) => Err(AllocError),
+            },
         }
     }
 
@@ -108,7 +131,10 @@ impl Session {
         ensures { IfOk result (λ v. edits (state_of self.old) did_open (opened_by self.old.docs (option_map (λ v. view v.now) params.entry)) ≡ tells (state_of self.new) v.items) }
     {
         let edited = open_document(self.alloc, &mut self.docs, params);
-        self.reply_to_edit("textDocument/didOpen", edited)
+        match self.reply_to_edit("textDocument/didOpen", edited) {
+            Ok(bytes) => Ok(bytes),
+            Err(_) => Err(AllocError),
+        }
     }
 
     /// `textDocument/didChange`.
@@ -116,7 +142,10 @@ impl Session {
         ensures { IfOk result (λ v. edits (state_of self.old) did_change (changed_by self.old.docs self.old.encoding (option_map (λ v. view v.now) params.entry)) ≡ tells (state_of self.new) v.items) }
     {
         let edited = change_document(self.alloc, &mut self.docs, self.encoding, params);
-        self.reply_to_edit("textDocument/didChange", edited)
+        match self.reply_to_edit("textDocument/didChange", edited) {
+            Ok(bytes) => Ok(bytes),
+            Err(_) => Err(AllocError),
+        }
     }
 
     /// A response, and behind it log messages and the diagnostics of the files that have news.
@@ -147,7 +176,10 @@ impl Session {
     {
         let mut prior = PriorTexts::new(self.alloc);
         match close_document(self.alloc, &mut self.docs, &mut prior, params) {
-            Ok(path) => self.after_close(&path, &mut prior, store),
+            Ok(path) => match self.after_close(&path, &mut prior, store) {
+                Ok(bytes) => Ok(bytes),
+                Err(error) => Err(error),
+            },
             Err(refusal) => match self.refuse("textDocument/didClose", refusal) {
                 Ok(bytes) => Ok(bytes),
                 Err(_) => Err(SessionError::NoMemory),
@@ -190,20 +222,14 @@ impl Session {
         ensures refused { IfErr result (λ e. Refused e (watches (state_of self.old) (by_params (watching_in (option_map (λ v. view v.now) params.entry)))) (D.answers store.old) (D.answers store.new) (D.faults store.old) (D.faults store.new)) }
     {
         match watching_in(self.alloc, params) {
-            Ok(changes) => self.after_changes(changes.as_slice(), store),
-            Err(error) => self.refuse_changes(Refusal::of_params(error)),
-        }
-    }
-
-    /// The log message where the params of changes are refused.
-    fn refuse_changes(&self, refusal: Refusal) -> Result<Vec<u8>, SessionError>
-        ensures refused { IfOk result (λ _. refusal ≢ NoMemory) }
-        ensures log { IfOk result (λ v. v.items ≡ log (did_change_watched ++ codes ": " ++ reason_text (reason refusal))) }
-        ensures error { IfErr result (λ e. e ≡ SessionError.NoMemory) }
-    {
-        match self.refuse("workspace/didChangeWatchedFiles", refusal) {
-            Ok(bytes) => Ok(bytes),
-            Err(_) => Err(SessionError::NoMemory),
+            Ok(changes) => match self.after_changes(changes.as_slice(), store) {
+                Ok(bytes) => Ok(bytes),
+                Err(error) => Err(error),
+            },
+            Err(error) => match self.refuse("workspace/didChangeWatchedFiles", Refusal::of_params(error)) {
+                Ok(bytes) => Ok(bytes),
+                Err(_) => Err(SessionError::NoMemory),
+            },
         }
     }
 
@@ -246,7 +272,10 @@ impl Session {
         self.docs = docs;
         self.encoding = encoding;
         self.phase = Phase::Running;
-        self.finish(bytes, logs.as_slice(), &prior)
+        match self.finish(bytes, logs.as_slice(), &prior) {
+            Ok(bytes) => Ok(bytes),
+            Err(_) => Err(AllocError),
+        }
     }
 
     /// `initialize`.

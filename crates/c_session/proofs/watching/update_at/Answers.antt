@@ -17,3 +17,6 @@ pub returns-in-Ok-update-clause-prior : goal.returns-in-Ok-update-clause-prior
 returns-in-Ok-update-clause-prior g c =
     subst (λ m. KeepsPrior c.args.prior.now c.args.docs.now m c.update.new.docs) (sym c.in-Ok-remember.ensures.ok)
     (keeps_prior _ _ _ c.in-Ok.path c.in-Ok-update.ensures.others)
+
+pub returns-in-Err-push_refusal-2-clause-refused : goal.returns-in-Err-push_refusal-2-clause-refused
+returns-in-Err-push_refusal-2-clause-refused g c = (refl, gave_up (stays _ _))
