@@ -1,11 +1,14 @@
 -- Refusals of the texts, as the code and the definitions have them.
 use Rattle.std.proofs.Common.{◌≡◌, ◌≢◌, ℕ, List, ◌++◌, Result, Ok, Err, Bool, true, false, T, refl, sym, ap, ◌∙◌, subst}
+use Rattle.json_view.specs.Refusals as view
+use Rattle.json_view.specs.declared.error.ViewError.{ViewError}
+use Rattle.json_view.specs.declared.error.ViewError.TheVariants as error
 use Rattle.doc_texts.specs.Texts.{Texts}
 use Rattle.doc_texts.specs.declared.error.DocError.{DocError}
 use Rattle.doc_texts.specs.declared.error.DocError.TheVariants as doc
 use Rattle.c_session.specs.Loading.{Loading, settles, watched_log}
-use Rattle.c_session.specs.Reasons.{Reason, ByTexts}
-use Rattle.c_session.specs.Refused.{reason, of_texts}
+use Rattle.c_session.specs.Reasons.{Reason, ByTexts, by_params}
+use Rattle.c_session.specs.Refused.{reason, of_params, of_texts}
 use Rattle.c_session.specs.Replies.{log}
 use Rattle.c_session.specs.Sessions.{loading}
 use Rattle.c_session.specs.declared.reasons.Refusal.{Refusal}
@@ -55,3 +58,29 @@ settled_refused e meant docs docs' logs logs' means kept refused wrote =
     ap (λ (d : Texts). loading d logs') kept
     ∙ ap (λ (l : List ℕ). loading docs l) (wrote ∙ ap (λ (r : Reason). logs ++ log (watched_log r)) (same_reason e refused))
     ∙ ap (settles (λ x. watched_log (ByTexts x)) (loading docs logs)) (sym (means (apart e (not_memory e refused))))
+
+abbrev is_view_memory : view.Refusal → Bool
+is_view_memory (view.Missing key) = false
+is_view_memory (view.WrongKind key) = false
+is_view_memory (view.OutOfRange key) = false
+is_view_memory view.NoMemory = true
+
+-- params that are refused, as the code and the definitions have them
+unlike_memory : {T : Type 0} (r : view.Refusal) → is_view_memory r ≡ false → ◌≢◌ {A = Result T view.Refusal} (Err r) (Err view.NoMemory)
+unlike_memory r h is = subst T (sym (ap seen_memory is) ∙ h) tt
+  where
+    seen_memory : {T : Type 0} → Result T view.Refusal → Bool
+    seen_memory (Ok x) = false
+    seen_memory (Err r) = is_view_memory r
+
+pub params_refused : {T : Type 0} (e : ViewError) (meant : Result T view.Refusal) →
+    (◌≢◌ {A = Result T view.Refusal} (Err (view.refusal e)) (Err view.NoMemory) → Err (view.refusal e) ≡ meant) → of_params e ≢ NoMemory →
+    by_params meant ≡ Err (reason (of_params e))
+params_refused (error.Missing key) meant means h = ap by_params (sym (means (unlike_memory (view.Missing key.now) refl)))
+params_refused (error.WrongKind key) meant means h = ap by_params (sym (means (unlike_memory (view.WrongKind key.now) refl)))
+params_refused (error.OutOfRange key) meant means h = ap by_params (sym (means (unlike_memory (view.OutOfRange key.now) refl)))
+params_refused error.NoMemory meant means h = absurd (h refl)
+
+pub params_refused_by : {T : Type 0} (e : ViewError) (r : Refusal) (meant : Result T view.Refusal) → r ≡ of_params e →
+    (◌≢◌ {A = Result T view.Refusal} (Err (view.refusal e)) (Err view.NoMemory) → Err (view.refusal e) ≡ meant) → r ≢ NoMemory → by_params meant ≡ Err (reason r)
+params_refused_by e r meant is means h = params_refused e meant means (λ same. h (is ∙ same)) ∙ ap (λ x. Err (reason x)) (sym is)

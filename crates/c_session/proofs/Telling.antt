@@ -14,7 +14,7 @@ use Rattle.doc_texts.specs.declared.error.DocError.{DocError}
 use Rattle.c_session.specs.Asking.{Asking, Gives, and_then}
 use Rattle.json_view.specs.declared.id.Id.{Id}
 use Rattle.c_session.specs.Handled.{Reached, Refused, GaveUp}
-use Rattle.c_session.specs.Loading.{Loading, read_back, updates_all, loads_root}
+use Rattle.c_session.specs.Loading.{Loading, read_back, updates_all, loads_root, did_change_watched}
 use Rattle.c_session.specs.News.{IsPrior, KeepsPrior, SameBut, HasPublished, news}
 use Rattle.c_session.specs.Params.{FileChange, opening_in, changing_in}
 use Rattle.c_session.specs.React.{Outcome, Edited, tells, has_texts, refuses, edits, opened_by, changed_by, closing_path, closed_by, closes, did_close, watches, Beginning, begins, starts, invalid_params}
@@ -257,3 +257,9 @@ begins_tells s id encoding docs logs shown response bytes prior d is same_data s
     ap (tells (record { options = s.options; texts = docs; encoding = encoding; phase = Running }))
     (ap (λ (b : List ℕ). (Replies.response id (initialize_result encoding) ++ logs) ++ b) (sym (news_published encoding prior s.texts docs is))
     ∙ sym (wrote ∙ ap (λ (r : List ℕ). (r ++ shown) ++ news encoding prior docs) (same_response ∙ ap (Replies.response id) same_data) ∙ ap (λ (l : List ℕ). (Replies.response id (initialize_result encoding) ++ l) ++ news encoding prior docs) same))
+
+-- changes whose params are refused
+pub not_watched : (s : State) (meant : Result (List FileChange) Reason) (r : Refusal) (bytes : List ℕ) (told : Option (List Entry)) →
+    meant ≡ Err (reason r) → bytes ≡ log (did_change_watched ++ codes ": " ++ reason_text (reason r)) → Reached (watches s meant) (Gives (tells s bytes)) told told
+not_watched s meant r bytes told means wrote =
+    reached_same (watches s meant) (Gives (tells s bytes)) told (ap (watches s) means ∙ ap (λ (b : List ℕ). Gives (tells s b)) (sym wrote))
