@@ -17,7 +17,8 @@ use Rattle.c_session.specs.Handled.{Reached, Refused, GaveUp}
 use Rattle.c_session.specs.Loading.{Loading, read_back, updates_all, loads_root, did_change_watched}
 use Rattle.c_session.specs.News.{IsPrior, KeepsPrior, SameBut, HasPublished, news}
 use Rattle.c_session.specs.Params.{FileChange, opening_in, changing_in}
-use Rattle.c_session.specs.React.{Outcome, Edited, tells, has_texts, refuses, edits, opened_by, changed_by, closing_path, closed_by, closes, did_close, watches, Beginning, begins, starts, invalid_params}
+use Rattle.c_session.specs.React.{Outcome, Edited, tells, has_texts, refuses, edits, opened_by, changed_by, closing_path, closed_by, closes, did_close, watches, Beginning, begins, starts, invalid_params, on_message, asks}
+use Rattle.c_session.specs.Message.{Message, value_of, of_read}
 use Rattle.c_session.specs.Reasons.{Reason, reason_text, by_params, by_uri, by_texts, if_ok}
 use Rattle.c_session.specs.Refused.{reason, Answers, Leaves, edited, IsReply}
 use Rattle.c_session.specs.Replies as Replies
@@ -263,3 +264,19 @@ pub not_watched : (s : State) (meant : Result (List FileChange) Reason) (r : Ref
     meant ≡ Err (reason r) → bytes ≡ log (did_change_watched ++ codes ": " ++ reason_text (reason r)) → Reached (watches s meant) (Gives (tells s bytes)) told told
 not_watched s meant r bytes told means wrote =
     reached_same (watches s meant) (Gives (tells s bytes)) told (ap (watches s) means ∙ ap (λ (b : List ℕ). Gives (tells s b)) (sym wrote))
+
+-- ---- a content
+
+asked_same : (s : State) (content : List ℕ) (read : Option Data) (kind : Message) → read ≡ value_of content → kind ≡ of_read read → on_message s kind ≡ asks s content
+unfolding asks
+asked_same s content read kind is_value is_kind = ap (on_message s) (is_kind ∙ ap of_read is_value)
+
+pub asked_handled : (s : State) (content : List ℕ) (read : Option Data) (kind : Message) (o : Outcome) (old new : Option (List Entry)) →
+    read ≡ value_of content → kind ≡ of_read read → Reached (on_message s kind) (Gives o) old new → Reached (asks s content) (Gives o) old new
+asked_handled s content read kind o old new is_value is_kind r =
+    subst (λ t. Reached t (Gives o) old new) (asked_same s content read kind is_value is_kind) r
+
+pub asked_refused : (s : State) (content : List ℕ) (read : Option Data) (kind : Message) (old new : Option (List Entry)) (faults faults' : ℕ) (e : SessionError) →
+    read ≡ value_of content → kind ≡ of_read read → Refused e (on_message s kind) old new faults faults' → Refused e (asks s content) old new faults faults'
+asked_refused s content read kind old new faults faults' e is_value is_kind h =
+    subst (λ t. Refused e t old new faults faults') (asked_same s content read kind is_value is_kind) h

@@ -509,6 +509,9 @@ impl Session {
             Err(_) => return Err(SessionError::NoMemory),
         };
         let message = message_of(&value);
-        self.on_message(&message, store)
+        match self.on_message(&message, store) {
+            Ok(reply) => Ok(reply),
+            Err(error) => Err(error),
+        }
     }
 }
