@@ -10,6 +10,8 @@ mod run;
 mod serve;
 mod status;
 #[cfg(test)]
+mod talks;
+#[cfg(test)]
 mod tests;
 mod turn;
 mod writing;
