@@ -1,16 +1,15 @@
 -- The loop that handles each whole frame.
-use Rattle.std.proofs.Common.{◌≡◌, ℕ, List, [], Option, Some, refl, subst, ◌∙◌}
+use Rattle.std.proofs.Common.{◌≡◌, ℕ, List, Option, Some, subst, ◌∙◌}
 use Rattle.io_edges.specs.Store.{Entry}
 use Rattle.io_edges.specs.Wire.{Traffic}
 use Rattle.lsp_framing.specs.Standing.{Standing}
 use Rattle.c11ls.specs.Going.{Going, Ended}
-use Rattle.c11ls.specs.State.{State, Options}
-use Rattle.c11ls.specs.Turn.{Turned, GaveUp, Stands}
+use Rattle.c_session.specs.State.{State, Options}
+use Rattle.c11ls.specs.Turn.{Turned, Stands}
 use Rattle.c11ls.specs.declared.status.Status.{Status}
 use Rattle.c11ls.specs.declared.status.Status.TheVariants.{Done, Unclean, Usage, BadFrame, ReadFault, WriteFault, StoreFault, NoMemory, LongInput}
 use Rattle.c11ls.proofs.EndingUp.{ends_done, ends_unclean, ends_unwritten, ends_lacking, ends_giving_up}
 use Rattle.c11ls.proofs.GoingOn.{Gave}
-use Rattle.c11ls.proofs.Handling.{nothing_answered}
 
 -- a content ended the call
 pub turn_ends : (options : Options) (ended : Status) (w0 w w' : Option Traffic) (a0 a a' : Option (List Entry)) (s s' : State) (content : List ℕ) (standing standing' : Standing) (size : ℕ) →
@@ -19,18 +18,11 @@ turn_ends options Done w0 w w' a0 a a' s s' content standing standing' size gave
 turn_ends options Unclean w0 w w' a0 a a' s s' content standing standing' size gave turned going = ends_unclean options w0 w w' a0 a a' s s' content standing standing' size gave turned going
 turn_ends options WriteFault w0 w w' a0 a a' s s' content standing standing' size gave turned going = ends_unwritten options w0 w w' a0 a a' s content standing standing' size gave turned going
 turn_ends options StoreFault w0 w w' a0 a a' s s' content standing standing' size gave turned going = ends_lacking options w0 w w' a0 a a' s content standing standing' size gave turned going
-turn_ends options NoMemory w0 w w' a0 a a' s s' content standing standing' size gave turned going = ends_giving_up options w0 w w' a0 a a' s standing size turned going
+turn_ends options NoMemory w0 w w' a0 a a' s s' content standing standing' size gave turned going = ends_giving_up options w0 w w' a0 a a' s content standing standing' size gave turned going
 turn_ends options Usage w0 w w' a0 a a' s s' content standing standing' size gave turned going = absurd turned
 turn_ends options (BadFrame place kind) w0 w w' a0 a a' s s' content standing standing' size gave turned going = absurd turned
 turn_ends options ReadFault w0 w w' a0 a a' s s' content standing standing' size gave turned going = absurd turned
 turn_ends options LongInput w0 w w' a0 a a' s s' content standing standing' size gave turned going = absurd turned
-
--- nothing happened, and memory is wanted
-pub no_memory_ends : (options : Options) (w0 w : Option Traffic) (a0 a : Option (List Entry)) (s : State) (standing : Standing) (size : ℕ) →
-    Going options w0 w a0 a s standing size → Ended options NoMemory w0 w a0 a
-no_memory_ends options w0 w a0 a s standing size going =
-    let nothing : GaveUp w w a a = record { answers = []; answered = nothing_answered a; told = refl } in
-    ends_giving_up options w0 w w a0 a a s standing size nothing going
 
 pub turned_at : (ended : Option Status) (s s' : State) (given content : List ℕ) (w w' : Option Traffic) (a a' : Option (List Entry)) →
     given ≡ content → Turned ended s given s' w w' a a' → Turned ended s content s' w w' a a'

@@ -12,16 +12,16 @@ use Rattle.lsp_framing.specs.declared.FrameKind.TheVariants.{Cut}
 use Rattle.lsp_framing.proofs.Laws.{bad_stays}
 use Rattle.c11ls.specs.Going.{Going, Settled, Moves, Ended, Outcome, Plays, moved, through}
 use Rattle.c11ls.specs.Plain.{Played, Plain, Exited, Lacks, Through, Verdict, Done, Unclean, Faulty, play, played, plain, plain_of, verdict_of, go_on}
-use Rattle.c11ls.specs.React.{Reaction, Replies, Wants, react}
+use Rattle.c_session.specs.React.{Reaction, Replies, Wants, react}
 use Rattle.c11ls.specs.Serve.{WouldGoOn, IsThrough, Begins}
-use Rattle.c11ls.specs.State.{State, Options, fresh}
+use Rattle.c_session.specs.State.{State, Options, fresh}
 use Rattle.c11ls.specs.Turn.{Wrote, WroteFront, WroteUnclean, GaveUp, Lacked}
 use Rattle.c11ls.specs.declared.status.Status.{Status}
 use Rattle.c11ls.specs.declared.status.Status.TheVariants as status
-use Rattle.c11ls.proofs.Reacting.{used_by, used_within}
+use Rattle.c11ls.proofs.Reacting.{used_by, used_within, handled_reacts, failed_wants}
 use Rattle.c11ls.proofs.Moving.{moves_writing}
 use Rattle.c11ls.proofs.Playing.{IsComplete, play-append, play_stays, play_one_more, play_one_wants, played_to, after_reply, then_play}
-use Rattle.c11ls.proofs.GoingOn.{Gave, whatever_left, first_more, first_stays, all_handled, settled_played}
+use Rattle.c11ls.proofs.GoingOn.{Gave, next_wanted, whatever_left, first_more, first_stays, all_handled, settled_played}
 
 -- an outcome at the end of the input
 nothing_left : (w0 w : Option Traffic) (options : Options) (ended : Status) (taken out : List ℕ) (moments : List Mark) (answers : List Entry) →
@@ -68,22 +68,41 @@ nothing_written : (w : Option Traffic) → w ≡ option_map (after_write []) w
 nothing_written None = refl
 nothing_written (Some t) = ap (λ (written : List ℕ). Some (record { left = t.left; taken = t.taken; written = written; marks = t.marks })) (sym (append-nil t.written))
 
--- no reply was written to a content, whatever the store answered
-pub ends_giving_up : (options : Options) (w0 w w' : Option Traffic) (a0 a a' : Option (List Entry)) (s : State) (standing : Standing) (size : ℕ) →
-    GaveUp w w' a a' → Going options w0 w a0 a s standing size → Ended options status.NoMemory w0 w' a0 a'
-ends_giving_up options w0 w w' a0 a a' s standing size gave_up going = record {
+-- no reply was written to a content, for which memory was wanted
+pub ends_giving_up : (options : Options) (w0 w w' : Option Traffic) (a0 a a' : Option (List Entry)) (s : State) (content : List ℕ) (standing standing' : Standing) (size : ℕ) →
+    Gave content standing standing' → GaveUp s content w w' a a' → Going options w0 w a0 a s standing size → Ended options status.NoMemory w0 w' a0 a'
+ends_giving_up options w0 w w' a0 a a' s content standing standing' size gave gave_up going =
+    let reached = gave_up.gave_up.reached in
+    record {
+      taken = going.taken;
+      out = going.out ++ [];
+      moments = going.moments;
+      answers = going.answers ++ reached.added;
+      did = moves_writing options going.taken going.out [] going.moments going.answers reached.added w0 w w' a0 a a' going.did (gave_up.told ∙ nothing_written w) reached.answered
+          (next_wanted options w0 w a0 a s content standing standing' size gave_up.gave_up.next reached.added gave reached.follows going);
+      usual = tt;
+      outcome = whatever_left w0 options status.NoMemory going.taken (going.out ++ []) (going.answers ++ reached.added) (λ left. (
+        length going.handled,
+        append-nil going.out ∙ sym (ap (λ (p : Played). p.out)
+            (ap (λ (cs : List (List ℕ)). play cs (fresh options) (going.answers ++ reached.added)) going.first
+            ∙ play_stays going.handled (fresh options) going.answers reached.added (complete_to going.handled (fresh options) going.answers going.out (length going.answers) s going.played)
+            ∙ going.played)),
+      ));
+    }
+
+-- memory was wanted before the next content
+pub ends_before : (options : Options) (w0 w : Option Traffic) (a0 a : Option (List Entry)) (s : State) (standing : Standing) (size : ℕ) →
+    Going options w0 w a0 a s standing size → Ended options status.NoMemory w0 w a0 a
+ends_before options w0 w a0 a s standing size going = record {
   taken = going.taken;
-  out = going.out ++ [];
+  out = going.out;
   moments = going.moments;
-  answers = going.answers ++ gave_up.answers;
-  did = moves_writing options going.taken going.out [] going.moments going.answers gave_up.answers w0 w w' a0 a a' going.did (gave_up.told ∙ nothing_written w) gave_up.answered;
+  answers = going.answers;
+  did = going.did;
   usual = tt;
-  outcome = whatever_left w0 options status.NoMemory going.taken (going.out ++ []) (going.answers ++ gave_up.answers) (λ left. (
+  outcome = whatever_left w0 options status.NoMemory going.taken going.out going.answers (λ left. (
     length going.handled,
-    append-nil going.out ∙ sym (ap (λ (p : Played). p.out)
-        (ap (λ (cs : List (List ℕ)). play cs (fresh options) (going.answers ++ gave_up.answers)) going.first
-        ∙ play_stays going.handled (fresh options) going.answers gave_up.answers (complete_to going.handled (fresh options) going.answers going.out (length going.answers) s going.played)
-        ∙ going.played)),
+    sym (ap (λ (p : Played). p.out) (ap (λ (cs : List (List ℕ)). play cs (fresh options) going.answers) going.first ∙ going.played)),
   ));
 }
 
@@ -114,7 +133,8 @@ exit_plays options w0 w w' a0 a a' s s' content standing standing' size end gave
     exits_early (frames (going.taken ++ left)).contents (going.handled ++ content ∷ []) (fresh options) (going.answers ++ wrote.handled.added)
     (going.out ++ wrote.bytes) (length (going.answers ++ wrote.handled.added)) end
     (next_first going.taken left going.handled content going.first next.0)
-    (play_one_more going.handled content (fresh options) s s' going.answers wrote.handled.added going.out wrote.bytes (Some end) going.played wrote.handled.reacts)
+    (play_one_more going.handled content (fresh options) s s' going.answers wrote.handled.added going.out wrote.bytes (Some end) going.played
+    (handled_reacts s s' content wrote.bytes (Some end) wrote.handled.added wrote.handled.follows))
 
 pub ends_done : (options : Options) (w0 w w' : Option Traffic) (a0 a a' : Option (List Entry)) (s s' : State) (content : List ℕ) (standing standing' : Standing) (size : ℕ) →
     Gave content standing standing' → Wrote s content s' (Some 0) w w' a a' → Going options w0 w a0 a s standing size → Ended options status.Done w0 w' a0 a'
@@ -123,7 +143,8 @@ ends_done options w0 w w' a0 a a' s s' content standing standing' size gave wrot
   out = going.out ++ wrote.bytes;
   moments = going.moments;
   answers = going.answers ++ wrote.handled.added;
-  did = moves_writing options going.taken going.out wrote.bytes going.moments going.answers wrote.handled.added w0 w w' a0 a a' going.did wrote.told wrote.handled.answered;
+  did = moves_writing options going.taken going.out wrote.bytes going.moments going.answers wrote.handled.added w0 w w' a0 a a' going.did wrote.told wrote.handled.answered
+      (next_wanted options w0 w a0 a s content standing standing' size _ wrote.handled.added gave wrote.handled.follows going);
   usual = tt;
   outcome = whatever_left w0 options status.Done going.taken (going.out ++ wrote.bytes) (going.answers ++ wrote.handled.added) (λ left.
       plain_by options (going.taken ++ left) (going.answers ++ wrote.handled.added) _ _
@@ -142,7 +163,8 @@ ends_unclean options w0 w w' a0 a a' s s' content standing standing' size gave e
       out = going.out ++ wrote.bytes;
       moments = going.moments;
       answers = going.answers ++ wrote.handled.added;
-      did = moves_writing options going.taken going.out wrote.bytes going.moments going.answers wrote.handled.added w0 w w' a0 a a' going.did wrote.told wrote.handled.answered;
+      did = moves_writing options going.taken going.out wrote.bytes going.moments going.answers wrote.handled.added w0 w w' a0 a a' going.did wrote.told wrote.handled.answered
+          (next_wanted options w0 w a0 a s content standing standing' size _ wrote.handled.added gave wrote.handled.follows going);
       usual = tt;
       outcome = whatever_left w0 options status.Unclean going.taken (going.out ++ wrote.bytes) (going.answers ++ wrote.handled.added) (λ left.
           plain_by options (going.taken ++ left) (going.answers ++ wrote.handled.added) _ _
@@ -157,25 +179,28 @@ pub ends_lacking : (options : Options) (w0 w w' : Option Traffic) (a0 a a' : Opt
 unfolding played
 ends_lacking options w0 w w' a0 a a' s content standing standing' size gave lacked going =
     let failed = lacked.failed in
+    let added = failed.reached.added in
     let next = gave going.taken (length going.handled) going.follows in
     let contents = (frames going.taken).contents in
     let longer = going.handled ++ content ∷ [] in
     let behind_it = drop (length longer) contents in
-    let plays : played options going.taken (going.answers ++ failed.added) ≡ played_to going.out (length going.answers) (Lacks failed.call) =
-    ap (λ (all : List (List ℕ)). play all (fresh options) (going.answers ++ failed.added))
+    let plays : played options going.taken (going.answers ++ added) ≡ played_to going.out (length going.answers) (Lacks failed.call) =
+    ap (λ (all : List (List ℕ)). play all (fresh options) (going.answers ++ added))
     (split_contents contents longer (first_more contents going.handled content going.first next.0) ∙ append_assoc going.handled (content ∷ []) behind_it)
-    ∙ play_one_wants going.handled content behind_it (fresh options) s failed.call going.answers failed.added going.out going.played failed.reacts in
-    let is = plain_by options going.taken (going.answers ++ failed.added) _ _ plays refl in
+    ∙ play_one_wants going.handled content behind_it (fresh options) s failed.call going.answers added going.out going.played
+    (failed_wants s content failed.next added failed.call failed.reached.follows failed.asked) in
+    let is = plain_by options going.taken (going.answers ++ added) _ _ plays refl in
     record {
       taken = going.taken;
       out = going.out ++ [];
       moments = going.moments;
-      answers = going.answers ++ failed.added;
-      did = moves_writing options going.taken going.out [] going.moments going.answers failed.added w0 w w' a0 a a' going.did (lacked.told ∙ nothing_written w) failed.answered;
+      answers = going.answers ++ added;
+      did = moves_writing options going.taken going.out [] going.moments going.answers added w0 w w' a0 a a' going.did (lacked.told ∙ nothing_written w) failed.reached.answered
+          (next_wanted options w0 w a0 a s content standing standing' size failed.next added gave failed.reached.follows going);
       usual = tt;
-      outcome = whatever_left w0 options status.StoreFault going.taken (going.out ++ []) (going.answers ++ failed.added) (λ left. (
+      outcome = whatever_left w0 options status.StoreFault going.taken (going.out ++ []) (going.answers ++ added) (λ left. (
         ap (λ (p : Plain). p.out) is ∙ sym (append-nil going.out),
-        subst (λ n. n ≤ length (going.answers ++ failed.added)) (sym (ap (λ (p : Plain). p.used) is)) (omega (arith, length-append going.answers failed.added)),
+        subst (λ n. n ≤ length (going.answers ++ added)) (sym (ap (λ (p : Plain). p.used) is)) (omega (arith, length-append going.answers added)),
         ap (λ (p : Plain). p.verdict) is,
       ));
     }
@@ -226,13 +251,15 @@ ends_unwritten options w0 w w' a0 a a' s content standing standing' size gave wr
     let next = gave going.taken (length going.handled) going.follows in
     let answers = going.answers ++ wrote.handled.added in
     let longer = going.handled ++ content ∷ [] in
-    let one = play_one_more going.handled content (fresh options) s wrote.state going.answers wrote.handled.added going.out wrote.bytes wrote.end going.played wrote.handled.reacts in
+    let one = play_one_more going.handled content (fresh options) s wrote.state going.answers wrote.handled.added going.out wrote.bytes wrote.end going.played
+    (handled_reacts s wrote.state content wrote.bytes wrote.end wrote.handled.added wrote.handled.follows) in
     record {
       taken = going.taken;
       out = going.out ++ take wrote.sent.size wrote.bytes;
       moments = going.moments;
       answers = answers;
-      did = moves_writing options going.taken going.out (take wrote.sent.size wrote.bytes) going.moments going.answers wrote.handled.added w0 w w' a0 a a' going.did wrote.sent.told wrote.handled.answered;
+      did = moves_writing options going.taken going.out (take wrote.sent.size wrote.bytes) going.moments going.answers wrote.handled.added w0 w w' a0 a a' going.did wrote.sent.told wrote.handled.answered
+          (next_wanted options w0 w a0 a s content standing standing' size _ wrote.handled.added gave wrote.handled.follows going);
       usual = tt;
       outcome = whatever_left w0 options status.WriteFault going.taken (going.out ++ take wrote.sent.size wrote.bytes) answers (λ left.
           let contents = (frames (going.taken ++ left)).contents in
@@ -270,7 +297,7 @@ ends_unread options w0 w w' a0 a s standing size still settled =
       out = going.out;
       moments = going.moments;
       answers = going.answers;
-      did = record { moves = still ∙ going.did.moves; front = going.did.front; answered = going.did.answered; prompt = going.did.prompt };
+      did = record { moves = still ∙ going.did.moves; front = going.did.front; answered = going.did.answered; prompt = going.did.prompt; wanted = going.did.wanted };
       usual = tt;
       outcome = whatever_left w0 options status.ReadFault going.taken going.out going.answers (λ left. (would_go_on options w0 w a0 a s standing size settled, (_, settled_plays options w0 w a0 a s standing size _ settled refl)));
     }
@@ -293,7 +320,7 @@ ends_long options w0 w a0 a s standing size long settled =
 
 same_wire : (options : Options) (taken out : List ℕ) (moments : List Mark) (answers : List Entry) (w0 w w' : Option Traffic) (a0 a : Option (List Entry)) →
     w' ≡ w → Moves options taken out moments answers w0 w a0 a → Moves options taken out moments answers w0 w' a0 a
-same_wire options taken out moments answers w0 w w' a0 a still did = record { moves = still ∙ did.moves; front = did.front; answered = did.answered; prompt = did.prompt }
+same_wire options taken out moments answers w0 w w' a0 a still did = record { moves = still ∙ did.moves; front = did.front; answered = did.answered; prompt = did.prompt; wanted = did.wanted }
 
 -- the input ended, and nothing stands
 pub ends_empty : (options : Options) (w0 w w' : Option Traffic) (a0 a : Option (List Entry)) (s : State) (standing : Standing) (size : ℕ) →

@@ -10,15 +10,19 @@ use Rattle.lsp_framing.specs.Frames.{frames}
 use Rattle.lsp_framing.specs.Standing.{Standing, Follows, IsEmptyOrOpen}
 use Rattle.lsp_framing.proofs.Laws.{contents_stay}
 use Rattle.c11ls.specs.Going.{Going, Settled, Moves, Ended, Outcome, through}
-use Rattle.c11ls.specs.Handled.{Answered}
+use Rattle.c_session.specs.Asking.{Asking, after_all}
+use Rattle.c_session.specs.Handled.{Answered}
+use Rattle.c_session.specs.React.{Outcome as Reply, asks}
 use Rattle.c11ls.specs.Plain.{Played, play, played}
-use Rattle.c11ls.specs.Serve.{IsPrompt, IsThrough}
-use Rattle.c11ls.specs.State.{State, Options, fresh}
+use Rattle.c11ls.specs.Serve.{IsPrompt, IsThrough, EachWanted}
+use Rattle.c_session.specs.State.{State, Options, fresh}
 use Rattle.c11ls.specs.Turn.{Wrote}
 use Rattle.c11ls.specs.declared.status.Status.{Status}
 use Rattle.c11ls.specs.declared.status.Status.TheVariants.{NoMemory}
 use Rattle.c11ls.proofs.Moving.{moves_writing, moves_reading, moves_nothing, moment_at}
 use Rattle.c11ls.proofs.Playing.{play_one_more}
+use Rattle.c11ls.proofs.Reacting.{handled_reacts, reached_wants}
+use Rattle.c11ls.proofs.Wanting.{wanted_next}
 
 -- an outcome that holds whatever is left
 pub whatever_left : (w0 : Option Traffic) (options : Options) (ended : Status) (taken out : List ℕ) (answers : List Entry) →
@@ -64,6 +68,16 @@ all_handled contents handled first all =
     let short : length contents ≤ length handled = omega (arith, all) in
     sym (take_all (length handled) contents short) ∙ first
 
+-- the answers to the content in turn, which its reaction asked for, were wanted
+pub next_wanted : (options : Options) (w0 w : Option Traffic) (a0 a : Option (List Entry)) (s : State) (content : List ℕ) (standing standing' : Standing) (size : ℕ) (asking : Asking Reply) (added : List Entry) →
+    Gave content standing standing' → after_all (asks s content) added ≡ Some asking → (going : Going options w0 w a0 a s standing size) →
+    EachWanted options going.taken (going.answers ++ added)
+next_wanted options w0 w a0 a s content standing standing' size asking added gave reached going =
+    let next = gave going.taken (length going.handled) going.follows in
+    wanted_next options going.taken going.handled content s going.answers added going.out
+    (first_more (frames going.taken).contents going.handled content going.first next.0) going.played
+    (reached_wants s content asking added reached) going.did.wanted
+
 -- one more content was handled, and its reply was written
 pub going_turns : (options : Options) (w0 w w' : Option Traffic) (a0 a a' : Option (List Entry)) (s s' : State) (content : List ℕ) (standing standing' : Standing) (size : ℕ) →
     Gave content standing standing' → Wrote s content s' None w w' a a' →
@@ -76,10 +90,12 @@ going_turns options w0 w w' a0 a a' s s' content standing standing' size gave wr
       out = going.out ++ wrote.bytes;
       moments = going.moments;
       answers = going.answers ++ wrote.handled.added;
-      did = moves_writing options going.taken going.out wrote.bytes going.moments going.answers wrote.handled.added w0 w w' a0 a a' going.did wrote.told wrote.handled.answered;
+      did = moves_writing options going.taken going.out wrote.bytes going.moments going.answers wrote.handled.added w0 w w' a0 a a' going.did wrote.told wrote.handled.answered
+          (next_wanted options w0 w a0 a s content standing standing' size _ wrote.handled.added gave wrote.handled.follows going);
       follows = subst (λ n. Follows going.taken n standing') (sym (one_longer going.handled content)) next.1;
       first = first_more (frames going.taken).contents going.handled content going.first next.0;
-      played = play_one_more going.handled content (fresh options) s s' going.answers wrote.handled.added going.out wrote.bytes None going.played wrote.handled.reacts;
+      played = play_one_more going.handled content (fresh options) s s' going.answers wrote.handled.added going.out wrote.bytes None going.played
+          (handled_reacts s s' content wrote.bytes None wrote.handled.added wrote.handled.follows);
       sized = going.sized;
     }
 

@@ -1,8 +1,6 @@
-pub mod Utf8
-pub mod Floats
-pub mod Handling
 pub mod Reacting
 pub mod Playing
+pub mod Wanting
 pub mod Sending
 pub mod Moving
 pub mod GoingOn
@@ -11,5 +9,3 @@ pub mod Draining
 pub mod Running
 pub mod Adding
 pub mod Serving
-pub mod Publishing
-pub mod Opened

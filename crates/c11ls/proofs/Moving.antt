@@ -7,11 +7,12 @@ use Rattle.io_edges.specs.declared.ends.Mark.{Mark}
 use Rattle.lsp_framing.specs.Frames.{frames}
 use Rattle.lsp_framing.specs.Standing.{IsEmptyOrOpen}
 use Rattle.c11ls.specs.Going.{Moves, moved, mark_at}
-use Rattle.c11ls.specs.Handled.{Answered}
+use Rattle.c_session.specs.Handled.{Answered}
 use Rattle.c11ls.specs.Plain.{Played, Stop, Exited, Lacks, Through, played, plain}
-use Rattle.c11ls.specs.Serve.{IsPrompt, EachPrompt, IsThrough}
-use Rattle.c11ls.specs.State.{Options}
+use Rattle.c11ls.specs.Serve.{IsPrompt, EachPrompt, EachWanted, IsThrough}
+use Rattle.c_session.specs.State.{Options}
 use Rattle.c11ls.proofs.Playing.{IsComplete, play_stays}
+use Rattle.c11ls.proofs.Wanting.{none_wanted, wanted_stays}
 
 pub answered_both : (a0 a a' : Option (List Entry)) (answers added : List Entry) → Answered answers a0 a → Answered added a a' → Answered (answers ++ added) a0 a'
 answered_both None a a' answers added first then = then ∙ ap (option_map (λ told. told ++ added)) first
@@ -54,13 +55,14 @@ each_writes options taken out bytes answers added (moment ∷ moments) each =
 
 -- a reply was written, with further answers of the store
 pub moves_writing : (options : Options) (taken out bytes : List ℕ) (moments : List Mark) (answers added : List Entry) (w0 w w' : Option Traffic) (a0 a a' : Option (List Entry)) →
-    Moves options taken out moments answers w0 w a0 a → w' ≡ option_map (after_write bytes) w → Answered added a a' →
+    Moves options taken out moments answers w0 w a0 a → w' ≡ option_map (after_write bytes) w → Answered added a a' → EachWanted options taken (answers ++ added) →
     Moves options taken (out ++ bytes) moments (answers ++ added) w0 w' a0 a'
-moves_writing options taken out bytes moments answers added w0 w w' a0 a a' did wrote answered = record {
+moves_writing options taken out bytes moments answers added w0 w w' a0 a a' did wrote answered wanted = record {
   moves = wrote_more w0 w w' taken out bytes moments did.moves wrote;
   front = did.front;
   answered = answered_both a0 a a' answers added did.answered answered;
   prompt = each_writes options taken out bytes answers added moments did.prompt;
+  wanted = wanted;
 }
 
 prompt_reads : (options : Options) (taken bytes out : List ℕ) (answers : List Entry) (moment : Mark) →
@@ -126,6 +128,7 @@ moves_reading options taken out b bs moments answers w0 w w' a0 a did read next 
   front = front_more w0 w taken out (b ∷ bs) moments did.moves did.front next;
   answered = did.answered;
   prompt = each_reads options taken (b ∷ bs) out answers moments (moment_at taken out) did.prompt prompt;
+  wanted = wanted_stays options taken (b ∷ bs) answers did.wanted;
 }
 
 begins_empty : (w : Option Traffic) → w ≡ option_map (moved [] [] []) w
@@ -141,4 +144,4 @@ nothing_taken (Some t) = refl
 
 -- a call that did nothing yet
 pub moves_nothing : (options : Options) (w : Option Traffic) (a : Option (List Entry)) → Answered [] a a → Moves options [] [] [] [] w w a a
-moves_nothing options w a answered = record { moves = begins_empty w; front = nothing_taken w; answered = answered; prompt = tt }
+moves_nothing options w a answered = record { moves = begins_empty w; front = nothing_taken w; answered = answered; prompt = tt; wanted = none_wanted options [] }

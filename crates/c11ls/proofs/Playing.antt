@@ -4,8 +4,8 @@ use Rattle.std.proofs.lemmas.List.{drop-append-le}
 use Rattle.std.proofs.Math.Seq.{drop-append_seam}
 use Rattle.io_edges.specs.Store.{Call, Entry}
 use Rattle.c11ls.specs.Plain.{Played, Stop, Exited, Lacks, Through, play, go_on, behind}
-use Rattle.c11ls.specs.React.{Reaction, Replies, Wants, react}
-use Rattle.c11ls.specs.State.{State}
+use Rattle.c_session.specs.React.{Reaction, Replies, Wants, react}
+use Rattle.c_session.specs.State.{State}
 use Rattle.c11ls.proofs.Reacting.{used_by, used_within, reply_stays}
 
 -- the play of further contents, where the first ones were played

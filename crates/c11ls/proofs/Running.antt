@@ -7,13 +7,13 @@ use Rattle.lsp_framing.specs.Standing.{Standing, Follows}
 use Rattle.lsp_framing.specs.declared.FrameKind.{FrameKind}
 use Rattle.lsp_framing.specs.declared.FrameKind.TheVariants.{Cut}
 use Rattle.c11ls.specs.Going.{Going, Settled, Ended, EndsInput}
-use Rattle.c11ls.specs.State.{State, Options}
+use Rattle.c_session.specs.State.{State, Options}
 use Rattle.c11ls.specs.Turn.{IsCounted, Stands}
 use Rattle.c11ls.specs.declared.status.Status.{Status}
 use Rattle.c11ls.specs.declared.status.Status.TheVariants.{Done, Unclean, Usage, BadFrame, ReadFault, WriteFault, StoreFault, NoMemory, LongInput}
 use Rattle.c11ls.proofs.EndingUp.{ends_empty, ends_cut}
 use Rattle.c11ls.proofs.GoingOn.{settled_reads, settled_unfed, whatever_left}
-use Rattle.c11ls.proofs.Handling.{nothing_answered}
+use Rattle.c11ls.proofs.Reacting.{nothing_answered}
 use Rattle.c11ls.proofs.Moving.{moves_nothing}
 
 -- memory was wanted before anything was done

@@ -8,8 +8,8 @@ use Rattle.io_edges.specs.declared.ends.Mark.{Mark}
 use Rattle.c11ls.specs.Calls.{Call, call_of, since, IfTold, AddsUp, IfToldAddsUp}
 use Rattle.c11ls.specs.Going.{Ended, Outcome, IsServing, moved, mark_at}
 use Rattle.c11ls.specs.Plain.{Plain, Done, Unclean, Faulty}
-use Rattle.c11ls.specs.Serve.{HadNoEnd, HasWritten, HasUsed, ArePrompt, IfBadFrame, IsComplete, verdict_on}
-use Rattle.c11ls.specs.State.{Options}
+use Rattle.c11ls.specs.Serve.{HadNoEnd, HasWritten, HasUsed, ArePrompt, AreWanted, IfBadFrame, IsComplete, verdict_on}
+use Rattle.c_session.specs.State.{Options}
 use Rattle.c11ls.specs.Turn.{IsCounted, ReadRose, WriteRose, StoreRose}
 use Rattle.c11ls.specs.declared.status.Status.{Status}
 use Rattle.c11ls.specs.declared.status.Status.TheVariants as status
@@ -100,6 +100,10 @@ tells_used options ended w w' a a' e = if_told options ended w w' a a' (HasUsed 
 pub tells_prompt : (options : Options) (ended : Status) (w w' : Option Traffic) (a a' : Option (List Entry)) → Ended options ended w w' a a' →
     IfTold w w' a a' (ArePrompt options)
 tells_prompt options ended w w' a a' e = if_told options ended w w' a a' (ArePrompt options) e (λ left is. e.did.prompt)
+
+pub tells_wanted : (options : Options) (ended : Status) (w w' : Option Traffic) (a a' : Option (List Entry)) → Ended options ended w w' a a' →
+    IfTold w w' a a' (AreWanted options)
+tells_wanted options ended w w' a a' e = if_told options ended w w' a a' (AreWanted options) e (λ left is. e.did.wanted)
 
 -- the status is that of the verdict, or the call ended early
 status_by : (options : Options) (ended : Status) (left taken out : List ℕ) (moments : List Mark) (answers : List Entry) →

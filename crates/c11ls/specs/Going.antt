@@ -6,10 +6,10 @@ use Rattle.io_edges.specs.declared.ends.Mark.{Mark}
 use Rattle.lsp_framing.specs.Frames.{frames, Empty}
 use Rattle.lsp_framing.specs.declared.FrameKind.TheVariants.{Cut}
 use Rattle.lsp_framing.specs.Standing.{Standing, Follows, IsEmptyOrOpen}
-use Rattle.c11ls.specs.Handled.{Answered}
+use Rattle.c_session.specs.Handled.{Answered}
 use Rattle.c11ls.specs.Plain.{Played, Through, Verdict, Done, Unclean, Faulty, Waiting, play, plain}
-use Rattle.c11ls.specs.Serve.{WouldGoOn, Begins, AreReplies, EachPrompt}
-use Rattle.c11ls.specs.State.{State, Options, fresh}
+use Rattle.c11ls.specs.Serve.{WouldGoOn, Begins, AreReplies, EachPrompt, EachWanted}
+use Rattle.c_session.specs.State.{State, Options, fresh}
 use Rattle.c11ls.specs.declared.status.Status.{Status}
 use Rattle.c11ls.specs.declared.status.Status.TheVariants as status
 
@@ -27,13 +27,14 @@ moved taken out moments t = record {
 }
 
 -- What a call did to its ends, from their state at its entry: it took these bytes from the front of what was left, and
--- wrote those, with the store's answers, and at each moment what was written was prompt.
+-- wrote those, with the store's answers, each of which was wanted, and at each moment what was written was prompt.
 pub record Moves (options : Options) (taken out : List ℕ) (moments : List Mark) (answers : List Entry)
     (w0 w : Option Traffic) (a0 a : Option (List Entry)) : Type 0 where
   pub moves : w ≡ option_map (moved taken out moments) w0
   pub front : IfSome w0 (λ t. take (length taken) t.left ≡ taken)
   pub answered : Answered answers a0 a
   pub prompt : EachPrompt options taken out answers moments
+  pub wanted : EachWanted options taken answers
 
 -- the play of the first contents went through, and used all answers
 abbrev pub through : List ℕ → List Entry → State → Played

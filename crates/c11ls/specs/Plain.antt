@@ -1,8 +1,8 @@
 -- The plain server: it keeps the state alone, and reacts to one content after the other.
 use Rattle.std.specs.Prelude.{ℕ, ◌+◌, List, [], ◌∷◌, ◌++◌, drop, length, Some, None, if◌then◌else◌, ◌==◌}
 use Rattle.io_edges.specs.Store.{Call, Entry}
-use Rattle.c11ls.specs.React.{Reaction, Replies, Wants, react}
-use Rattle.c11ls.specs.State.{State, Options, fresh}
+use Rattle.c_session.specs.React.{Reaction, Replies, Wants, react}
+use Rattle.c_session.specs.State.{State, Options, fresh}
 use Rattle.lsp_framing.specs.Frames.{frames, Rest, Empty, Open, Bad}
 use Rattle.lsp_framing.specs.declared.FrameKind.{FrameKind}
 use Rattle.lsp_framing.specs.declared.FrameKind.TheVariants.{Cut}

@@ -1,13 +1,13 @@
 -- What serving a client promises, by the status that it ends with.
 use Rattle.std.specs.Prelude.{◌≡◌, ◌⊎◌, ◌≤◌, ◌<◌, ◌^◌, ℕ, List, [], ◌∷◌, ◌++◌, take, length}
-use Rattle.io_edges.specs.Store.{Entry}
+use Rattle.io_edges.specs.Store.{Entry, call_of}
 use Rattle.io_edges.specs.declared.ends.Mark.{Mark}
 use Rattle.lsp_framing.specs.Frames.{frames}
 use Rattle.lsp_framing.specs.Standing.{IsEmptyOrOpen}
 use Rattle.lsp_framing.specs.declared.FrameKind.{FrameKind}
 use Rattle.c11ls.specs.Calls.{Call}
 use Rattle.c11ls.specs.Plain.{Stop, Exited, Lacks, Through, Verdict, Done, Unclean, Faulty, Waiting, play, played, plain}
-use Rattle.c11ls.specs.State.{Options, fresh}
+use Rattle.c_session.specs.State.{Options, fresh}
 use Rattle.c11ls.specs.declared.status.Status.{Status}
 use Rattle.c11ls.specs.declared.status.Status.TheVariants as status
 
@@ -83,6 +83,14 @@ EachPrompt options taken out answers (moment ∷ moments) = IsPrompt options tak
 
 abbrev pub ArePrompt : Options → Call → Type 0
 ArePrompt options call = EachPrompt options call.taken call.out call.answers call.moments
+
+-- Each answer of the store was wanted: the plain server, with the answers before it, lacks just that call's.
+abbrev pub EachWanted : Options → List ℕ → List Entry → Type 0
+EachWanted options taken answers = (before : List Entry) (entry : Entry) (behind : List Entry) →
+    answers ≡ before ++ entry ∷ behind → (played options taken before).stop ≡ Lacks (call_of entry)
+
+abbrev pub AreWanted : Options → Call → Type 0
+AreWanted options call = EachWanted options call.taken call.answers
 
 -- the verdict of the plain server on all that the source had left
 abbrev pub verdict_on : Options → Call → Verdict

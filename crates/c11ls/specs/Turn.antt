@@ -2,8 +2,10 @@
 use Rattle.std.specs.Prelude.{◌≡◌, ◌<◌, ℕ, List, ◌++◌, take, Option, Some, None, option_map, false, ◌==◌}
 use Rattle.io_edges.specs.Store.{Entry}
 use Rattle.io_edges.specs.Wire.{Traffic, after_write}
-use Rattle.c11ls.specs.Handled.{Handled, Failed, Answered}
-use Rattle.c11ls.specs.State.{State}
+use Rattle.c_session.specs.Handled as session
+use Rattle.c_session.specs.Handled.{Handled, Failed}
+use Rattle.c_session.specs.React.{asks}
+use Rattle.c_session.specs.State.{State}
 use Rattle.c11ls.specs.declared.status.Status.{Status}
 use Rattle.c11ls.specs.declared.status.Status.TheVariants as status
 
@@ -38,15 +40,14 @@ pub record WroteUnclean (s : State) (content : List ℕ) (s' : State) (w w' : Op
   pub unclean : (end == 0) ≡ false
   pub wrote : Wrote s content s' (Some end) w w' a a'
 
--- nothing was written, whatever the store answered
-pub record GaveUp (w w' : Option Traffic) (a a' : Option (List Entry)) : Type 0 where
-  pub answers : List Entry
-  pub answered : Answered answers a a'
+-- memory was wanted on the way to a reply, of which nothing was written
+pub record GaveUp (s : State) (content : List ℕ) (w w' : Option Traffic) (a a' : Option (List Entry)) : Type 0 where
+  pub gave_up : session.GaveUp (asks s content) a a'
   pub told : w' ≡ w
 
 -- the store failed at a call that the reaction wants
 pub record Lacked (s : State) (content : List ℕ) (w w' : Option Traffic) (a a' : Option (List Entry)) : Type 0 where
-  pub failed : Failed s content a a'
+  pub failed : Failed (asks s content) a a'
   pub told : w' ≡ w
 
 -- What one content did, by the status that it ends the call with, if it does.
@@ -56,7 +57,7 @@ Turned (Some status.Done) s content s' w w' a a' = Wrote s content s' (Some 0) w
 Turned (Some status.Unclean) s content s' w w' a a' = WroteUnclean s content s' w w' a a'
 Turned (Some status.WriteFault) s content s' w w' a a' = WroteFront s content w w' a a'
 Turned (Some status.StoreFault) s content s' w w' a a' = Lacked s content w w' a a'
-Turned (Some status.NoMemory) s content s' w w' a a' = GaveUp w w' a a'
+Turned (Some status.NoMemory) s content s' w w' a a' = GaveUp s content w w' a a'
 Turned (Some status.Usage) s content s' w w' a a' = ⊥
 Turned (Some (status.BadFrame place kind)) s content s' w w' a a' = ⊥
 Turned (Some status.ReadFault) s content s' w w' a a' = ⊥

@@ -5,15 +5,12 @@ ghost use Rattle.std.specs.Prelude.{◌≡◌, ◌⊎◌, ◌<◌, false};
 ghost use Rattle.c11ls.specs.Words.{texts, are_grammatical};
 ghost use Rattle.c11ls.specs.declared.status.Status.TheVariants as Status;
 
-mod diagnostics;
-mod documents;
 mod lines;
-mod message;
-mod replies;
 mod run;
 mod serve;
-mod session;
 mod status;
+#[cfg(test)]
+mod talks;
 #[cfg(test)]
 mod tests;
 mod turn;

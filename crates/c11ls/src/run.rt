@@ -2,13 +2,13 @@
 ghost use Rattle.std.specs.Prelude.{◌≡◌, ◌+◌, ◌<◌, ◌≤◌, ◌^◌, length, take, option_map, IfOk, IfSome, OnErr, MatchResult, vec_len, Some, []};
 ghost use Rattle.io_edges.specs.Wire.{after_read};
 ghost use Rattle.c11ls.specs.Going.{Drained, Ended, EndsInput};
-ghost use Rattle.c11ls.specs.Sessions.{state_of};
-ghost use Rattle.c11ls.specs.State.{no_options};
+ghost use Rattle.c_session.specs.Sessions.{state_of};
+ghost use Rattle.c_session.specs.State.{no_options};
 ghost use Rattle.c11ls.specs.Turn.{IsCounted};
 
-use crate::session::Session;
 use crate::status::Status;
 use crate::turn::turn;
+use c_session::Session;
 use io_edges::{Failed, Store, Wire};
 use lsp_framing::{FrameError, FrameKind, Frames};
 use std::alloc::{AllocError, Global};

@@ -5,7 +5,7 @@ ghost use Rattle.c11ls.specs.Codes.{line_of};
 ghost use Rattle.c11ls.specs.Going.{Ended};
 ghost use Rattle.c11ls.specs.Lines.{WritesLine};
 ghost use Rattle.c11ls.specs.Plain.{Done, Unclean, Faulty};
-ghost use Rattle.c11ls.specs.Serve.{HadNoEnd, HasWritten, HasUsed, ArePrompt, IfBadFrame, IsComplete, verdict_on};
+ghost use Rattle.c11ls.specs.Serve.{HadNoEnd, HasWritten, HasUsed, ArePrompt, AreWanted, IfBadFrame, IsComplete, verdict_on};
 ghost use Rattle.c11ls.specs.Turn.{IsCounted};
 ghost use Rattle.c11ls.specs.Words.{texts, are_grammatical, serves, options_of};
 ghost use Rattle.std.specs.Prelude.{Some};
@@ -87,6 +87,10 @@ pub fn serve<W: Wire, E: Sink, D: Store, L: Ledger>(
     // The store's answers were all used, but for the message in which the call ended early.
     ensures answers { serves (texts words.now) ≡ true → IfTold (W.told wire.old) (W.told wire.new) (D.answers store.old) (D.answers store.new)
         (HasUsed (options_of (texts words.now)) result) }
+
+    // Each answer of the store was wanted by the plain server with the answers before it, whatever the status.
+    ensures wanted { serves (texts words.now) ≡ true → IfTold (W.told wire.old) (W.told wire.new) (D.answers store.old) (D.answers store.new)
+        (AreWanted (options_of (texts words.now))) }
 
     // Each reply was written before more was read, and nothing was read after the end.
     ensures marks { serves (texts words.now) ≡ true → IfTold (W.told wire.old) (W.told wire.new) (D.answers store.old) (D.answers store.new)

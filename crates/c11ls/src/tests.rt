@@ -3,6 +3,9 @@ ghost use Rattle.std.specs.Prelude.{◌≡◌, ◌<◌};
 
 use crate::serve::serve;
 use crate::status::Status;
+use crate::talks::{
+    DOCUMENTS, FOLDER, IN_UTF_8, IN_UTF_16, IN_UTF_32, PHASES, REFUSALS, UNREADABLE,
+};
 use io_edges::{MemSink, MemStore, MemWire};
 use lsp_framing::FrameKind;
 use std::alloc::{AllocError, Global};
@@ -17,26 +20,30 @@ const HANDSHAKE: &[u8] =
 
 /// The responses to the two requests.
 const REPLIES: &[u8] =
-    b"Content-Length: 129\r\n\r\n{\"id\":1,\"jsonrpc\":\"2.0\",\"result\":{\"capabilities\":{\"positionEncoding\":\"utf-16\",\"textDocumentSync\":{\"change\":0,\"openClose\":true}}}}Content-Length: 38\r\n\r\n{\"id\":2,\"jsonrpc\":\"2.0\",\"result\":null}";
+    b"Content-Length: 129\r\n\r\n{\"id\":1,\"jsonrpc\":\"2.0\",\"result\":{\"capabilities\":{\"positionEncoding\":\"utf-16\",\"textDocumentSync\":{\"change\":2,\"openClose\":true}}}}Content-Length: 38\r\n\r\n{\"id\":2,\"jsonrpc\":\"2.0\",\"result\":null}";
 
-/// The handshake with a document that is opened behind `initialized`.
-const OPENING: &[u8] =
-    b"Content-Length: 75\r\n\r\n{\"jsonrpc\":\"2.0\",\"id\":1,\"method\":\"initialize\",\"params\":{\"capabilities\":{}}}Content-Length: 52\r\n\r\n{\"jsonrpc\":\"2.0\",\"method\":\"initialized\",\"params\":{}}Content-Length: 140\r\n\r\n{\"jsonrpc\":\"2.0\",\"method\":\"textDocument/didOpen\",\"params\":{\"textDocument\":{\"uri\":\"file:///p/a.c\",\"languageId\":\"c\",\"version\":1,\"text\":\"/*\"}}}Content-Length: 44\r\n\r\n{\"jsonrpc\":\"2.0\",\"id\":2,\"method\":\"shutdown\"}Content-Length: 33\r\n\r\n{\"jsonrpc\":\"2.0\",\"method\":\"exit\"}";
+/// `initialize` with a root.
+const ROOTED: &[u8] =
+    b"Content-Length: 97\r\n\r\n{\"jsonrpc\":\"2.0\",\"id\":1,\"method\":\"initialize\",\"params\":{\"rootUri\":\"file:///p\",\"capabilities\":{}}}";
 
-/// The responses, and the document's one fault between them.
-const OPENED: &[u8] =
-    b"Content-Length: 129\r\n\r\n{\"id\":1,\"jsonrpc\":\"2.0\",\"result\":{\"capabilities\":{\"positionEncoding\":\"utf-16\",\"textDocumentSync\":{\"change\":0,\"openClose\":true}}}}Content-Length: 263\r\n\r\n{\"jsonrpc\":\"2.0\",\"method\":\"textDocument/publishDiagnostics\",\"params\":{\"diagnostics\":[{\"code\":101,\"message\":\"open comment\",\"range\":{\"end\":{\"character\":2,\"line\":0},\"start\":{\"character\":0,\"line\":0}},\"severity\":1,\"source\":\"c11ls\"}],\"uri\":\"file:///p/a.c\",\"version\":1}}Content-Length: 38\r\n\r\n{\"id\":2,\"jsonrpc\":\"2.0\",\"result\":null}";
+/// Paths with their bytes.
+type Files = &'static [(&'static str, &'static [u8])];
 
-/// A content of each kind, in each phase.
-const TABLE: &[u8] =
-    b"Content-Length: 38\r\n\r\n{\"id\":7,\"method\":\"textDocument/hover\"}Content-Length: 52\r\n\r\n{\"jsonrpc\":\"2.0\",\"method\":\"initialized\",\"params\":{}}Content-Length: 105\r\n\r\n{\"method\":\"textDocument/didOpen\",\"params\":{\"textDocument\":{\"uri\":\"file:///p/a.c\",\"version\":1,\"text\":\"\"}}}Content-Length: 75\r\n\r\n{\"jsonrpc\":\"2.0\",\"id\":1,\"method\":\"initialize\",\"params\":{\"capabilities\":{}}}Content-Length: 75\r\n\r\n{\"jsonrpc\":\"2.0\",\"id\":1,\"method\":\"initialize\",\"params\":{\"capabilities\":{}}}Content-Length: 25\r\n\r\n{\"id\":\"q\",\"method\":\"$/x\"}Content-Length: 25\r\n\r\n{\"id\":-1,\"method\":\"exit\"}Content-Length: 40\r\n\r\n{\"id\":18446744073709551615,\"method\":\"x\"}Content-Length: 23\r\n\r\n{\"id\":1.5,\"method\":\"x\"}Content-Length: 24\r\n\r\n{\"id\":null,\"method\":\"x\"}Content-Length: 19\r\n\r\n{\"id\":1,\"method\":2}Content-Length: 2\r\n\r\n[]Content-Length: 1\r\n\r\n{Content-Length: 1\r\n\r\n3Content-Length: 8\r\n\r\n{\"id\":1}Content-Length: 16\r\n\r\n{\"method\":\"$/x\"}Content-Length: 105\r\n\r\n{\"method\":\"textDocument/didOpen\",\"params\":{\"textDocument\":{\"uri\":\"file:///p/a.h\",\"version\":1,\"text\":\"\"}}}Content-Length: 114\r\n\r\n{\"method\":\"textDocument/didOpen\",\"params\":{\"textDocument\":{\"uri\":\"file:///p/a.c\",\"version\":2147483648,\"text\":\"\"}}}Content-Length: 95\r\n\r\n{\"method\":\"textDocument/didOpen\",\"params\":{\"textDocument\":{\"uri\":\"file:///p/a.c\",\"version\":1}}}Content-Length: 33\r\n\r\n{\"method\":\"textDocument/didOpen\"}Content-Length: 130\r\n\r\n{\"method\":\"textDocument/didOpen\",\"params\":{\"textDocument\":{\"uri\":\"file:///p/b.c\",\"version\":-2147483648,\"text\":\"\\\"\xf0\x9f\x98\x80\\\"@\\r\\n'x\"}}}Content-Length: 105\r\n\r\n{\"method\":\"textDocument/didOpen\",\"params\":{\"textDocument\":{\"uri\":\"file:///p/a.c\",\"version\":1,\"text\":\"\"}}}Content-Length: 44\r\n\r\n{\"jsonrpc\":\"2.0\",\"id\":2,\"method\":\"shutdown\"}Content-Length: 44\r\n\r\n{\"jsonrpc\":\"2.0\",\"id\":2,\"method\":\"shutdown\"}Content-Length: 52\r\n\r\n{\"jsonrpc\":\"2.0\",\"method\":\"initialized\",\"params\":{}}Content-Length: 105\r\n\r\n{\"method\":\"textDocument/didOpen\",\"params\":{\"textDocument\":{\"uri\":\"file:///p/c.c\",\"version\":1,\"text\":\"\"}}}Content-Length: 33\r\n\r\n{\"jsonrpc\":\"2.0\",\"method\":\"exit\"}Content-Length: 75\r\n\r\n{\"jsonrpc\":\"2.0\",\"id\":1,\"method\":\"initialize\",\"params\":{\"capabilities\":{}}}";
+/// A root with two sources.
+const SOURCES: Files = &[("/p/b.c", b"@"), ("/p/a.c", b"/*")];
 
-/// The reply to each, as the protocol of the first document has it.
-const TABLE_REPLIES: &[u8] =
-    b"Content-Length: 68\r\n\r\n{\"error\":{\"code\":-32601,\"message\":\"not yet\"},\"id\":7,\"jsonrpc\":\"2.0\"}Content-Length: 85\r\n\r\n{\"jsonrpc\":\"2.0\",\"method\":\"window/logMessage\",\"params\":{\"message\":\"NotYet\",\"type\":1}}Content-Length: 85\r\n\r\n{\"jsonrpc\":\"2.0\",\"method\":\"window/logMessage\",\"params\":{\"message\":\"NotYet\",\"type\":1}}Content-Length: 129\r\n\r\n{\"id\":1,\"jsonrpc\":\"2.0\",\"result\":{\"capabilities\":{\"positionEncoding\":\"utf-16\",\"textDocumentSync\":{\"change\":0,\"openClose\":true}}}}Content-Length: 68\r\n\r\n{\"error\":{\"code\":-32601,\"message\":\"not yet\"},\"id\":1,\"jsonrpc\":\"2.0\"}Content-Length: 70\r\n\r\n{\"error\":{\"code\":-32601,\"message\":\"not yet\"},\"id\":\"q\",\"jsonrpc\":\"2.0\"}Content-Length: 69\r\n\r\n{\"error\":{\"code\":-32601,\"message\":\"not yet\"},\"id\":-1,\"jsonrpc\":\"2.0\"}Content-Length: 87\r\n\r\n{\"error\":{\"code\":-32601,\"message\":\"not yet\"},\"id\":18446744073709551615,\"jsonrpc\":\"2.0\"}Content-Length: 85\r\n\r\n{\"jsonrpc\":\"2.0\",\"method\":\"window/logMessage\",\"params\":{\"message\":\"NotYet\",\"type\":1}}Content-Length: 85\r\n\r\n{\"jsonrpc\":\"2.0\",\"method\":\"window/logMessage\",\"params\":{\"message\":\"NotYet\",\"type\":1}}Content-Length: 85\r\n\r\n{\"jsonrpc\":\"2.0\",\"method\":\"window/logMessage\",\"params\":{\"message\":\"NotYet\",\"type\":1}}Content-Length: 85\r\n\r\n{\"jsonrpc\":\"2.0\",\"method\":\"window/logMessage\",\"params\":{\"message\":\"NotYet\",\"type\":1}}Content-Length: 85\r\n\r\n{\"jsonrpc\":\"2.0\",\"method\":\"window/logMessage\",\"params\":{\"message\":\"NotYet\",\"type\":1}}Content-Length: 85\r\n\r\n{\"jsonrpc\":\"2.0\",\"method\":\"window/logMessage\",\"params\":{\"message\":\"NotYet\",\"type\":1}}Content-Length: 85\r\n\r\n{\"jsonrpc\":\"2.0\",\"method\":\"window/logMessage\",\"params\":{\"message\":\"NotYet\",\"type\":1}}Content-Length: 85\r\n\r\n{\"jsonrpc\":\"2.0\",\"method\":\"window/logMessage\",\"params\":{\"message\":\"NotYet\",\"type\":1}}Content-Length: 85\r\n\r\n{\"jsonrpc\":\"2.0\",\"method\":\"window/logMessage\",\"params\":{\"message\":\"NotYet\",\"type\":1}}Content-Length: 85\r\n\r\n{\"jsonrpc\":\"2.0\",\"method\":\"window/logMessage\",\"params\":{\"message\":\"NotYet\",\"type\":1}}Content-Length: 85\r\n\r\n{\"jsonrpc\":\"2.0\",\"method\":\"window/logMessage\",\"params\":{\"message\":\"NotYet\",\"type\":1}}Content-Length: 85\r\n\r\n{\"jsonrpc\":\"2.0\",\"method\":\"window/logMessage\",\"params\":{\"message\":\"NotYet\",\"type\":1}}Content-Length: 418\r\n\r\n{\"jsonrpc\":\"2.0\",\"method\":\"textDocument/publishDiagnostics\",\"params\":{\"diagnostics\":[{\"code\":103,\"message\":\"stray character\",\"range\":{\"end\":{\"character\":5,\"line\":0},\"start\":{\"character\":4,\"line\":0}},\"severity\":1,\"source\":\"c11ls\"},{\"code\":102,\"message\":\"open literal\",\"range\":{\"end\":{\"character\":2,\"line\":1},\"start\":{\"character\":0,\"line\":1}},\"severity\":1,\"source\":\"c11ls\"}],\"uri\":\"file:///p/b.c\",\"version\":-2147483648}}Content-Length: 85\r\n\r\n{\"jsonrpc\":\"2.0\",\"method\":\"window/logMessage\",\"params\":{\"message\":\"NotYet\",\"type\":1}}Content-Length: 38\r\n\r\n{\"id\":2,\"jsonrpc\":\"2.0\",\"result\":null}Content-Length: 68\r\n\r\n{\"error\":{\"code\":-32601,\"message\":\"not yet\"},\"id\":2,\"jsonrpc\":\"2.0\"}Content-Length: 85\r\n\r\n{\"jsonrpc\":\"2.0\",\"method\":\"window/logMessage\",\"params\":{\"message\":\"NotYet\",\"type\":1}}";
+/// Sources, files whose text is shown nowhere, and files that aren't read.
+const TREE: Files = &[
+    ("/p/b.c", b"@"),
+    ("/p/a.c", b"/*"),
+    ("/p/c.txt", b"@"),
+    ("/p/h.h", b"@"),
+    ("/p/compile_commands.json", b"[]"),
+    ("/q/z.c", b"@"),
+];
 
 /// A client's bytes, the size of the pieces in which they come, the reads that fail, the bytes that the sink takes in a
-/// call, and its calls that fail.
+/// call, its calls that fail, the files of the store, and its reads that fail.
 #[derive(Clone, Copy)]
 struct Client<'a> {
     bytes: &'a [u8],
@@ -44,6 +51,8 @@ struct Client<'a> {
     failing_reads: &'a [u64],
     most: usize,
     failing_writes: &'a [u64],
+    files: Files,
+    failing_files: &'a [u64],
 }
 
 /// What came of a run: the status, what the sink got, and the line on the error sink.
@@ -62,6 +71,17 @@ fn pieces_of(alloc: Global, bytes: &[u8], size: usize) -> Result<Vec<Vec<u8>>, A
         pieces.push(Vec::from_slice(alloc, piece)?)?;
     }
     Ok(pieces)
+}
+
+fn files_of(alloc: Global, files: Files) -> Result<Vec<(String, Vec<u8>)>, AllocError> {
+    let mut copies = Vec::new(alloc);
+    for (path, bytes) in files {
+        copies.push((
+            String::from_str(alloc, path)?,
+            Vec::from_slice(alloc, bytes)?,
+        ))?;
+    }
+    Ok(copies)
 }
 
 fn played<L: Ledger>(
@@ -85,7 +105,8 @@ fn played<L: Ledger>(
     let sink = MemSink::new(alloc, client.most, client.failing_writes.to_vec(alloc)?)?;
     let mut wire = MemWire::new(alloc, pieces, client.failing_reads.to_vec(alloc)?, sink)?;
     let mut errs = MemSink::new(alloc, 7, Vec::new(alloc))?;
-    let mut store = MemStore::new(alloc, Vec::new(alloc), Vec::new(alloc));
+    let files = files_of(alloc, client.files)?;
+    let mut store = MemStore::new(alloc, files, client.failing_files.to_vec(alloc)?);
     let status = serve(alloc, words, &mut wire, &mut errs, &mut store, &mut steps);
     Ok(Some(Outcome {
         status,
@@ -100,11 +121,13 @@ const WHOLE: Client<'static> = Client {
     failing_reads: &[],
     most: 4096,
     failing_writes: &[],
+    files: &[],
+    failing_files: &[],
 };
 
 /// A whole number of replies, or a front of them, as the rows of a table: the client, the status, what is written, the
 /// line.
-fn rows() -> [(Client<'static>, Status, &'static [u8], &'static str); 12] {
+fn rows() -> [(Client<'static>, Status, &'static [u8], &'static str); 11] {
     let cut = "c11ls: bad frame at byte 291: Cut\n";
     let behind = HANDSHAKE.split_at(HANDSHAKE.len() - 55).0;
     let whole = HANDSHAKE.split_at(HANDSHAKE.len() - 1).0;
@@ -180,32 +203,23 @@ fn rows() -> [(Client<'static>, Status, &'static [u8], &'static str); 12] {
         ),
         (
             Client {
-                bytes: OPENING,
+                bytes: b"content-length: 2\r\n\r\n{}",
                 ..WHOLE
             },
-            Status::Done,
-            OPENED,
+            Status::Unclean,
+            b"",
             "",
         ),
         (
             Client {
-                bytes: TABLE,
+                bytes: ROOTED,
+                files: SOURCES,
+                failing_files: &[2],
                 ..WHOLE
             },
-            Status::Done,
-            TABLE_REPLIES,
-            "",
-        ),
-        (
-            Client {
-                bytes: TABLE,
-                piece: 7,
-                most: 3,
-                ..WHOLE
-            },
-            Status::Done,
-            TABLE_REPLIES,
-            "",
+            Status::StoreFault,
+            b"",
+            "c11ls: store fault\n",
         ),
         (
             Client {
@@ -245,6 +259,82 @@ fn takes_no_words(rt: HostRuntime) -> Result<(), Fail> {
             found.line.as_slice(),
             b"c11ls: usage: c11ls [--include LIST] [--define LIST] [--generate N]\n".as_slice()
         );
+    }
+    Ok(())
+}
+
+/// Adds a content behind its header.
+fn push_frame(alloc: Global, out: &mut Vec<u8>, content: &str) -> Result<(), AllocError> {
+    let size = content.len();
+    let header = format!(in alloc; "Content-Length: {size}\r\n\r\n")?;
+    out.extend_from_slice(header.as_bytes())?;
+    out.extend_from_slice(content.as_bytes())?;
+    Ok(())
+}
+
+/// What one side says in a conversation, in frames.
+fn said_by(alloc: Global, side: &str, talk: &str) -> Result<Vec<u8>, AllocError> {
+    let mut out = Vec::new(alloc);
+    for line in talk.lines() {
+        if let Some(content) = line.strip_prefix(side) {
+            push_frame(alloc, &mut out, content)?;
+        }
+    }
+    Ok(out)
+}
+
+/// Each conversation, with the files of the store.
+fn talks() -> [(&'static str, Files); 8] {
+    [
+        (DOCUMENTS, &[]),
+        (REFUSALS, &[]),
+        (PHASES, &[]),
+        (IN_UTF_8, &[]),
+        (IN_UTF_16, &[]),
+        (IN_UTF_32, &[]),
+        (FOLDER, TREE),
+        (UNREADABLE, &[("/p/a.c", b"\xff")]),
+    ]
+}
+
+#[test]
+fn keeps_to_the_protocol(rt: HostRuntime) -> Result<(), Fail> {
+    let alloc = rt.alloc();
+    for (talk, files) in talks() {
+        let asked = said_by(alloc, "> ", talk)?;
+        let answered = said_by(alloc, "< ", talk)?;
+        let client = Client {
+            bytes: asked.as_slice(),
+            files,
+            ..WHOLE
+        };
+        let found = played::<Brand>(alloc, Blank::new(1), &[], client)?;
+        assert!(rt; found.is_some());
+        if let Some(found) = found {
+            assert_eq!(rt; found.written.as_slice(), answered.as_slice());
+            assert_eq!(rt; found.status, Status::Done);
+            assert!(rt; found.line.is_empty());
+        }
+    }
+    Ok(())
+}
+
+#[test]
+fn takes_a_conversation_in_small_pieces(rt: HostRuntime) -> Result<(), Fail> {
+    let alloc = rt.alloc();
+    let asked = said_by(alloc, "> ", PHASES)?;
+    let answered = said_by(alloc, "< ", PHASES)?;
+    let client = Client {
+        bytes: asked.as_slice(),
+        piece: 7,
+        most: 3,
+        ..WHOLE
+    };
+    let found = played::<Brand>(alloc, Blank::new(1), &[], client)?;
+    assert!(rt; found.is_some());
+    if let Some(found) = found {
+        assert_eq!(rt; found.written.as_slice(), answered.as_slice());
+        assert_eq!(rt; found.status, Status::Done);
     }
     Ok(())
 }

@@ -1,11 +1,11 @@
 // Handling one content, and writing its reply.
 ghost use Rattle.std.specs.Prelude.{◌≡◌, ◌+◌, ◌<◌, ◌^◌};
-ghost use Rattle.c11ls.specs.Sessions.{state_of};
+ghost use Rattle.c_session.specs.Sessions.{state_of};
 ghost use Rattle.c11ls.specs.Turn.{Turned, IsCounted};
 
-use crate::session::{Session, SessionError};
 use crate::status::Status;
 use crate::writing::write_reply;
+use c_session::{Session, SessionError};
 use io_edges::{Store, Wire};
 use std::sync::ledger::Ledger;
 use steps::Steps;

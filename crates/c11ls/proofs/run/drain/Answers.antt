@@ -1,7 +1,7 @@
-use Rattle.c11ls.specs.Sessions.{state_of}
-use Rattle.c11ls.specs.State.{no_options}
-use Rattle.c11ls.proofs.Draining.{turn_ends, stands_on, no_memory_ends}
-use Rattle.c11ls.proofs.EndingUp.{ends_bad}
+use Rattle.c_session.specs.Sessions.{state_of}
+use Rattle.c_session.specs.State.{no_options}
+use Rattle.c11ls.proofs.Draining.{turn_ends, stands_on}
+use Rattle.c11ls.proofs.EndingUp.{ends_bad, ends_before}
 use Rattle.c11ls.proofs.GoingOn.{going_turns, going_settles}
 use Rattle.c11ls.proofs.run.drain.Goals as goal
 
@@ -18,7 +18,7 @@ returns-in-Err-Fault-clause-drained g c =
 
 pub returns-in-Err-NoMemory-clause-drained : goal.returns-in-Err-NoMemory-clause-drained
 returns-in-Err-NoMemory-clause-drained g c =
-    λ w0 a0 size going. no_memory_ends no_options w0 _ a0 _ _ _ size (c.frames.invariant.goes w0 a0 size going)
+    λ w0 a0 size going. ends_before no_options w0 _ a0 _ _ _ size (c.frames.invariant.goes w0 a0 size going)
 
 pub returns-in-Some-clause-drained : goal.returns-in-Some-clause-drained
 returns-in-Some-clause-drained g c =

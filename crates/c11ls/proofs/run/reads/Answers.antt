@@ -1,9 +1,9 @@
 use Rattle.std.proofs.Common.{◌∙◌, ap, refl, take, Some, arith}
-use Rattle.c11ls.specs.State.{no_options}
+use Rattle.c_session.specs.State.{no_options}
 use Rattle.c11ls.proofs.Draining.{stands_on}
 use Rattle.c11ls.proofs.EndingUp.{ends_long, ends_unread}
 use Rattle.c11ls.proofs.GoingOn.{going_begins, settled_size}
-use Rattle.c11ls.proofs.Handling.{nothing_answered}
+use Rattle.c11ls.proofs.Reacting.{nothing_answered}
 use Rattle.c11ls.proofs.Running.{read_nothing, input_ends, input_counted, counted_on, reads_on, reads_unfed}
 use Rattle.c11ls.proofs.run.reads.Goals as goal
 

@@ -1,6 +1,6 @@
-use Rattle.c11ls.specs.State.{no_options}
+use Rattle.c_session.specs.State.{no_options}
 use Rattle.c11ls.specs.declared.status.Status.TheVariants as status
-use Rattle.c11ls.proofs.Serving.{tells_consumed, tells_written, tells_used, tells_prompt, tells_done, tells_unclean, tells_bad_frame, tells_long, tells_no_end, tells_complete, not_read, not_write, not_store, ended_as}
+use Rattle.c11ls.proofs.Serving.{tells_consumed, tells_written, tells_used, tells_prompt, tells_wanted, tells_done, tells_unclean, tells_bad_frame, tells_long, tells_no_end, tells_complete, not_read, not_write, not_store, ended_as}
 use Rattle.c11ls.proofs.serve.serve.Goals as goal
 
 pub returns-clause-consumed : goal.returns-clause-consumed
@@ -11,6 +11,9 @@ returns-clause-written g c = λ serves. tells_written no_options _ _ _ _ _ (c.an
 
 pub returns-clause-answers : goal.returns-clause-answers
 returns-clause-answers g c = λ serves. tells_used no_options _ _ _ _ _ (c.answer-status.ensures.ended serves)
+
+pub returns-clause-wanted : goal.returns-clause-wanted
+returns-clause-wanted g c = λ serves. tells_wanted no_options _ _ _ _ _ (c.answer-status.ensures.ended serves)
 
 pub returns-clause-marks : goal.returns-clause-marks
 returns-clause-marks g c = λ serves. tells_prompt no_options _ _ _ _ _ (c.answer-status.ensures.ended serves)

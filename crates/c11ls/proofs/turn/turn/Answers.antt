@@ -1,8 +1,8 @@
 use Rattle.std.proofs.Common.{◌≡◌, ℕ, List, Option, subst}
 use Rattle.io_edges.specs.Store.{Entry}
 use Rattle.io_edges.specs.Wire.{Traffic}
-use Rattle.c11ls.specs.Handled.{Handled}
-use Rattle.c11ls.specs.State.{State}
+use Rattle.c_session.specs.Handled.{Handled}
+use Rattle.c_session.specs.State.{State}
 use Rattle.c11ls.specs.Turn.{SentFront, WroteFront}
 use Rattle.c11ls.proofs.turn.turn.Goals as goal
 
