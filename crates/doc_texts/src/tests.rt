@@ -91,6 +91,51 @@ fn wholes(alloc: Global, count: usize) -> Result<Vec<Change>, AllocError> {
     Ok(changes)
 }
 
+/// Loads so many letters.
+fn load(
+    alloc: Global,
+    docs: &mut Docs,
+    path: &Path,
+    count: usize,
+) -> Result<Option<DocError>, AllocError> {
+    let bytes = letters(alloc, count)?;
+    Ok(refusal(docs.load(path, Some(&bytes))))
+}
+
+/// Opens a document of so many letters.
+fn open(
+    alloc: Global,
+    docs: &mut Docs,
+    path: &Path,
+    count: usize,
+) -> Result<Option<DocError>, AllocError> {
+    let text = letter_text(alloc, count)?;
+    Ok(refusal(docs.open_doc(path, "", 1, text.as_str())))
+}
+
+/// Changes the first line of a document.
+fn change(
+    alloc: Global,
+    docs: &mut Docs,
+    path: &Path,
+    version: i32,
+    changes: &[(u32, u32, &'static str)],
+) -> Result<Option<DocError>, AllocError> {
+    let changes = parts(alloc, changes)?;
+    Ok(refusal(docs.change(path, version, &changes, Encoding::Utf16)))
+}
+
+/// Changes a document to so many letters, and then to `int a;`.
+fn rewrite(
+    alloc: Global,
+    docs: &mut Docs,
+    path: &Path,
+    count: usize,
+) -> Result<Option<DocError>, AllocError> {
+    let changes = wholes(alloc, count)?;
+    Ok(refusal(docs.change(path, 9, &changes, Encoding::Utf8)))
+}
+
 /// Makes one call.
 fn make(
     alloc: Global,
@@ -98,27 +143,21 @@ fn make(
     path: &Path,
     call: &Call,
 ) -> Result<Option<DocError>, AllocError> {
-    let answer = match call {
-        Call::Load(bytes) => docs.load(path, Some(bytes)),
-        Call::LoadLetters(count) => docs.load(path, Some(&letters(alloc, *count)?)),
-        Call::Unload => docs.load(path, None),
-        Call::Open(version, text) => docs.open_doc(path, "file:///p/%61", *version, text),
-        Call::OpenLetters(count) => docs.open_doc(
+    match call {
+        Call::Load(bytes) => Ok(refusal(docs.load(path, Some(bytes)))),
+        Call::LoadLetters(count) => load(alloc, docs, path, *count),
+        Call::Unload => Ok(refusal(docs.load(path, None))),
+        Call::Open(version, text) => Ok(refusal(docs.open_doc(
             path,
-            "",
-            1,
-            letter_text(alloc, *count)?.as_str(),
-        ),
-        Call::Change(version, changes) => docs.change(
-            path,
+            "file:///p/%61",
             *version,
-            &parts(alloc, changes)?,
-            Encoding::Utf16,
-        ),
-        Call::ChangeLetters(count) => docs.change(path, 9, &wholes(alloc, *count)?, Encoding::Utf8),
-        Call::Close => docs.close_doc(path),
-    };
-    Ok(refusal(answer))
+            text,
+        ))),
+        Call::OpenLetters(count) => open(alloc, docs, path, *count),
+        Call::Change(version, changes) => change(alloc, docs, path, *version, changes),
+        Call::ChangeLetters(count) => rewrite(alloc, docs, path, *count),
+        Call::Close => Ok(refusal(docs.close_doc(path))),
+    }
 }
 
 /// Whether a text is the one that is wanted.
