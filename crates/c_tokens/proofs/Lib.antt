@@ -18,3 +18,4 @@ pub mod NextLemmas
 pub mod OpenLemmas
 pub mod ReadingLemmas
 pub mod RunLemmas
+pub mod WordLemmas

@@ -1,0 +1,5 @@
+use Rattle.c_tokens.proofs.WordLemmas.{identifier_token}
+use Rattle.c_tokens.proofs.laws.identifiers_are_tokens.Goals as goal
+
+pub returns : goal.returns
+returns c = identifier_token c.args._text.now
