@@ -19,3 +19,4 @@ pub mod OpenLemmas
 pub mod ReadingLemmas
 pub mod RunLemmas
 pub mod WordLemmas
+pub mod WordReads

@@ -12,10 +12,10 @@ use Rattle.c_tokens.specs.declared.classes.State.TheVariants.{Word}
 use Rattle.c_tokens.specs.Cut.{cut}
 use Rattle.c_tokens.specs.Logical.{Character, codes_of, first_unit, first_source, backslash_width, begins_trigraph, continues, characters}
 use Rattle.c_tokens.specs.Classes.{run, next_state, is_nondigit, is_word_part}
-use Rattle.c_tokens.specs.Languages.{accepts}
+use Rattle.c_tokens.specs.Languages.{accepts, is_identifier}
 use Rattle.c_tokens.specs.Pieces.{Piece, pieces, after_piece, front_of, first_front, token_front, literal_prefix, plain_front, is_quote, is_prefix, spelling}
-use Rattle.c_tokens.specs.Lexed.{token_of}
-use Rattle.c_tokens.specs.Laws.{whole_token, IdentifierIsToken}
+use Rattle.c_tokens.specs.Lexed.{token_of, lexed}
+use Rattle.c_tokens.specs.Laws.{whole_token}
 use Rattle.c_tokens.proofs.FrontLemmas.{if_cases}
 use Rattle.c_tokens.proofs.LongestLemmas.{first_part, second_part}
 use Rattle.c_tokens.proofs.ClosedPieces.{closed_text, pieces_past}
@@ -135,7 +135,7 @@ word_tokens b w starts e =
     let none : ps ≡ [] = pieces_past (after_piece (Token Ident) Fresh (spelling own)) false (length (b ∷ w) - 1) (singles 1 w) (omega (arith, length_of_singles 1 w)) in
     rw (word_front b w starts e) (one_token (spelling own) (b ∷ w) ps word none)
 
-pub identifier_token : (text : List ℕ) → IdentifierIsToken text
+pub identifier_token : (text : List ℕ) → is_identifier text ≡ true → (lexed text).tokens ≡ whole_token text ∷ []
 identifier_token [] e = cc e
 identifier_token (b ∷ w) e =
     let starts : is_nondigit b ≡ true = first_part (is_nondigit b) (accepts (b ∷ w) Word) e in

@@ -1,5 +1,5 @@
 -- What holds of the pieces of every text.
-use Rattle.std.specs.Prelude.{◌≡◌, ℕ, ◌≤◌, true, false, List, [], ◌∷◌, length}
+use Rattle.std.specs.Prelude.{◌≡◌, ◌↔◌, ℕ, ◌≤◌, true, false, List, [], ◌∷◌, length}
 use Rattle.std.specs.List.{flat_map}
 use Rattle.c_tokens.specs.declared.types.LexFault.{LexFault}
 use Rattle.tok_data.specs.declared.tokens.PpToken.{PpToken}
@@ -35,9 +35,9 @@ abbrev pub ranges : List LexFault → List (ℕ × ℕ)
 ranges [] = []
 ranges (f ∷ fs) = (f.start, f.end) ∷ ranges fs
 
--- the token of a text that is an identifier as it stands
+-- the one token of a text that is an identifier as it stands
 abbrev pub whole_token : List ℕ → PpToken
 whole_token text = record { kind = Ident; spelling = text; space_before = false; line_start = true }
 
 abbrev pub IdentifierIsToken : List ℕ → Type 0
-IdentifierIsToken text = is_identifier text ≡ true → (lexed text).tokens ≡ whole_token text ∷ []
+IdentifierIsToken text = is_identifier text ≡ true ↔ (lexed text).tokens ≡ whole_token text ∷ []

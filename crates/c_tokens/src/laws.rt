@@ -12,7 +12,7 @@ pub fn characters_follow(_text: &str)
     ensures { CharactersFollow _text.now }
 {}
 
-/// An identifier is read as the one token that it is.
+/// A text is an identifier exactly where lexing reads it as one identifier that is spelled as the whole text.
 pub fn identifiers_are_tokens(_text: &str)
     ensures { IdentifierIsToken _text.now }
 {}
