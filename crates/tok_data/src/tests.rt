@@ -37,7 +37,9 @@ fn is_same_place(a: &Spelt, b: &Spelt) -> bool
     a == b
 }
 
-fn is_same_output(a: &OutToken, b: &OutToken) -> bool {
+fn is_same_output(a: &OutToken, b: &OutToken) -> bool
+    ensures { IsTrue result ↔ (a.now ≡ b.now) }
+{
     a == b
 }
 
@@ -47,7 +49,9 @@ fn is_same_role(a: MacroRole, b: MacroRole) -> bool
     a == b
 }
 
-fn is_same_occurrence(a: &MacroOcc, b: &MacroOcc) -> bool {
+fn is_same_occurrence(a: &MacroOcc, b: &MacroOcc) -> bool
+    ensures { IsTrue result ↔ (a.now ≡ b.now) }
+{
     a == b
 }
 
