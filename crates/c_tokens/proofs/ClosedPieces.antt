@@ -31,7 +31,7 @@ front_within : (context : Context) (c : Character) (cs : List Character) → (fr
 front_within context c cs = if_cases (λ (f : Front). f.size ≤ length (c ∷ cs)) (is_front_mark c) _ _ (λ _. omega arith)
     (λ _. rw (← length_codes_of (c ∷ cs)) (first_within context (codes_of (c ∷ cs)) (omega arith)))
 
-pieces_past : (context : Context) (spaced : Bool) (skip : ℕ) (cs : List Character) → length cs ≤ skip → pieces context spaced skip cs ≡ []
+pub pieces_past : (context : Context) (spaced : Bool) (skip : ℕ) (cs : List Character) → length cs ≤ skip → pieces context spaced skip cs ≡ []
 pieces_past context spaced skip [] past = refl
 pieces_past context spaced zero (c ∷ cs) past = absurd (omega arith)
 pieces_past context spaced (suc skip) (c ∷ cs) past = pieces_past context spaced skip cs (omega arith)

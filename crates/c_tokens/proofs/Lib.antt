@@ -18,3 +18,5 @@ pub mod NextLemmas
 pub mod OpenLemmas
 pub mod ReadingLemmas
 pub mod RunLemmas
+pub mod WordLemmas
+pub mod WordReads

@@ -1,10 +1,13 @@
 -- What holds of the pieces of every text.
-use Rattle.std.specs.Prelude.{◌≡◌, ℕ, ◌≤◌, List, [], ◌∷◌, length}
+use Rattle.std.specs.Prelude.{◌≡◌, ◌↔◌, ℕ, ◌≤◌, true, false, List, [], ◌∷◌, length}
 use Rattle.std.specs.List.{flat_map}
 use Rattle.c_tokens.specs.declared.types.LexFault.{LexFault}
+use Rattle.tok_data.specs.declared.tokens.PpToken.{PpToken}
+use Rattle.tok_data.specs.declared.tokens.PpKind.TheVariants.{Ident}
 use Rattle.c_tokens.specs.Logical.{Character, logical}
 use Rattle.c_tokens.specs.Pieces.{Piece}
-use Rattle.c_tokens.specs.Lexed.{pieces_of}
+use Rattle.c_tokens.specs.Lexed.{lexed, pieces_of}
+use Rattle.c_tokens.specs.Languages.{is_identifier}
 
 -- the characters of pieces, joined
 abbrev pub joined : List Piece → List Character
@@ -31,3 +34,10 @@ InOrder from limit (r ∷ rs) = (from ≤ r.0) × (r.0 ≤ r.1) × InOrder r.1 l
 abbrev pub ranges : List LexFault → List (ℕ × ℕ)
 ranges [] = []
 ranges (f ∷ fs) = (f.start, f.end) ∷ ranges fs
+
+-- the one token of a text that is an identifier as it stands
+abbrev pub whole_token : List ℕ → PpToken
+whole_token text = record { kind = Ident; spelling = text; space_before = false; line_start = true }
+
+abbrev pub IdentifierIsToken : List ℕ → Type 0
+IdentifierIsToken text = is_identifier text ≡ true ↔ (lexed text).tokens ≡ whole_token text ∷ []

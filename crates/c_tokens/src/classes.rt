@@ -58,7 +58,7 @@ pub fn is_nondigit(c: u8) -> bool
     (b'A' <= c && c <= b'Z') || (b'a' <= c && c <= b'z') || c == b'_'
 }
 
-fn is_word_part(c: u8) -> bool
+pub fn is_word_part(c: u8) -> bool
     ensures { result ≡ Classes.is_word_part c }
 {
     is_nondigit(c) || is_digit(c)

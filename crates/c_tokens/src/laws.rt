@@ -1,6 +1,6 @@
 // Laws of lexing. A call does nothing: its contract is what it is for.
 ghost use Rattle.c_tokens.specs.Languages.{FrontIsLongest, FrontIsPiece, StrayIsNoPiece, OpenIsNoLiteral, OpenIsNoComment};
-ghost use Rattle.c_tokens.specs.Laws.{PiecesJoin, CharactersFollow};
+ghost use Rattle.c_tokens.specs.Laws.{PiecesJoin, CharactersFollow, IdentifierIsToken};
 
 /// The pieces of a text, joined, are its logical characters.
 pub fn pieces_join(_text: &str)
@@ -10,6 +10,11 @@ pub fn pieces_join(_text: &str)
 /// The ranges of a text's logical characters follow one another from its front on.
 pub fn characters_follow(_text: &str)
     ensures { CharactersFollow _text.now }
+{}
+
+/// A text is an identifier exactly where lexing reads it as one identifier that is spelled as the whole text.
+pub fn identifiers_are_tokens(_text: &str)
+    ensures { IdentifierIsToken _text.now }
 {}
 
 /// The piece at the front of characters, given by their first bytes, is the longest front that is a token, a comment or

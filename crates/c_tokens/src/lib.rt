@@ -2,6 +2,7 @@
 #![tactic(auto)]
 
 mod classes;
+mod identifiers;
 mod laws;
 mod lexing;
 mod logical;
@@ -9,10 +10,11 @@ mod names;
 mod pieces;
 mod types;
 
-pub use laws::{characters_follow, front_is_longest, pieces_join};
+pub use identifiers::is_identifier;
+pub use laws::{characters_follow, front_is_longest, identifiers_are_tokens, pieces_join};
 pub use lexing::lex;
 pub use tok_data::{PpKind, PpToken};
-pub use types::{Faults, LexFault, Lexed, TokenPlaces, Tokens};
+pub use types::{Faults, LexFault, Lexed, Places, TokenPlaces, Tokens};
 
 #[cfg(test)]
 mod tests;

@@ -1,7 +1,11 @@
 // What lexing gives.
-ghost use Rattle.std.specs.Prelude.{◌≡◌, ℕ};
+ghost use Rattle.std.specs.Prelude.{◌≡◌, ◌≤◌, ℕ, length, IfOk};
+ghost use Rattle.text_lines.specs.Positions.{line_starts};
+ghost use Rattle.c_tokens.specs.Lexed.{lexed};
 
+use std::alloc::{AllocError, Global};
 use std::marker::Model;
+use text_lines::LineTable;
 use tok_data::PpToken;
 
 /// A lexical fault: rule 101 is an open comment, 102 an open literal, 103 a stray character.
@@ -125,4 +129,35 @@ pub struct Lexed {
     pub tokens: Tokens,
     pub places: TokenPlaces,
     pub faults: Faults,
+}
+
+/// What is kept of a text apart from its tokens: the place of each, the fronts of its lines, and its faults.
+#[derive(Debug, Drop)]
+pub struct Places {
+    pub places: TokenPlaces,
+    pub lines: LineTable,
+    pub faults: Faults,
+}
+
+impl Lexed {
+    /// The tokens of a text, and what else is known of it. Fails only for want of memory.
+    pub fn split(self, alloc: Global, text: &str) -> Result<(Vec<PpToken>, Places), AllocError>
+        requires lexed { self ≡ lexed text.now }
+        requires short { length text.now ≤ 4290772992 }
+        ensures tokens { IfOk result (λ r. r.0.items ≡ (lexed text.now).tokens) }
+        ensures places { IfOk result (λ r. r.1.places ≡ (lexed text.now).places) }
+        ensures lines { IfOk result (λ r. r.1.lines ≡ line_starts text.now) }
+        ensures faults { IfOk result (λ r. r.1.faults ≡ (lexed text.now).faults) }
+    {
+        let lines = LineTable::new(alloc, text)?;
+        let tokens = self.tokens.into_vec();
+        Ok((
+            tokens,
+            Places {
+                places: self.places,
+                lines,
+                faults: self.faults,
+            },
+        ))
+    }
 }
