@@ -121,12 +121,15 @@ asked_then (AsksRead path f) k call e = e
 
 pub refused_then : {A B : Type 0} (t : Asking A) (old new : Option (List Entry)) (faults faults' : ℕ) (k : A → Asking B) (e : SessionError) →
     Refused e t old new faults faults' → Refused e (and_then t k) old new faults faults'
-refused_then t old new faults faults' k StoreFault h = (h.0, record {
-  next = and_then h.1.next k;
-  reached = goes_then t h.1.next old new k h.1.reached;
-  call = h.1.call;
-  asked = asked_then h.1.next k h.1.call h.1.asked;
-})
+refused_then t old new faults faults' k StoreFault h = (
+  h.0,
+  record {
+    next = and_then h.1.next k;
+    reached = goes_then t h.1.next old new k h.1.reached;
+    call = h.1.call;
+    asked = asked_then h.1.next k h.1.call h.1.asked;
+  },
+)
 refused_then t old new faults faults' k NoMemory h = (h.0, record { next = and_then h.1.next k; reached = goes_then t h.1.next old new k h.1.reached })
 
 -- the store was asked behind what was reached, and refused

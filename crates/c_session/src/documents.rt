@@ -68,7 +68,12 @@ pub(crate) fn change_document(
         Ok(path) => path,
         Err(refusal) => return Err(refusal),
     };
-    match docs.change(&path, changing.version, changing.changes.as_slice(), encoding) {
+    match docs.change(
+        &path,
+        changing.version,
+        changing.changes.as_slice(),
+        encoding,
+    ) {
         Ok(()) => Ok(path),
         Err(error) => Err(Refusal::of_texts(error)),
     }

@@ -226,7 +226,10 @@ impl Session {
                 Ok(bytes) => Ok(bytes),
                 Err(error) => Err(error),
             },
-            Err(error) => match self.refuse("workspace/didChangeWatchedFiles", Refusal::of_params(error)) {
+            Err(error) => match self.refuse(
+                "workspace/didChangeWatchedFiles",
+                Refusal::of_params(error),
+            ) {
                 Ok(bytes) => Ok(bytes),
                 Err(_) => Err(SessionError::NoMemory),
             },
@@ -246,7 +249,14 @@ impl Session {
     {
         let mut prior = PriorTexts::new(self.alloc);
         let mut logs = Vec::new(self.alloc);
-        match update_all(self.alloc, &mut self.docs, &mut logs, &mut prior, changes, store) {
+        match update_all(
+            self.alloc,
+            &mut self.docs,
+            &mut logs,
+            &mut prior,
+            changes,
+            store,
+        ) {
             Ok(()) => {}
             Err(error) => return Err(error),
         }

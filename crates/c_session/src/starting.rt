@@ -85,11 +85,7 @@ fn list_files<D: Store>(
 }
 
 /// Loads the files of a root.
-fn load_under<D: Store>(
-    alloc: Global,
-    root: Path,
-    store: &mut D,
-) -> Result<Loaded, SessionError>
+fn load_under<D: Store>(alloc: Global, root: Path, store: &mut D) -> Result<Loaded, SessionError>
     requires { D.faults store.old + 1 < 2 ^ 64 }
     ensures loaded { IfOk result (λ l. Reached (loads_root (Some root)) (Gives (loading l.docs l.logs.items)) (D.answers store.old) (D.answers store.new)) }
     ensures counted { OnOk result (D.faults store.new ≡ D.faults store.old) }

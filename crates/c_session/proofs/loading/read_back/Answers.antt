@@ -15,5 +15,8 @@ returns-in-Ok-take_back-clause-read g c = back_read _ _ c.in-Ok.found _ _ _ (rea
     c.in-Ok.ensures.found c.in-Ok-take_back.ensures.taken
 
 pub returns-clause-refused : goal.returns-clause-refused
-returns-clause-refused g c = (c.in-Ok.ensures.counted, gave_up (back_read _ _ c.in-Ok.found _ _ _ (reads_it _ _ _ _ c.root.ensures c.in-Ok-true.ensures c.in-Ok-true.field-0-test)
-    c.in-Ok.ensures.found refl))
+returns-clause-refused g c = (
+  c.in-Ok.ensures.counted,
+  gave_up (back_read _ _ c.in-Ok.found _ _ _ (reads_it _ _ _ _ c.root.ensures c.in-Ok-true.ensures c.in-Ok-true.field-0-test)
+      c.in-Ok.ensures.found refl),
+)

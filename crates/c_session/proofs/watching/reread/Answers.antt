@@ -21,6 +21,9 @@ returns-in-Ok-take_found-clause-others g c =
     (λ t is. found_differs c.args.docs.now t c.args.path.now c.in-Ok.found is) c.in-Ok-take_found.ensures
 
 pub returns-clause-refused : goal.returns-clause-refused
-returns-clause-refused g c = (c.in-Ok.ensures.counted, gave_up
-    (read_gives c.args.path.now (λ o. settles (λ e. watched_log (ByTexts e)) (loading c.args.docs.now c.args.logs.now.items) (with_found c.args.docs.now c.args.path.now o))
-    c.in-Ok.found _ _ _ c.in-Ok.ensures.found refl))
+returns-clause-refused g c = (
+  c.in-Ok.ensures.counted,
+  gave_up
+      (read_gives c.args.path.now (λ o. settles (λ e. watched_log (ByTexts e)) (loading c.args.docs.now c.args.logs.now.items) (with_found c.args.docs.now c.args.path.now o))
+      c.in-Ok.found _ _ _ c.in-Ok.ensures.found refl),
+)

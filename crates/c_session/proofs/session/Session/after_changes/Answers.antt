@@ -14,5 +14,8 @@ returns-in-Ok-finish-clause-handled g c = watched_tells (state_of c.args.self.no
     c.in-Ok.ensures.prior c.in-Ok-finish.ensures c.new.ensures.items c.as_slice.ensures.value
 
 pub returns-clause-refused : goal.returns-clause-refused
-returns-clause-refused g c = (c.in-Ok.ensures.counted, watched_wants (state_of c.args.self.now) (map seen_file_change c.args.changes.now) c.new-logs.result.items _ _ _
-    c.in-Ok.ensures.updated c.new-logs.ensures.items)
+returns-clause-refused g c = (
+  c.in-Ok.ensures.counted,
+  watched_wants (state_of c.args.self.now) (map seen_file_change c.args.changes.now) c.new-logs.result.items _ _ _
+      c.in-Ok.ensures.updated c.new-logs.ensures.items,
+)

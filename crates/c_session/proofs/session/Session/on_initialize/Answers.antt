@@ -17,5 +17,8 @@ returns-in-Ok-begin-clause-handled g c = began_then (state_of c.args.self.now) (
     (loading c.in-Ok-load_root.loaded.docs c.in-Ok-load_root.loaded.logs.items) c.in-Ok-begin.bytes.items _ _ c.in-Ok.ensures c.in-Ok-load_root.ensures.loaded c.in-Ok-begin.ensures
 
 pub returns-in-Err-begin-clause-refused : goal.returns-in-Err-begin-clause-refused
-returns-in-Err-begin-clause-refused g c = (c.in-Ok-load_root.ensures.counted, began_wants (state_of c.args.self.now) (seen_id c.args.id) _ (seen_beginning c.in-Ok.beginning) _ _ _
-    c.in-Ok.ensures c.in-Ok-load_root.ensures.loaded)
+returns-in-Err-begin-clause-refused g c = (
+  c.in-Ok-load_root.ensures.counted,
+  began_wants (state_of c.args.self.now) (seen_id c.args.id) _ (seen_beginning c.in-Ok.beginning) _ _ _
+      c.in-Ok.ensures c.in-Ok-load_root.ensures.loaded,
+)
