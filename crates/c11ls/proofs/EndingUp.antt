@@ -14,7 +14,8 @@ use Rattle.c11ls.specs.Going.{Going, Settled, Moves, Ended, Outcome, Plays, move
 use Rattle.c11ls.specs.Plain.{Played, Plain, Exited, Lacks, Through, Verdict, Done, Unclean, Faulty, play, played, plain, plain_of, verdict_of, go_on}
 use Rattle.c_session.specs.React.{Reaction, Replies, Wants, react}
 use Rattle.c11ls.specs.Serve.{WouldGoOn, IsThrough, Begins}
-use Rattle.c_session.specs.State.{State, Options, fresh}
+use Rattle.project_conf.specs.declared.options.Options.{Options}
+use Rattle.c_session.specs.State.{State, fresh}
 use Rattle.c11ls.specs.Turn.{Wrote, WroteFront, WroteUnclean, GaveUp, Lacked}
 use Rattle.c11ls.specs.declared.status.Status.{Status}
 use Rattle.c11ls.specs.declared.status.Status.TheVariants as status

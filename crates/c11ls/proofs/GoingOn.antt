@@ -15,7 +15,8 @@ use Rattle.c_session.specs.Handled.{Answered}
 use Rattle.c_session.specs.React.{Outcome as Reply, asks}
 use Rattle.c11ls.specs.Plain.{Played, play, played}
 use Rattle.c11ls.specs.Serve.{IsPrompt, IsThrough, EachWanted}
-use Rattle.c_session.specs.State.{State, Options, fresh}
+use Rattle.project_conf.specs.declared.options.Options.{Options}
+use Rattle.c_session.specs.State.{State, fresh}
 use Rattle.c11ls.specs.Turn.{Wrote}
 use Rattle.c11ls.specs.declared.status.Status.{Status}
 use Rattle.c11ls.specs.declared.status.Status.TheVariants.{NoMemory}

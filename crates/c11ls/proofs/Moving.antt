@@ -10,7 +10,7 @@ use Rattle.c11ls.specs.Going.{Moves, moved, mark_at}
 use Rattle.c_session.specs.Handled.{Answered}
 use Rattle.c11ls.specs.Plain.{Played, Stop, Exited, Lacks, Through, played, plain}
 use Rattle.c11ls.specs.Serve.{IsPrompt, EachPrompt, EachWanted, IsThrough}
-use Rattle.c_session.specs.State.{Options}
+use Rattle.project_conf.specs.declared.options.Options.{Options}
 use Rattle.c11ls.proofs.Playing.{IsComplete, play_stays}
 use Rattle.c11ls.proofs.Wanting.{none_wanted, wanted_stays}
 

@@ -7,7 +7,8 @@ use Rattle.lsp_framing.specs.Standing.{Standing, Follows}
 use Rattle.lsp_framing.specs.declared.FrameKind.{FrameKind}
 use Rattle.lsp_framing.specs.declared.FrameKind.TheVariants.{Cut}
 use Rattle.c11ls.specs.Going.{Going, Settled, Ended, EndsInput}
-use Rattle.c_session.specs.State.{State, Options}
+use Rattle.project_conf.specs.declared.options.Options.{Options}
+use Rattle.c_session.specs.State.{State}
 use Rattle.c11ls.specs.Turn.{IsCounted, Stands}
 use Rattle.c11ls.specs.declared.status.Status.{Status}
 use Rattle.c11ls.specs.declared.status.Status.TheVariants.{Done, Unclean, Usage, BadFrame, ReadFault, WriteFault, StoreFault, NoMemory, LongInput}

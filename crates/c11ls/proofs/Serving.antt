@@ -9,7 +9,7 @@ use Rattle.c11ls.specs.Calls.{Call, call_of, since, IfTold, AddsUp, IfToldAddsUp
 use Rattle.c11ls.specs.Going.{Ended, Outcome, IsServing, moved, mark_at}
 use Rattle.c11ls.specs.Plain.{Plain, Done, Unclean, Faulty}
 use Rattle.c11ls.specs.Serve.{HadNoEnd, HasWritten, HasUsed, ArePrompt, AreWanted, IfBadFrame, IsComplete, verdict_on}
-use Rattle.c_session.specs.State.{Options}
+use Rattle.project_conf.specs.declared.options.Options.{Options}
 use Rattle.c11ls.specs.Turn.{IsCounted, ReadRose, WriteRose, StoreRose}
 use Rattle.c11ls.specs.declared.status.Status.{Status}
 use Rattle.c11ls.specs.declared.status.Status.TheVariants as status

@@ -4,7 +4,8 @@ use Rattle.std.proofs.lemmas.List.{take-append-drop}
 use Rattle.io_edges.specs.Store.{Entry, call_of}
 use Rattle.lsp_framing.specs.Frames.{frames}
 use Rattle.lsp_framing.proofs.Laws.{contents_stay}
-use Rattle.c_session.specs.State.{State, Options, fresh}
+use Rattle.project_conf.specs.declared.options.Options.{Options}
+use Rattle.c_session.specs.State.{State, fresh}
 use Rattle.c11ls.specs.Plain.{Played, Stop, Lacks, Through, play, played}
 use Rattle.c11ls.specs.Serve.{EachWanted}
 use Rattle.c11ls.proofs.Reacting.{EachAsked}

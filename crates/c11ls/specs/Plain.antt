@@ -2,7 +2,8 @@
 use Rattle.std.specs.Prelude.{ℕ, ◌+◌, List, [], ◌∷◌, ◌++◌, drop, length, Some, None, if◌then◌else◌, ◌==◌}
 use Rattle.io_edges.specs.Store.{Call, Entry}
 use Rattle.c_session.specs.React.{Reaction, Replies, Wants, react}
-use Rattle.c_session.specs.State.{State, Options, fresh}
+use Rattle.project_conf.specs.declared.options.Options.{Options}
+use Rattle.c_session.specs.State.{State, fresh}
 use Rattle.lsp_framing.specs.Frames.{frames, Rest, Empty, Open, Bad}
 use Rattle.lsp_framing.specs.declared.FrameKind.{FrameKind}
 use Rattle.lsp_framing.specs.declared.FrameKind.TheVariants.{Cut}

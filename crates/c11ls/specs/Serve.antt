@@ -7,7 +7,8 @@ use Rattle.lsp_framing.specs.Standing.{IsEmptyOrOpen}
 use Rattle.lsp_framing.specs.declared.FrameKind.{FrameKind}
 use Rattle.c11ls.specs.Calls.{Call}
 use Rattle.c11ls.specs.Plain.{Stop, Exited, Lacks, Through, Verdict, Done, Unclean, Faulty, Waiting, play, played, plain}
-use Rattle.c_session.specs.State.{Options, fresh}
+use Rattle.project_conf.specs.declared.options.Options.{Options}
+use Rattle.c_session.specs.State.{fresh}
 use Rattle.c11ls.specs.declared.status.Status.{Status}
 use Rattle.c11ls.specs.declared.status.Status.TheVariants as status
 

@@ -1,7 +1,8 @@
 -- What the words of the command line say.
 use Rattle.std.specs.Prelude.{ℕ, Bool, true, false, List, [], ◌∷◌, map, String, string_bytes}
 use Rattle.std.specs.declared.alloc.Global.{Global}
-use Rattle.c_session.specs.State.{Options, no_options}
+use Rattle.project_conf.specs.declared.options.Options.{Options}
+use Rattle.project_conf.specs.Options.{no_options}
 
 -- the words as texts
 abbrev pub texts : List (String Global) → List (List ℕ)

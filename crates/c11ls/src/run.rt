@@ -3,7 +3,7 @@ ghost use Rattle.std.specs.Prelude.{◌≡◌, ◌+◌, ◌<◌, ◌≤◌, ◌^
 ghost use Rattle.io_edges.specs.Wire.{after_read};
 ghost use Rattle.c11ls.specs.Going.{Drained, Ended, EndsInput};
 ghost use Rattle.c_session.specs.Sessions.{state_of};
-ghost use Rattle.c_session.specs.State.{no_options};
+ghost use Rattle.project_conf.specs.Options.{no_options};
 ghost use Rattle.c11ls.specs.Turn.{IsCounted};
 
 use crate::status::Status;
@@ -11,6 +11,7 @@ use crate::turn::turn;
 use c_session::Session;
 use io_edges::{Failed, Store, Wire};
 use lsp_framing::{FrameError, FrameKind, Frames};
+use project_conf::Options;
 use std::alloc::{AllocError, Global};
 use std::sync::ledger::Ledger;
 use steps::Steps;
@@ -103,7 +104,7 @@ fn reads<W: Wire, D: Store, L: Ledger>(
     ensures ended { Ended no_options result (W.told wire.old) (W.told wire.new) (D.answers store.old) (D.answers store.new) }
     ensures counted { IsCounted (Some result) (W.read_faults wire.old) (W.read_faults wire.new) (W.write_faults wire.old) (W.write_faults wire.new) (D.faults store.old) (D.faults store.new) }
 {
-    let mut session = Session::new(alloc);
+    let mut session = Session::new(alloc, Options::none(alloc));
     let mut frames = Frames::new(alloc);
     let mut taken: u64 = 0;
     'reads: loop {

@@ -1,5 +1,5 @@
 // Handling one content, and writing its reply.
-ghost use Rattle.std.specs.Prelude.{◌≡◌, ◌+◌, ◌<◌, ◌^◌};
+ghost use Rattle.std.specs.Prelude.{◌+◌, ◌<◌, ◌^◌};
 ghost use Rattle.c_session.specs.Sessions.{state_of};
 ghost use Rattle.c11ls.specs.Turn.{Turned, IsCounted};
 

@@ -1,11 +1,11 @@
 -- Laws of what asks the store.
 use Rattle.std.proofs.Common.{◌≡◌, ◌<◌, ℕ, List, [], ◌∷◌, ◌++◌, Option, None, Some, option_and_then, option_map, Bool, true, false, cond, is_some, T, refl, sym, ap, ◌∙◌, subst, append-nil, append_assoc, bytes_eq}
 use Rattle.std.proofs.lemmas.Slice.Eq.{bytes_eq-Decides}
-use Rattle.io_edges.specs.Store.{Call, Entry, Lists, Reads, ListCall, ReadCall, after_answer}
+use Rattle.io_edges.specs.Store.{Call, Entry, Lists, Reads, ReadCall, after_answer}
 use Rattle.io_edges.specs.declared.ends.Listed.{Listed}
 use Rattle.io_edges.specs.declared.ends.Found.{Found}
 use Rattle.c_session.specs.Asking.{Asking, Gives, AsksList, AsksRead, and_then, after_one, after_all, next_call}
-use Rattle.c_session.specs.Handled.{Answered, Reached, Failed, GaveUp, IsFault, Refused}
+use Rattle.c_session.specs.Handled.{Answered, Reached, GaveUp, IsFault, Refused}
 use Rattle.c_session.specs.declared.error.SessionError.{SessionError}
 use Rattle.c_session.specs.declared.error.SessionError.TheVariants.{StoreFault, NoMemory}
 

@@ -1,5 +1,5 @@
 -- Laws of files that are read into the texts.
-use Rattle.std.proofs.Common.{◌≡◌, ◌<◌, ◌+◌, ℕ, suc, arith, length, map, drop, get_or, drop-cons, List, [], ◌∷◌, Option, Some, option_map, Bool, true, cond, refl, sym, ap, ◌∙◌, subst}
+use Rattle.std.proofs.Common.{◌≡◌, ◌<◌, ◌+◌, ℕ, suc, arith, length, map, drop, get_or, drop-cons, List, ◌∷◌, Option, Some, option_map, Bool, true, cond, refl, sym, ap, ◌∙◌, subst}
 use Rattle.io_edges.specs.Store.{Entry, Lists, Reads, ListCall, ReadCall, after_answer}
 use Rattle.io_edges.specs.declared.ends.Found.{Found}
 use Rattle.io_edges.specs.declared.ends.Listed.{Listed}

@@ -1,16 +1,15 @@
 -- Laws of texts of which one changes, and of those that are remembered.
-use Rattle.std.proofs.Common.{◌≡◌, ℕ, ℤ, List, [], ◌∷◌, Option, None, Some, Result, Ok, Err, Bool, true, false, not, cond, is_some, unwrap_or, T, refl, sym, ap, ◌∙◌, subst, bytes_eq, nat_lt, length}
+use Rattle.std.proofs.Common.{◌≡◌, ℕ, ℤ, List, Option, None, Some, Result, Ok, Err, Bool, true, false, not, cond, is_some, unwrap_or, T, refl, sym, ap, ◌∙◌, subst, bytes_eq, nat_lt, length}
 use Rattle.std.proofs.lemmas.Map.Text.{is_eq-slice_cmp}
 use Rattle.std.proofs.lemmas.Slice.Eq.{bytes_eq-Decides}
-use Rattle.std.specs.Cmp.Lexicographic.{slice_cmp, nat_list_cmp_total}
+use Rattle.std.specs.Cmp.Lexicographic.{nat_list_cmp_total}
 use Rattle.std.specs.FinMap.{get, insert, remove, contains_key, get-insert, get-remove}
-use Rattle.std.specs.Ordering.{nat_cmp, eq_by_cmp}
 use Rattle.std.specs.Str.{is_utf8}
 use Rattle.io_edges.specs.declared.ends.Found.{Found}
 use Rattle.io_edges.specs.declared.ends.Found.TheVariants as found
 use Rattle.text_lines.specs.declared.edit.Change.{Change}
 use Rattle.text_lines.specs.declared.encoding.Encoding.{Encoding}
-use Rattle.doc_texts.specs.Texts.{TextMap, Texts, OpenText, shown, text_at, with_disk, without_disk, with_open, without_open, file_count, byte_count}
+use Rattle.doc_texts.specs.Texts.{TextMap, Texts, OpenText, shown, text_at, with_disk, without_disk, with_open, without_open}
 use Rattle.doc_texts.specs.Docs.{allowed, is_outside, with_bytes, loaded, opened, changed, closed, with_changes, with_text, all_edited}
 use Rattle.doc_texts.specs.Limits.{most_files, longest_text, most_bytes}
 use Rattle.doc_texts.specs.Prior.{Prior, remembered}

@@ -6,7 +6,7 @@ use Rattle.json_view.specs.declared.error.ViewError.TheVariants as error
 use Rattle.doc_texts.specs.Texts.{Texts}
 use Rattle.doc_texts.specs.declared.error.DocError.{DocError}
 use Rattle.doc_texts.specs.declared.error.DocError.TheVariants as doc
-use Rattle.c_session.specs.Loading.{Loading, settles, watched_log}
+use Rattle.c_session.specs.Loading.{settles, watched_log}
 use Rattle.c_session.specs.Reasons.{Reason, ByTexts, by_params}
 use Rattle.c_session.specs.Refused.{reason, of_params, of_texts}
 use Rattle.c_session.specs.Replies.{log}

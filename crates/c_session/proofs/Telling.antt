@@ -1,36 +1,36 @@
 -- What the reply to a message is made of.
-use Rattle.std.proofs.Common.{◌≡◌, ◌≢◌, ℕ, List, [], ◌∷◌, ◌++◌, Option, None, Some, Result, Ok, Err, Bool, true, false, is_some, T, refl, sym, ap, ◌∙◌, subst, codes, append-nil, append_assoc}
+use Rattle.std.proofs.Common.{◌≡◌, ◌≢◌, ℕ, List, [], ◌++◌, Option, Some, Result, Ok, Err, true, is_some, T, refl, sym, ap, ◌∙◌, subst, codes}
 use Rattle.std.specs.Cmp.Lexicographic.{slice_cmp}
-use Rattle.std.specs.FinMap.{empty, get, get-empty}
+use Rattle.std.specs.FinMap.{empty, get-empty}
 use Rattle.std.specs.Ordering.{nat_cmp}
 use Rattle.serde_json.specs.Data.{Data}
 use Rattle.io_edges.specs.Store.{Entry}
 use Rattle.text_lines.specs.declared.encoding.Encoding.{Encoding}
 use Rattle.uri_paths.specs.Uris.{path_of_uri}
 use Rattle.doc_texts.specs.Texts.{Texts, text_at}
-use Rattle.doc_texts.specs.Docs.{opened, changed, closed}
+use Rattle.doc_texts.specs.Docs.{opened, changed}
 use Rattle.doc_texts.specs.Prior.{Prior}
 use Rattle.doc_texts.specs.declared.error.DocError.{DocError}
 use Rattle.c_session.specs.Asking.{Asking, Gives, and_then}
 use Rattle.json_view.specs.declared.id.Id.{Id}
 use Rattle.c_session.specs.Handled.{Reached, Refused, GaveUp}
 use Rattle.c_session.specs.Loading.{Loading, read_back, updates_all, loads_root, did_change_watched}
-use Rattle.c_session.specs.News.{IsPrior, KeepsPrior, SameBut, HasPublished, news}
+use Rattle.c_session.specs.News.{IsPrior, KeepsPrior, HasPublished, news}
 use Rattle.c_session.specs.Params.{FileChange, opening_in, changing_in}
-use Rattle.c_session.specs.React.{Outcome, Edited, tells, has_texts, refuses, edits, opened_by, changed_by, closing_path, closed_by, closes, did_close, watches, Beginning, begins, starts, invalid_params, on_message, asks}
+use Rattle.c_session.specs.React.{Outcome, Edited, tells, has_texts, edits, opened_by, changed_by, closes, did_close, watches, Beginning, begins, starts, invalid_params, on_message, asks}
 use Rattle.c_session.specs.Message.{Message, value_of, of_read}
 use Rattle.c_session.specs.Reasons.{Reason, reason_text, by_params, by_uri, by_texts, if_ok}
 use Rattle.c_session.specs.Refused.{reason, Answers, Leaves, edited, IsReply}
 use Rattle.c_session.specs.Replies as Replies
 use Rattle.c_session.specs.Replies.{log, error, initialize_result}
-use Rattle.c_session.specs.Shown.{publication, publications}
+use Rattle.c_session.specs.Shown.{publications}
 use Rattle.c_session.specs.State.{State, with_texts}
 use Rattle.c_session.specs.declared.phase.Phase.TheVariants.{Running}
 use Rattle.c_session.specs.declared.error.SessionError.{SessionError}
 use Rattle.c_session.specs.declared.reasons.Refusal.{Refusal}
 use Rattle.c_session.specs.declared.reasons.Refusal.TheVariants.{NoMemory}
 use Rattle.c_session.proofs.Asking.{goes_then, gave_up, reached_same, refused_then}
-use Rattle.c_session.proofs.Priors.{IsEdit, opened_edits, changed_edits, closed_differs}
+use Rattle.c_session.proofs.Priors.{IsEdit, opened_edits, changed_edits}
 use Rattle.c_session.proofs.Publications.{news_published, touched_published}
 
 -- ---- steps that weren't refused

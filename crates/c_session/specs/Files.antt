@@ -1,5 +1,5 @@
 -- Which files of a root are loaded, and what loading one does.
-use Rattle.std.specs.Prelude.{ℕ, Bool, true, false, ◌||◌, ◌&&◌, List, [], ◌∷◌, ◌++◌, codes, nat_eq, Option, None, Some, Result, Ok, Err, if◌then◌else◌}
+use Rattle.std.specs.Prelude.{ℕ, Bool, false, ◌||◌, ◌&&◌, List, [], ◌∷◌, ◌++◌, codes, nat_eq, Option, None, Some, Result, Err, if◌then◌else◌}
 use Rattle.std.specs.List.{ends_with, filter}
 use Rattle.std.specs.Option.{option_map_or}
 use Rattle.std.specs.Str.{bytes_eq}

@@ -1,5 +1,5 @@
 -- Why the params of a message are refused: by themselves, by a URI in them, or by the texts.
-use Rattle.std.specs.Prelude.{ℕ, List, ◌++◌, codes, Result, Ok, Err}
+use Rattle.std.specs.Prelude.{ℕ, List, Result, Ok, Err}
 use Rattle.json_view.specs.Refusals.{Refusal}
 use Rattle.uri_paths.specs.declared.error.UriError.{UriError}
 use Rattle.doc_texts.specs.Docs.{doc_error_name}

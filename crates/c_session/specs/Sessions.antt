@@ -4,13 +4,13 @@ use Rattle.doc_texts.specs.Texts.{Texts}
 use Rattle.c_session.specs.Handled.{outcome}
 use Rattle.c_session.specs.Loading.{Loading}
 use Rattle.c_session.specs.React.{Outcome, Beginning}
-use Rattle.c_session.specs.State.{State, no_options}
+use Rattle.c_session.specs.State.{State}
 use Rattle.c_session.specs.declared.starting.Beginning as code
 use Rattle.c_session.specs.declared.session.Reply.{Reply}
 use Rattle.c_session.specs.declared.session.Session.{Session}
 
 abbrev pub state_of : Session → State
-state_of session = record { options = no_options; texts = session.docs; encoding = session.encoding; phase = session.phase }
+state_of session = record { options = session.options; texts = session.docs; encoding = session.encoding; phase = session.phase }
 
 -- texts and logs so far
 abbrev pub loading : Texts → List ℕ → Loading

@@ -1,22 +1,14 @@
 -- What the plain server keeps: the current texts and the session's settings, and nothing that follows from them.
-use Rattle.std.specs.Prelude.{ℕ, List, [], None}
+use Rattle.std.specs.Prelude.{None}
 use Rattle.text_lines.specs.declared.encoding.Encoding.{Encoding}
 use Rattle.text_lines.specs.declared.encoding.Encoding.TheVariants.{Utf16}
 use Rattle.doc_texts.specs.Texts.{Texts, texts_under}
+use Rattle.project_conf.specs.declared.options.Options.{Options}
 use Rattle.c_session.specs.declared.phase.Phase.{Phase}
 use Rattle.c_session.specs.declared.phase.Phase.TheVariants.{Fresh}
 
--- A definition that the words or the database give to each unit.
-pub data Define : Type 0 where
-  Set : List ℕ → List ℕ → Define
-  Unset : List ℕ → Define
-
--- What the words of the command line say: folders to search, and definitions.
-pub record Options : Type 0 where
-  pub includes : List (List ℕ)
-  pub defines : List Define
-
 pub record State : Type 0 where
+  -- what the words of the command line say
   pub options : Options
   -- the root, and the texts of files and of open documents
   pub texts : Texts
@@ -35,7 +27,3 @@ in_phase phase s = record { options = s.options; texts = s.texts; encoding = s.e
 -- the state with other texts
 abbrev pub with_texts : Texts → State → State
 with_texts texts s = record { options = s.options; texts = texts; encoding = s.encoding; phase = s.phase }
-
--- no word gives an option
-abbrev pub no_options : Options
-no_options = record { includes = []; defines = [] }

@@ -1,12 +1,11 @@
 // The notification `textDocument/publishDiagnostics`, written fault by fault.
-ghost use Rattle.std.specs.Prelude.{◌≡◌, ◌≤◌, ◌++◌, ◌∷◌, [], length, map, string_bytes, IfOk, OnOk, false, true};
+ghost use Rattle.std.specs.Prelude.{◌≡◌, ◌≤◌, ◌++◌, length, map, string_bytes, IfOk, OnOk, false, true};
 ghost use Rattle.serde_json.specs.View.{view, items_of};
-ghost use Rattle.serde_json.specs.Written.{compact_text, items_text, comma_if, has_float};
+ghost use Rattle.serde_json.specs.Written.{compact_text, items_text, comma_if};
 ghost use Rattle.c_session.specs.Faults.{AreWithin};
-ghost use Rattle.c_session.specs.Replies.{message_of, pos_data, fault_data, diagnostic_data, diagnostic, publish_data, publish};
+ghost use Rattle.c_session.specs.Replies.{message_of, pos_data, fault_data, diagnostic_data, diagnostic, publish};
 ghost use Rattle.c_session.specs.Published.{number_data, publish_start, publish_end, version_part};
 ghost use Rattle.serde_json.specs.Data.{string};
-ghost use Rattle.text_lines.specs.Positions.{pos_at};
 
 use crate::replies::framed;
 use c_tokens::LexFault;

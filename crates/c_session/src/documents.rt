@@ -1,5 +1,5 @@
 // Documents that are opened, changed and closed by the client (LSP 3.17, text document synchronization).
-ghost use Rattle.std.specs.Prelude.{◌≡◌, option_map, OnOk};
+ghost use Rattle.std.specs.Prelude.{option_map, OnOk};
 ghost use Rattle.serde_json.specs.View.{view};
 ghost use Rattle.uri_paths.specs.Uris.{path_of_uri};
 ghost use Rattle.c_session.specs.React.{opened_by, changed_by, closing_path, closed_by};

@@ -1,6 +1,6 @@
 // Which files are loaded from a root.
-ghost use Rattle.std.specs.Prelude.{◌≡◌, ◌++◌, IfOk, OnOk};
-ghost use Rattle.c_session.specs.Files.{is_source, is_c_file, is_database, is_loaded, wanted_path, files_in, unreadable_logs, to_load};
+ghost use Rattle.std.specs.Prelude.{◌≡◌, IfOk};
+ghost use Rattle.c_session.specs.Files.{is_source, is_c_file, is_database, is_loaded, wanted_path, unreadable_logs, to_load};
 ghost use Rattle.c_session.specs.Loading.{is_read};
 ghost use Rattle.std.specs.Prelude.{option_map};
 

@@ -1,6 +1,5 @@
 // The kind of a content: a JSON-RPC 2.0 message.
 ghost use Rattle.std.specs.Prelude.{◌≡◌, option_map, IfOk};
-ghost use Rattle.serde_json.specs.Data.{Data};
 ghost use Rattle.serde_json.specs.View.{view};
 ghost use Rattle.c_session.specs.Message.{value_of, id_of, of_value, of_read};
 ghost use Rattle.c_session.specs.Seen.{seen, seen_id};

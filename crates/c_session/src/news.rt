@@ -1,10 +1,9 @@
 // What is published after a message that changed texts.
-ghost use Rattle.std.specs.Prelude.{◌≡◌, ◌≤◌, ◌++◌, ◌&&◌, ◌||◌, [], not, length, option_map, IfOk, IfSome, OnOk, IfNone, Some, None, if◌then◌else◌, string_bytes, unwrap_or};
+ghost use Rattle.std.specs.Prelude.{◌≡◌, ◌≤◌, ◌++◌, [], length, option_map, IfOk, IfSome, OnOk, Some, None, string_bytes, unwrap_or};
 ghost use Rattle.c_tokens.specs.Lexed.{lexed};
 ghost use Rattle.c_session.specs.Faults.{AreWithin};
-ghost use Rattle.c_session.specs.Shown.{shown_of, shown, same_text, has_news, uri_for, publication};
+ghost use Rattle.c_session.specs.Shown.{shown_of, shown, same_text, uri_for, publication};
 ghost use Rattle.c_session.specs.News.{IsPrior, IsNews, all_remembered, news_of, news};
-ghost use Rattle.doc_texts.specs.Prior.{prior_text};
 ghost use Rattle.doc_texts.specs.Texts.{text_at};
 
 use crate::diagnostics::{Showing, push_diagnostics_of};

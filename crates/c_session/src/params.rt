@@ -5,9 +5,9 @@ ghost use Rattle.std.specs.Option.{unwrap_or};
 ghost use Rattle.serde_json.specs.Data.{object, no_members};
 ghost use Rattle.serde_json.specs.Find.{get, as_str};
 ghost use Rattle.serde_json.specs.View.{view};
-ghost use Rattle.json_view.specs.Members.{object_in, array_of, start_and_end};
+ghost use Rattle.json_view.specs.Members.{object_in, array_of};
 ghost use Rattle.json_view.specs.Refusals.{NoMemory, seen, and_then};
-ghost use Rattle.c_session.specs.Params.{given, optional_in, each_in, params_of, document_in, opening_in, closing_in, change_range, change_in, changing_in, kind_in, file_change_in, watching_in};
+ghost use Rattle.c_session.specs.Params.{given, each_in, params_of, document_in, opening_in, closing_in, change_range, change_in, changing_in, kind_in, file_change_in, watching_in};
 ghost use Rattle.c_session.specs.Params.{root_uri_in, folder_uri_in, folder_uris_in, first_of, encoding_named, first_named, offers_in, chosen, starting_in};
 ghost use Rattle.c_session.specs.SeenParams.{seen_opening, seen_changing, seen_file_change, seen_starting};
 

@@ -7,13 +7,14 @@ ghost use Rattle.c_session.specs.React.{asks, tells, edits, opened_by, changed_b
 ghost use Rattle.c_session.specs.Params.{watching_in};
 ghost use Rattle.c_session.specs.Reasons.{reason_text, by_params};
 ghost use Rattle.c_session.specs.Refused.{reason, IsReply};
-ghost use Rattle.c_session.specs.Loading.{read_back, did_change_watched};
+ghost use Rattle.c_session.specs.Loading.{read_back};
 ghost use Rattle.c_session.specs.News.{news, HasPublished};
 ghost use Rattle.c_session.specs.Replies.{log, error};
 ghost use Rattle.c_session.specs.SeenParams.{seen_file_change};
 ghost use Rattle.c_session.specs.Seen.{seen, seen_id};
 ghost use Rattle.c_session.specs.Sessions.{state_of, loading, outcome_of};
-ghost use Rattle.c_session.specs.State.{fresh, no_options};
+ghost use Rattle.c_session.specs.State.{fresh};
+ghost use Rattle.project_conf.specs.Defines.{AreUsable};
 ghost use Rattle.c_session.specs.declared.reasons.Refusal.TheVariants.{NoMemory};
 
 use crate::documents::{change_document, close_document, open_document};
@@ -29,6 +30,7 @@ use crate::starting::{Beginning, Loaded, beginning_in, load_root};
 use crate::watching::update_all;
 use doc_texts::{Docs, PriorTexts};
 use io_edges::Store;
+use project_conf::Options;
 use serde_json::Value;
 use std::alloc::{AllocError, Global};
 use std::sync::ledger::Ledger;
@@ -47,6 +49,7 @@ pub struct Reply {
 #[derive(Drop)]
 pub struct Session {
     alloc: Global,
+    options: Options,
     docs: Docs,
     encoding: Encoding,
     phase: Phase,
@@ -61,12 +64,15 @@ fn refusal_log(alloc: Global, method: &str, reason: &str) -> Result<Vec<u8>, All
 }
 
 impl Session {
-    /// A session before its first content.
-    pub fn new(alloc: Global) -> Session
-        ensures { state_of result ≡ fresh no_options }
+    /// A session before its first content, with what the words of the command line say. The definitions among them have at most
+    /// 131,072 bytes of names and texts.
+    pub fn new(alloc: Global, options: Options) -> Session
+        requires { AreUsable 131072 options.defines }
+        ensures { state_of result ≡ fresh options }
     {
         Session {
             alloc,
+            options,
             docs: Docs::new(alloc, None),
             encoding: Encoding::Utf16,
             phase: Phase::Fresh,

@@ -1,7 +1,7 @@
 use Rattle.std.proofs.Common.{length}
 use Rattle.c11ls.specs.Going.{GoesOn}
 use Rattle.c_session.specs.Sessions.{state_of}
-use Rattle.c_session.specs.State.{no_options}
+use Rattle.project_conf.specs.Options.{no_options}
 use Rattle.c11ls.specs.Turn.{Stands}
 use Rattle.c11ls.proofs.run.drain.Given as goal
 

@@ -1,5 +1,5 @@
 use Rattle.std.proofs.Common.{◌∙◌, ap, refl, take, Some, arith}
-use Rattle.c_session.specs.State.{no_options}
+use Rattle.project_conf.specs.Options.{no_options}
 use Rattle.c11ls.proofs.Draining.{stands_on}
 use Rattle.c11ls.proofs.EndingUp.{ends_long, ends_unread}
 use Rattle.c11ls.proofs.GoingOn.{going_begins, settled_size}

@@ -1,7 +1,7 @@
 use Rattle.std.proofs.Common.{◌≡◌, ◌<◌, ◌+◌, ◌-◌, ◌^◌, vec_len}
 use Rattle.c11ls.specs.Going.{Going}
 use Rattle.c_session.specs.Sessions.{state_of}
-use Rattle.c_session.specs.State.{no_options}
+use Rattle.project_conf.specs.Options.{no_options}
 use Rattle.c11ls.specs.Turn.{Stands}
 use Rattle.c11ls.proofs.run.reads.Given as goal
 

@@ -1,4 +1,4 @@
-use Rattle.c_session.specs.State.{no_options}
+use Rattle.project_conf.specs.Options.{no_options}
 use Rattle.c11ls.proofs.Running.{ends_at_once}
 use Rattle.c11ls.proofs.run.run.Goals as goal
 

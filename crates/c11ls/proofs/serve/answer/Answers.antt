@@ -1,4 +1,4 @@
-use Rattle.c_session.specs.State.{no_options}
+use Rattle.project_conf.specs.Options.{no_options}
 use Rattle.c11ls.proofs.Serving.{not_usage}
 use Rattle.c11ls.proofs.serve.answer.Goals as goal
 

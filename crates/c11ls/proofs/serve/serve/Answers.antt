@@ -1,4 +1,4 @@
-use Rattle.c_session.specs.State.{no_options}
+use Rattle.project_conf.specs.Options.{no_options}
 use Rattle.c11ls.specs.declared.status.Status.TheVariants as status
 use Rattle.c11ls.proofs.Serving.{tells_consumed, tells_written, tells_used, tells_prompt, tells_wanted, tells_done, tells_unclean, tells_bad_frame, tells_long, tells_no_end, tells_complete, not_read, not_write, not_store, ended_as}
 use Rattle.c11ls.proofs.serve.serve.Goals as goal

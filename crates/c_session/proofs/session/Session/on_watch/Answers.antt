@@ -1,7 +1,6 @@
-use Rattle.std.proofs.Common.{refl, subst, ap, ◌∙◌, sym, ◌≢◌}
-use Rattle.c_session.specs.Refused.{of_params, reason}
+use Rattle.std.proofs.Common.{refl}
+use Rattle.c_session.specs.Refused.{of_params}
 use Rattle.c_session.specs.Sessions.{state_of}
-use Rattle.c_session.specs.declared.reasons.Refusal.TheVariants.{NoMemory}
 use Rattle.c_session.proofs.Asking.{gave_up, stays}
 use Rattle.c_session.proofs.Reasoning.{params_refused_by}
 use Rattle.c_session.proofs.Telling.{not_watched}

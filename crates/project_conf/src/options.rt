@@ -1,0 +1,126 @@
+// What the words of the command line say.
+ghost use Rattle.std.specs.Prelude.{◌≡◌, string_bytes};
+ghost use Rattle.project_conf.specs.Options.{no_options};
+
+use shared_text::Name;
+use std::alloc::Global;
+use std::marker::Model;
+
+/// A folder to search for included files, as the words give it: absolute, or relative to the root. Contracts see its bytes.
+#[derive(Debug, Drop)]
+pub struct Folder {
+    text: String,
+}
+
+impl Model for Folder {
+    ghost use Rattle.std.specs.Prelude.{ℕ, List};
+    ghost use Rattle.std.specs.String.{string_bytes};
+
+    ghost Value = { List ℕ };
+
+    ghost view = { λ folder. string_bytes folder.text };
+}
+
+impl Folder {
+    pub fn from_string(text: String) -> Folder
+        ensures { result ≡ string_bytes text }
+    {
+        Folder { text }
+    }
+
+    pub fn as_str(&self) -> &str
+        ensures { result.now ≡ self.now }
+    {
+        self.text.as_str()
+    }
+}
+
+/// Folders to search, in order.
+#[derive(Debug, Drop)]
+pub struct Folders {
+    items: Vec<Folder>,
+}
+
+impl Model for Folders {
+    ghost use Rattle.std.specs.Prelude.{ℕ, List};
+
+    ghost Value = { List (List ℕ) };
+
+    ghost view = { λ folders. folders.items.items };
+}
+
+impl Folders {
+    pub fn from_vec(items: Vec<Folder>) -> Folders
+        ensures { result ≡ items.items }
+    {
+        Folders { items }
+    }
+
+    pub fn as_slice(&self) -> &[Folder]
+        ensures { result.now ≡ self.now }
+    {
+        self.items.as_slice()
+    }
+}
+
+/// A definition that is given to a unit before its own text (ISO C11 6.10.3).
+#[derive(Debug, Drop)]
+pub enum Define {
+    /// The name is defined with the tokens of the text.
+    Set(Name, Name),
+    /// The name has no definition.
+    Unset(Name),
+}
+
+/// Definitions, in order: each is made over what those before it leave.
+#[derive(Debug, Drop)]
+pub struct Defines {
+    items: Vec<Define>,
+}
+
+impl Model for Defines {
+    ghost use Rattle.std.specs.Prelude.{List};
+    ghost use Rattle.project_conf.specs.declared.options.Define.{Define};
+
+    ghost Value = { List Define };
+
+    ghost view = { λ defines. defines.items.items };
+}
+
+impl Defines {
+    pub fn from_vec(items: Vec<Define>) -> Defines
+        ensures { result ≡ items.items }
+    {
+        Defines { items }
+    }
+
+    pub fn as_slice(&self) -> &[Define]
+        ensures { result.now ≡ self.now }
+    {
+        self.items.as_slice()
+    }
+}
+
+/// What the words of the command line say.
+#[derive(Debug, Drop)]
+pub struct Options {
+    /// The folders to search for every unit.
+    pub includes: Folders,
+    /// The definitions that every unit begins with.
+    pub defines: Defines,
+    /// The number of units of a generated run; none where the client is served.
+    pub generate: Option<u32>,
+}
+
+impl Options {
+    /// What no words say.
+    pub fn none(alloc: Global) -> Options
+        ensures { result ≡ no_options }
+    {
+        Options {
+            includes: Folders::from_vec(Vec::new(alloc)),
+            defines: Defines::from_vec(Vec::new(alloc)),
+            generate: None,
+        }
+    }
+}
