@@ -1,5 +1,5 @@
 -- What is logged and published is made of notifications.
-use Rattle.std.proofs.Common.{◌≡◌, ℕ, Bool, true, false, cond, not, List, [], ◌∷◌, ◌++◌, flat_map, Option, None, Some, Result, Ok, Err, refl, sym, ap, ◌∙◌, append-nil}
+use Rattle.std.proofs.Common.{ℕ, Bool, true, false, cond, not, List, [], ◌∷◌, ◌++◌, flat_map, Option, None, Some, Result, Ok, Err, refl, sym, ap, ◌∙◌, append-nil}
 use Rattle.std.specs.Option.{unwrap_or}
 use Rattle.std.specs.List.{All, concat}
 use Rattle.std.proofs.lemmas.List.Elements.{All-nil, All-cons, All-append}
@@ -48,13 +48,18 @@ pub no_notice : AreNotices []
 no_notice = record { notices = []; each = All-nil IsNotice; joined = refl }
 
 pub one_notice : (bytes : List ℕ) → IsNotice bytes → AreNotices bytes
-one_notice bytes is = record { notices = bytes ∷ []; each = All-cons IsNotice bytes [] is (All-nil IsNotice); joined = sym (append-nil bytes) }
+one_notice bytes is = record {
+  notices = bytes ∷ [];
+  each = All-cons IsNotice bytes [] is (All-nil IsNotice);
+  joined = sym (append-nil bytes);
+}
 
 pub more_notices : (first rest : List ℕ) → AreNotices first → AreNotices rest → AreNotices (first ++ rest)
 more_notices first rest a b = record {
   notices = a.notices ++ b.notices;
   each = All-append IsNotice a.notices b.notices a.each b.each;
-  joined = ap (λ (xs : List ℕ). xs ++ rest) a.joined ∙ ap (λ (xs : List ℕ). concat a.notices ++ xs) b.joined ∙ sym (concat-append a.notices b.notices);
+  joined = ap (λ (xs : List ℕ). xs ++ rest) a.joined ∙ ap (λ (xs : List ℕ). concat a.notices ++ xs) b.joined
+      ∙ sym (concat-append a.notices b.notices);
 }
 
 pub log_notice : (text : List ℕ) → AreNotices (log text)
@@ -62,16 +67,21 @@ log_notice text = one_notice (log text) (Logs text refl)
 
 publication_notice : (encoding : Encoding) (t : Texts) (path : List ℕ) → IsNotice (publication encoding t path)
 unfolding publication
-publication_notice encoding t path = Publishes encoding (uri_for t path) (version_at t path) (shown t path) (unwrap_or (text_at t path) []) refl
+publication_notice encoding t path = Publishes encoding (uri_for t path) (version_at t path) (shown t path)
+    (unwrap_or (text_at t path) []) refl
 
-each_published : (encoding : Encoding) (t : Texts) (paths : List (List ℕ)) → AreNotices (flat_map (publication encoding t) paths)
+each_published : (encoding : Encoding) (t : Texts) (paths : List (List ℕ)) →
+    AreNotices (flat_map (publication encoding t) paths)
 each_published encoding t [] = no_notice
 each_published encoding t (path ∷ paths) =
     more_notices (publication encoding t path) (flat_map (publication encoding t) paths)
-        (one_notice (publication encoding t path) (publication_notice encoding t path)) (each_published encoding t paths)
+        (one_notice (publication encoding t path) (publication_notice encoding t path))
+            (each_published encoding t paths)
 
-pub publications_notices : (touched : List (List ℕ)) (encoding : Encoding) (before after : Texts) → AreNotices (publications touched encoding before after)
-publications_notices touched encoding before after = each_published encoding after (published_paths touched before after)
+pub publications_notices : (touched : List (List ℕ)) (encoding : Encoding) (before after : Texts) →
+    AreNotices (publications touched encoding before after)
+publications_notices touched encoding before after =
+    each_published encoding after (published_paths touched before after)
 
 -- ---- log messages of files that are read
 
@@ -81,7 +91,8 @@ Logged l = AreNotices l.logs
 log_kept : (text : List ℕ) (l : Loading) → Logged l → Logged (with_log text l)
 log_kept text l h = more_notices l.logs (log text) h (log_notice text)
 
-settles_kept : (log_of : DocError → List ℕ) (l : Loading) (r : Result Texts DocError) → Logged l → Logged (settles log_of l r)
+settles_kept : (log_of : DocError → List ℕ) (l : Loading) (r : Result Texts DocError) → Logged l →
+    Logged (settles log_of l r)
 settles_kept log_of l (Ok texts) h = h
 settles_kept log_of l (Err e) h = log_kept (log_of e) l h
 
@@ -97,7 +108,8 @@ loads_logged l (path ∷ paths) h = λ has. loads_logged (with_file l path has) 
 unreadable_notices : (all : List Listed) → AreNotices (unreadable_logs all)
 unreadable_notices [] = no_notice
 unreadable_notices (listed.File path ∷ rest) = unreadable_notices rest
-unreadable_notices (listed.NoText ∷ rest) = more_notices _ (unreadable_logs rest) (log_notice _) (unreadable_notices rest)
+unreadable_notices (listed.NoText ∷ rest) = more_notices _ (unreadable_logs rest) (log_notice _)
+    (unreadable_notices rest)
 
 pub root_logged : (root : Option (List ℕ)) → Each Logged (loads_root root)
 root_logged None = no_notice
@@ -105,18 +117,21 @@ root_logged (Some root) = λ all. loads_logged _ (to_load root all) (unreadable_
 
 pub read_back_logged : (l : Loading) (path : List ℕ) → Logged l → Each Logged (read_back l path)
 read_back_logged l path h =
-    each_if Logged (is_read l.texts.root path) _ (Gives l) (λ has. settles_kept (load_log path) l (with_found l.texts path has) h) h
+    each_if Logged (is_read l.texts.root path) _ (Gives l)
+        (λ has. settles_kept (load_log path) l (with_found l.texts path has) h) h
 
 updates_logged : (l : Loading) (path : List ℕ) (kind : FileChangeKind) → Logged l → Each Logged (updates l path kind)
 updates_logged l path Created h = λ has. settles_kept (λ e. watched_log (ByTexts e)) l (with_found l.texts path has) h
 updates_logged l path Changed h = λ has. settles_kept (λ e. watched_log (ByTexts e)) l (with_found l.texts path has) h
 updates_logged l path Deleted h = settles_kept (λ e. watched_log (ByTexts e)) l (loaded l.texts path None) h
 
-change_logged : (l : Loading) (kind : FileChangeKind) (r : Result (List ℕ) Reason) → Logged l → Each Logged (updates_at l kind r)
+change_logged : (l : Loading) (kind : FileChangeKind) (r : Result (List ℕ) Reason) → Logged l →
+    Each Logged (updates_at l kind r)
 change_logged l kind (Err r) h = log_kept (watched_log r) l h
 change_logged l kind (Ok path) h =
     each_if Logged (not (is_read l.texts.root path)) (Gives l) _ h
-        (each_if Logged (is_outside l.texts path) (Gives (with_log (watched_log (ByTexts OutsideRoot)) l)) (updates l path kind)
+        (each_if Logged (is_outside l.texts path) (Gives (with_log (watched_log (ByTexts OutsideRoot)) l))
+            (updates l path kind)
             (log_kept (watched_log (ByTexts OutsideRoot)) l h) (updates_logged l path kind h))
 
 pub changes_logged : (l : Loading) (changes : List FileChange) → Logged l → Each Logged (updates_all l changes)

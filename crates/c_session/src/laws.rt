@@ -7,16 +7,16 @@ ghost use Rattle.c_session.specs.React.{react, Replies};
 ghost use Rattle.c_session.specs.Responses.{IsResponse, AreNotices, IsAnswered, IsExit};
 ghost use Rattle.c_session.specs.State.{State};
 
-/// A law of the definitions, which has nothing to run: whatever the state and the store's answers, a request gets one response,
-/// in front of all else, a notification none, and a content that is neither a request nor a notification just one (JSON-RPC 2.0,
-/// 4 and 5).
+/// A law of the definitions, which has nothing to run: whatever the state and the store's answers, a request gets one
+/// response, in front of all else, a notification none, a response of the client nothing, and any other content one
+/// response alone (JSON-RPC 2.0, 4 and 5).
 pub fn requests_are_answered()
     ensures { (s next : State) (content bytes : List ℕ) (end : Option ℕ) (used : ℕ) (answers : List Entry) →
         react s content answers ≡ Replies next bytes end used → IsAnswered (message content) bytes }
 {}
 
-/// A law of the definitions, which has nothing to run: bytes that begin with a response are no notifications. So what answers a
-/// request is never what answers a notification, and the response to a request is the only one.
+/// A law of the definitions, which has nothing to run: bytes that begin with a response are no notifications. So no
+/// frame is both, no bytes answer a request as well as a notification, and a request's response is the only one.
 pub fn responses_are_no_notices()
     ensures { (id : Option Id) (first rest : List ℕ) → IsResponse id first → AreNotices (first ++ rest) → ⊥ }
 {}
