@@ -5,6 +5,7 @@ pub mod Sending
 pub mod Moving
 pub mod GoingOn
 pub mod EndingUp
+pub mod Exchanging
 pub mod Draining
 pub mod Running
 pub mod Adding

@@ -1,5 +1,6 @@
 pub mod Calls
 pub mod Codes
+pub mod Exchanges
 pub mod Going
 pub mod Lines
 pub mod Plain

@@ -9,5 +9,8 @@ pub mod Publications
 pub mod Publishing
 pub mod Reasoning
 pub mod Remembered
+pub mod Responding
+pub mod Responses
 pub mod Telling
+pub mod Unlike
 pub mod Utf8

@@ -12,6 +12,7 @@ pub mod Reasons
 pub mod Refusals
 pub mod Refused
 pub mod Replies
+pub mod Responses
 pub mod Seen
 pub mod SeenParams
 pub mod Sessions

@@ -5,6 +5,7 @@ mod diagnostics;
 mod documents;
 mod error;
 mod files;
+mod laws;
 mod loading;
 mod message;
 mod news;
@@ -18,5 +19,6 @@ mod starting;
 mod watching;
 
 pub use error::SessionError;
+pub use laws::{exits_alone_end, requests_are_answered, responses_are_no_notices};
 pub use phase::Phase;
 pub use session::{Reply, Session};

@@ -9,7 +9,9 @@ ghost use Rattle.c_session.specs.Reasons.{reason_text, by_params};
 ghost use Rattle.c_session.specs.Refused.{reason, IsReply};
 ghost use Rattle.c_session.specs.Loading.{read_back};
 ghost use Rattle.c_session.specs.News.{news, HasPublished};
+ghost use Rattle.c_session.specs.Message.{message};
 ghost use Rattle.c_session.specs.Replies.{log, error};
+ghost use Rattle.c_session.specs.Responses.{IsAnswered};
 ghost use Rattle.c_session.specs.SeenParams.{seen_file_change};
 ghost use Rattle.c_session.specs.Seen.{seen, seen_id};
 ghost use Rattle.c_session.specs.Sessions.{state_of, loading, outcome_of};
@@ -517,6 +519,7 @@ impl Session {
     ) -> Result<Reply, SessionError>
         requires { D.faults store.old + 1 < 2 ^ 64 }
         ensures handled { IfOk result (λ reply. Handled (state_of self.old) content.now (state_of self.new) reply.bytes.items reply.end (D.answers store.old) (D.answers store.new)) }
+        ensures answered { IfOk result (λ reply. IsAnswered (message content.now) reply.bytes.items) }
         ensures counted { OnOk result (D.faults store.new ≡ D.faults store.old) }
         ensures refused { IfErr result (λ e. Refused e (asks (state_of self.old) content.now) (D.answers store.old) (D.answers store.new) (D.faults store.old) (D.faults store.new)) }
     {

@@ -1,6 +1,7 @@
 use Rattle.std.proofs.Common.{refl}
 use Rattle.c_session.specs.Sessions.{state_of}
 use Rattle.c_session.proofs.Asking.{gave_up, stays}
+use Rattle.c_session.proofs.Responses.{handled_answered}
 use Rattle.c_session.proofs.Telling.{asked_handled, asked_refused}
 use Rattle.c_session.proofs.session.Session.handle.Goals as goal
 
@@ -9,6 +10,10 @@ returns-in-Err-clause-refused g c = (refl, gave_up (stays _ _))
 
 pub returns-in-Ok-on_message-clause-handled : goal.returns-in-Ok-on_message-clause-handled
 returns-in-Ok-on_message-clause-handled g c = asked_handled (state_of c.args.self.now) _ _ _ _ _ _ c.in-Ok.ensures c.message_of-message.ensures c.in-Ok-on_message.ensures.handled
+
+pub returns-in-Ok-on_message-clause-answered : goal.returns-in-Ok-on_message-clause-answered
+returns-in-Ok-on_message-clause-answered g c = handled_answered (state_of c.args.self.now) _ _ _ _
+    (asked_handled (state_of c.args.self.now) _ _ _ _ _ _ c.in-Ok.ensures c.message_of-message.ensures c.in-Ok-on_message.ensures.handled)
 
 pub returns-clause-refused : goal.returns-clause-refused
 returns-clause-refused g c = asked_refused (state_of c.args.self.now) _ _ _ _ _ _ _ c.in-Err-on_message.error c.in-Ok.ensures c.message_of-message.ensures c.in-Err-on_message.ensures.refused

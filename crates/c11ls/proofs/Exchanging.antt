@@ -1,0 +1,107 @@
+-- What the plain server writes is made of replies that answer their contents.
+use Rattle.std.proofs.Common.{◌≡◌, ℕ, List, [], ◌∷◌, ◌++◌, drop, take, Option, None, Some, refl, sym, ap, ◌∙◌, append-nil}
+use Rattle.std.proofs.lemmas.List.Elements.{All-nil, All-cons}
+use Rattle.io_edges.specs.Store.{Entry}
+use Rattle.io_edges.specs.Wire.{Traffic}
+use Rattle.lsp_framing.specs.Frames.{frames}
+use Rattle.c_session.specs.React.{Reaction, Replies, Wants, react}
+use Rattle.c_session.specs.State.{State, Options, fresh}
+use Rattle.c_session.proofs.Responses.{react_answered, exit_ended}
+use Rattle.c11ls.specs.Calls.{Call, call_of, IfTold}
+use Rattle.c11ls.specs.Exchanges.{Exchange, IsFit, EndAtExit, StopsAt, AreAnswered, HasAnswered}
+use Rattle.c11ls.specs.Plain.{Stop, Exited, Lacks, Through, go_on, play, played, plain}
+use Rattle.c11ls.specs.Serve.{HasWritten}
+use Rattle.c11ls.specs.declared.status.Status.{Status}
+use Rattle.c11ls.specs.declared.status.Status.TheVariants as status
+
+-- ---- contents
+
+stops_behind : (stop : Stop) (first : Exchange) (exchanges : List Exchange) (rest : List (List ℕ)) →
+    StopsAt stop exchanges rest → StopsAt stop (first ∷ exchanges) rest
+stops_behind (Exited end) first exchanges rest at =
+    record { before = first ∷ at.before; last = at.last; ends =
+        ap (λ (es : List Exchange). first ∷ es) at.ends; exits = at.exits }
+stops_behind (Lacks call) first exchanges rest at = at
+stops_behind (Through s) first exchanges rest at = at
+
+one_more : (first : Exchange) (contents : List (List ℕ)) (stop : Stop) (out : List ℕ) → IsFit first →
+    AreAnswered contents stop out →
+    AreAnswered (first.content ∷ contents) stop (first.reply ++ out)
+one_more first contents stop out fits others = record {
+  exchanges = first ∷ others.exchanges;
+  rest = others.rest;
+  handled = ap (λ (cs : List (List ℕ)). first.content ∷ cs) others.handled;
+  each = All-cons IsFit first others.exchanges fits others.each;
+  written = ap (λ (bytes : List ℕ). first.reply ++ bytes) others.written;
+  stopped = stops_behind stop first others.exchanges others.rest others.stopped;
+}
+
+exited : (last : Exchange) (contents : List (List ℕ)) (end : ℕ) → IsFit last → EndAtExit (last ∷ []) →
+    AreAnswered (last.content ∷ contents) (Exited end) last.reply
+exited last contents end fits at = record {
+  exchanges = last ∷ [];
+  rest = contents;
+  handled = refl;
+  each = All-cons IsFit last [] fits (All-nil IsFit);
+  written = sym (append-nil last.reply);
+  stopped = at;
+}
+
+more_than_none : (c : List ℕ) (cs : List (List ℕ)) → c ∷ cs ≡ [] → ⊥
+more_than_none c cs none = cc
+
+reacts : (r : Reaction) (s : State) (c : List ℕ) (cs : List (List ℕ)) (answers : List Entry) → react s c answers ≡ r →
+    ((next : State) (left : List Entry) → AreAnswered cs (play cs next left).stop (play cs next left).out) →
+    AreAnswered (c ∷ cs) (go_on r answers (play cs)).stop (go_on r answers (play cs)).out
+reacts (Wants call) s c cs answers is further =
+    record { exchanges = []; rest = c ∷ cs; handled = refl; each = All-nil IsFit; written = refl; stopped =
+        more_than_none c cs }
+reacts (Replies next bytes (Some status) used) s c cs answers is further =
+    let last : Exchange = record { content = c; reply = bytes } in
+    exited last cs status (react_answered s next c bytes (Some status) used answers is)
+        (record { before = []; last = last; ends = refl; exits = exit_ended s next c bytes status used answers is })
+reacts (Replies next bytes None used) s c cs answers is further =
+    one_more (record { content = c; reply = bytes }) cs (play cs next (drop used answers)).stop
+        (play cs next (drop used answers)).out
+        (react_answered s next c bytes None used answers is) (further next (drop used answers))
+
+pub play_answered : (cs : List (List ℕ)) (s : State) (answers : List Entry) →
+    AreAnswered cs (play cs s answers).stop (play cs s answers).out
+play_answered [] s answers = record { exchanges = []; rest = []; handled = refl; each = All-nil IsFit; written =
+    refl; stopped = refl }
+play_answered (c ∷ cs) s answers = reacts (react s c answers) s c cs answers refl (play_answered cs)
+
+pub plain_answered : (options : Options) (bytes : List ℕ) (answers : List Entry) →
+    AreAnswered (frames bytes).contents (played options bytes answers).stop (plain options bytes answers).out
+unfolding played
+plain_answered options bytes answers = play_answered (frames bytes).contents (fresh options) answers
+
+-- ---- a call
+
+wrote : {contents : List (List ℕ)} {stop : Stop} {out out' : List ℕ} → out ≡ out' → AreAnswered contents stop out' →
+    AreAnswered contents stop out
+wrote is a = record { exchanges = a.exchanges; rest = a.rest; handled = a.handled; each = a.each; written =
+    is ∙ a.written; stopped = a.stopped }
+
+pub written_answers : (options : Options) (ended : Status) (call : Call) → HasWritten options ended call →
+    HasAnswered options ended call
+written_answers options status.Done call is = wrote is (plain_answered options call.left call.answers)
+written_answers options status.Unclean call is = wrote is (plain_answered options call.left call.answers)
+written_answers options (status.BadFrame place kind) call is = wrote is (plain_answered options call.left call.answers)
+written_answers options status.Usage call is = is
+written_answers options status.ReadFault call is = wrote is (plain_answered options call.taken call.answers)
+written_answers options status.LongInput call is = wrote is (plain_answered options call.taken call.answers)
+written_answers options status.StoreFault call is = wrote is.0 (plain_answered options call.taken call.answers)
+written_answers options status.WriteFault call is =
+    ((plain options call.left call.answers).out, plain_answered options call.left call.answers, is)
+written_answers options status.NoMemory call is =
+    (is.0, wrote is.1 (play_answered (take is.0 (frames call.taken).contents) (fresh options) call.answers))
+
+-- what follows of each call follows of the call that its ends tell
+pub told_more : (w w' : Option Traffic) (a a' : Option (List Entry)) (P Q : Call → Type 0) →
+    ((call : Call) → P call → Q call) → IfTold w w' a a' P → IfTold w w' a a' Q
+told_more (Some t) (Some t') (Some told) (Some told') P Q more h = more (call_of t t' told told') h
+told_more None w' a a' P Q more h = tt
+told_more (Some t) None a a' P Q more h = h
+told_more (Some t) (Some t') None a' P Q more h = tt
+told_more (Some t) (Some t') (Some told) None P Q more h = h

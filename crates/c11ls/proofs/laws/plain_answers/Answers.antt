@@ -1,0 +1,5 @@
+use Rattle.c11ls.proofs.Exchanging.{plain_answered}
+use Rattle.c11ls.proofs.laws.plain_answers.Goals as goal
+
+pub returns : goal.returns
+returns c = plain_answered

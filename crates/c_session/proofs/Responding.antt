@@ -1,0 +1,141 @@
+-- What is logged and published is made of notifications.
+use Rattle.std.proofs.Common.{ℕ, Bool, true, false, cond, not, List, [], ◌∷◌, ◌++◌, flat_map, Option, None, Some, Result, Ok, Err, refl, sym, ap, ◌∙◌, append-nil}
+use Rattle.std.specs.Option.{unwrap_or}
+use Rattle.std.specs.List.{All, concat}
+use Rattle.std.proofs.lemmas.List.Elements.{All-nil, All-cons, All-append}
+use Rattle.std.proofs.lemmas.List.Folds.{concat-append}
+use Rattle.io_edges.specs.declared.ends.Listed.{Listed}
+use Rattle.io_edges.specs.declared.ends.Listed.TheVariants as listed
+use Rattle.io_edges.specs.declared.ends.Found.{Found}
+use Rattle.io_edges.specs.declared.ends.Found.TheVariants as found
+use Rattle.text_lines.specs.declared.encoding.Encoding.{Encoding}
+use Rattle.uri_paths.specs.Uris.{path_of_uri}
+use Rattle.doc_texts.specs.Texts.{Texts, text_at, version_at}
+use Rattle.doc_texts.specs.Docs.{loaded, is_outside}
+use Rattle.doc_texts.specs.declared.error.DocError.{DocError}
+use Rattle.doc_texts.specs.declared.error.DocError.TheVariants.{OutsideRoot}
+use Rattle.c_session.specs.Asking.{Asking, Gives, AsksList, AsksRead, and_then}
+use Rattle.c_session.specs.Files.{to_load, unreadable_logs, with_found}
+use Rattle.c_session.specs.Loading.{Loading, with_log, settles, load_log, with_file, loads, loads_root, is_read, read_back, watched_log, updates, updates_at, updates_all}
+use Rattle.c_session.specs.Params.{FileChange}
+use Rattle.c_session.specs.declared.params.FileChangeKind.{FileChangeKind}
+use Rattle.c_session.specs.declared.params.FileChangeKind.TheVariants.{Created, Changed, Deleted}
+use Rattle.c_session.specs.Reasons.{Reason, ByTexts, by_uri}
+use Rattle.c_session.specs.Replies.{log}
+use Rattle.c_session.specs.Responses.{IsNotice, Logs, Publishes, AreNotices}
+use Rattle.c_session.specs.Shown.{uri_for, shown, publication, published_paths, publications}
+
+-- ---- a fact of each result, whatever the store answers
+
+abbrev pub Each : {A : Type 0} → (A → Type 0) → Asking A → Type 0
+Each P (Gives x) = P x
+Each P (AsksList root f) = (found : List Listed) → Each P (f found)
+Each P (AsksRead path f) = (found : Found) → Each P (f found)
+
+pub each_then : {A B : Type 0} (P : A → Type 0) (Q : B → Type 0) (t : Asking A) (k : A → Asking B) →
+    Each P t → ((x : A) → P x → Each Q (k x)) → Each Q (and_then t k)
+each_then P Q (Gives x) k h next = next x h
+each_then P Q (AsksList root f) k h next = λ found. each_then P Q (f found) k (h found) next
+each_then P Q (AsksRead path f) k h next = λ found. each_then P Q (f found) k (h found) next
+
+pub each_if : {A : Type 0} (P : A → Type 0) (b : Bool) (t u : Asking A) → Each P t → Each P u → Each P (cond b t u)
+each_if P true t u h k = h
+each_if P false t u h k = k
+
+-- ---- notifications
+
+pub no_notice : AreNotices []
+no_notice = record { notices = []; each = All-nil IsNotice; joined = refl }
+
+pub one_notice : (bytes : List ℕ) → IsNotice bytes → AreNotices bytes
+one_notice bytes is = record {
+  notices = bytes ∷ [];
+  each = All-cons IsNotice bytes [] is (All-nil IsNotice);
+  joined = sym (append-nil bytes);
+}
+
+pub more_notices : (first rest : List ℕ) → AreNotices first → AreNotices rest → AreNotices (first ++ rest)
+more_notices first rest a b = record {
+  notices = a.notices ++ b.notices;
+  each = All-append IsNotice a.notices b.notices a.each b.each;
+  joined = ap (λ (xs : List ℕ). xs ++ rest) a.joined ∙ ap (λ (xs : List ℕ). concat a.notices ++ xs) b.joined
+      ∙ sym (concat-append a.notices b.notices);
+}
+
+pub log_notice : (text : List ℕ) → AreNotices (log text)
+log_notice text = one_notice (log text) (Logs text refl)
+
+publication_notice : (encoding : Encoding) (t : Texts) (path : List ℕ) → IsNotice (publication encoding t path)
+unfolding publication
+publication_notice encoding t path = Publishes encoding (uri_for t path) (version_at t path) (shown t path)
+    (unwrap_or (text_at t path) []) refl
+
+each_published : (encoding : Encoding) (t : Texts) (paths : List (List ℕ)) →
+    AreNotices (flat_map (publication encoding t) paths)
+each_published encoding t [] = no_notice
+each_published encoding t (path ∷ paths) =
+    more_notices (publication encoding t path) (flat_map (publication encoding t) paths)
+        (one_notice (publication encoding t path) (publication_notice encoding t path))
+            (each_published encoding t paths)
+
+pub publications_notices : (touched : List (List ℕ)) (encoding : Encoding) (before after : Texts) →
+    AreNotices (publications touched encoding before after)
+publications_notices touched encoding before after =
+    each_published encoding after (published_paths touched before after)
+
+-- ---- log messages of files that are read
+
+abbrev pub Logged : Loading → Type 0
+Logged l = AreNotices l.logs
+
+log_kept : (text : List ℕ) (l : Loading) → Logged l → Logged (with_log text l)
+log_kept text l h = more_notices l.logs (log text) h (log_notice text)
+
+settles_kept : (log_of : DocError → List ℕ) (l : Loading) (r : Result Texts DocError) → Logged l →
+    Logged (settles log_of l r)
+settles_kept log_of l (Ok texts) h = h
+settles_kept log_of l (Err e) h = log_kept (log_of e) l h
+
+file_kept : (l : Loading) (path : List ℕ) (has : Found) → Logged l → Logged (with_file l path has)
+file_kept l path found.Absent h = h
+file_kept l path found.TooLarge h = settles_kept (load_log path) l (with_found l.texts path found.TooLarge) h
+file_kept l path (found.Bytes bytes) h = settles_kept (load_log path) l (with_found l.texts path (found.Bytes bytes)) h
+
+loads_logged : (l : Loading) (paths : List (List ℕ)) → Logged l → Each Logged (loads l paths)
+loads_logged l [] h = h
+loads_logged l (path ∷ paths) h = λ has. loads_logged (with_file l path has) paths (file_kept l path has h)
+
+unreadable_notices : (all : List Listed) → AreNotices (unreadable_logs all)
+unreadable_notices [] = no_notice
+unreadable_notices (listed.File path ∷ rest) = unreadable_notices rest
+unreadable_notices (listed.NoText ∷ rest) = more_notices _ (unreadable_logs rest) (log_notice _)
+    (unreadable_notices rest)
+
+pub root_logged : (root : Option (List ℕ)) → Each Logged (loads_root root)
+root_logged None = no_notice
+root_logged (Some root) = λ all. loads_logged _ (to_load root all) (unreadable_notices all)
+
+pub read_back_logged : (l : Loading) (path : List ℕ) → Logged l → Each Logged (read_back l path)
+read_back_logged l path h =
+    each_if Logged (is_read l.texts.root path) _ (Gives l)
+        (λ has. settles_kept (load_log path) l (with_found l.texts path has) h) h
+
+updates_logged : (l : Loading) (path : List ℕ) (kind : FileChangeKind) → Logged l → Each Logged (updates l path kind)
+updates_logged l path Created h = λ has. settles_kept (λ e. watched_log (ByTexts e)) l (with_found l.texts path has) h
+updates_logged l path Changed h = λ has. settles_kept (λ e. watched_log (ByTexts e)) l (with_found l.texts path has) h
+updates_logged l path Deleted h = settles_kept (λ e. watched_log (ByTexts e)) l (loaded l.texts path None) h
+
+change_logged : (l : Loading) (kind : FileChangeKind) (r : Result (List ℕ) Reason) → Logged l →
+    Each Logged (updates_at l kind r)
+change_logged l kind (Err r) h = log_kept (watched_log r) l h
+change_logged l kind (Ok path) h =
+    each_if Logged (not (is_read l.texts.root path)) (Gives l) _ h
+        (each_if Logged (is_outside l.texts path) (Gives (with_log (watched_log (ByTexts OutsideRoot)) l))
+            (updates l path kind)
+            (log_kept (watched_log (ByTexts OutsideRoot)) l h) (updates_logged l path kind h))
+
+pub changes_logged : (l : Loading) (changes : List FileChange) → Logged l → Each Logged (updates_all l changes)
+changes_logged l [] h = h
+changes_logged l (change ∷ changes) h =
+    each_then Logged Logged (updates_at l change.kind (by_uri (path_of_uri change.uri))) (λ l'. updates_all l' changes)
+        (change_logged l change.kind (by_uri (path_of_uri change.uri)) h) (λ l' kept. changes_logged l' changes kept)

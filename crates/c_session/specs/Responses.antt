@@ -1,0 +1,57 @@
+-- Which bytes answer a message: a request gets exactly one response, and a notification none (JSON-RPC 2.0, 4 and 5).
+use Rattle.std.specs.Prelude.{◌≡◌, ℕ, ℤ, List, [], ◌++◌, codes, Option, None, Some}
+use Rattle.std.specs.List.{All, concat}
+use Rattle.serde_json.specs.Data.{Data}
+use Rattle.c_tokens.specs.declared.types.LexFault.{LexFault}
+use Rattle.text_lines.specs.declared.encoding.Encoding.{Encoding}
+use Rattle.json_view.specs.declared.id.Id.{Id}
+use Rattle.c_session.specs.Message.{Message, NotJson, Batch, NotObject, Ignored, BadId, BadMethod, Notification, Request}
+use Rattle.c_session.specs.Replies.{response, error, log, publish}
+
+-- The bytes are one response: a result for the id, or an error for it, or for null where no id is known.
+pub data IsResponse (id : Option Id) (bytes : List ℕ) : Type 0 where
+  HasResult : (known : Id) (result : Data) → id ≡ Some known → bytes ≡ response known result → IsResponse id bytes
+  HasError : (code : ℤ) (text : List ℕ) → bytes ≡ error id code text → IsResponse id bytes
+
+-- The bytes are one notification of the server: a log message, or the diagnostics of a document.
+pub data IsNotice (bytes : List ℕ) : Type 0 where
+  Logs : (text : List ℕ) → bytes ≡ log text → IsNotice bytes
+  Publishes : (encoding : Encoding) (uri : List ℕ) (version : Option ℤ) (faults : List LexFault) (text : List ℕ) →
+      bytes ≡ publish encoding uri version faults text → IsNotice bytes
+
+-- The bytes are notifications of the server, one after another, or none.
+pub record AreNotices (bytes : List ℕ) : Type 0 where
+  pub notices : List (List ℕ)
+  pub each : All IsNotice notices
+  pub joined : bytes ≡ concat notices
+
+-- The bytes are one response, and then notifications.
+pub record IsResponded (id : Option Id) (bytes : List ℕ) : Type 0 where
+  pub first : List ℕ
+  pub rest : List ℕ
+  pub responds : IsResponse id first
+  pub notices : AreNotices rest
+  pub joined : bytes ≡ first ++ rest
+
+-- The bytes answer a message: one response in front of all else where it is a request, and nothing but one response
+-- where it is neither a request nor a notification. A response of the client is answered by nothing.
+abbrev pub IsAnswered : Message → List ℕ → Type 0
+IsAnswered (Request id method params) bytes = IsResponded (Some id) bytes
+IsAnswered (Notification method params) bytes = AreNotices bytes
+IsAnswered Ignored bytes = bytes ≡ []
+IsAnswered NotJson bytes = IsResponse None bytes
+IsAnswered Batch bytes = IsResponse None bytes
+IsAnswered NotObject bytes = IsResponse None bytes
+IsAnswered BadId bytes = IsResponse None bytes
+IsAnswered (BadMethod id) bytes = IsResponse id bytes
+
+-- the message is the notification `exit` (LSP 3.17, "Exit Notification")
+abbrev pub IsExit : Message → Type 0
+IsExit (Notification method params) = method ≡ codes "exit"
+IsExit (Request id method params) = ⊥
+IsExit Ignored = ⊥
+IsExit NotJson = ⊥
+IsExit Batch = ⊥
+IsExit NotObject = ⊥
+IsExit BadId = ⊥
+IsExit (BadMethod id) = ⊥
