@@ -5,14 +5,23 @@ use Rattle.io_edges.specs.Store.{Entry}
 use Rattle.io_edges.specs.Wire.{Traffic}
 use Rattle.lsp_framing.specs.Frames.{frames}
 use Rattle.c_session.specs.React.{Reaction, Replies, Wants, react}
-use Rattle.c_session.specs.State.{State, Options, fresh}
-use Rattle.c_session.proofs.Responses.{react_answered, exit_ended}
+use Rattle.c_session.specs.Message.{message}
+use Rattle.c_session.specs.Responses.{IsAnswered, IsExit}
+use Rattle.c_session.specs.State.{State, fresh}
+use Rattle.project_conf.specs.declared.options.Options.{Options}
 use Rattle.c11ls.specs.Calls.{Call, call_of, IfTold}
 use Rattle.c11ls.specs.Exchanges.{Exchange, IsFit, EndAtExit, StopsAt, AreAnswered, HasAnswered}
 use Rattle.c11ls.specs.Plain.{Stop, Exited, Lacks, Through, go_on, play, played, plain}
 use Rattle.c11ls.specs.Serve.{HasWritten}
 use Rattle.c11ls.specs.declared.status.Status.{Status}
 use Rattle.c11ls.specs.declared.status.Status.TheVariants as status
+
+-- what the session's laws say of each reaction
+pub record AreLaws : Type 0 where
+  pub answered : (s next : State) (content bytes : List ℕ) (end : Option ℕ) (used : ℕ) (answers : List Entry) →
+      react s content answers ≡ Replies next bytes end used → IsAnswered (message content) bytes
+  pub exits : (s next : State) (content bytes : List ℕ) (status used : ℕ) (answers : List Entry) →
+      react s content answers ≡ Replies next bytes (Some status) used → IsExit (message content)
 
 -- ---- contents
 
@@ -50,31 +59,31 @@ exited last contents end fits at = record {
 more_than_none : (c : List ℕ) (cs : List (List ℕ)) → c ∷ cs ≡ [] → ⊥
 more_than_none c cs none = cc
 
-reacts : (r : Reaction) (s : State) (c : List ℕ) (cs : List (List ℕ)) (answers : List Entry) → react s c answers ≡ r →
+reacts : AreLaws → (r : Reaction) (s : State) (c : List ℕ) (cs : List (List ℕ)) (answers : List Entry) → react s c answers ≡ r →
     ((next : State) (left : List Entry) → AreAnswered cs (play cs next left).stop (play cs next left).out) →
     AreAnswered (c ∷ cs) (go_on r answers (play cs)).stop (go_on r answers (play cs)).out
-reacts (Wants call) s c cs answers is further =
+reacts laws (Wants call) s c cs answers is further =
     record { exchanges = []; rest = c ∷ cs; handled = refl; each = All-nil IsFit; written = refl; stopped =
         more_than_none c cs }
-reacts (Replies next bytes (Some status) used) s c cs answers is further =
+reacts laws (Replies next bytes (Some status) used) s c cs answers is further =
     let last : Exchange = record { content = c; reply = bytes } in
-    exited last cs status (react_answered s next c bytes (Some status) used answers is)
-        (record { before = []; last = last; ends = refl; exits = exit_ended s next c bytes status used answers is })
-reacts (Replies next bytes None used) s c cs answers is further =
+    exited last cs status (laws.answered s next c bytes (Some status) used answers is)
+        (record { before = []; last = last; ends = refl; exits = laws.exits s next c bytes status used answers is })
+reacts laws (Replies next bytes None used) s c cs answers is further =
     one_more (record { content = c; reply = bytes }) cs (play cs next (drop used answers)).stop
         (play cs next (drop used answers)).out
-        (react_answered s next c bytes None used answers is) (further next (drop used answers))
+        (laws.answered s next c bytes None used answers is) (further next (drop used answers))
 
-pub play_answered : (cs : List (List ℕ)) (s : State) (answers : List Entry) →
+pub play_answered : AreLaws → (cs : List (List ℕ)) (s : State) (answers : List Entry) →
     AreAnswered cs (play cs s answers).stop (play cs s answers).out
-play_answered [] s answers = record { exchanges = []; rest = []; handled = refl; each = All-nil IsFit; written =
+play_answered laws [] s answers = record { exchanges = []; rest = []; handled = refl; each = All-nil IsFit; written =
     refl; stopped = refl }
-play_answered (c ∷ cs) s answers = reacts (react s c answers) s c cs answers refl (play_answered cs)
+play_answered laws (c ∷ cs) s answers = reacts laws (react s c answers) s c cs answers refl (play_answered laws cs)
 
-pub plain_answered : (options : Options) (bytes : List ℕ) (answers : List Entry) →
+pub plain_answered : AreLaws → (options : Options) (bytes : List ℕ) (answers : List Entry) →
     AreAnswered (frames bytes).contents (played options bytes answers).stop (plain options bytes answers).out
 unfolding played
-plain_answered options bytes answers = play_answered (frames bytes).contents (fresh options) answers
+plain_answered laws options bytes answers = play_answered laws (frames bytes).contents (fresh options) answers
 
 -- ---- a call
 
@@ -83,19 +92,19 @@ wrote : {contents : List (List ℕ)} {stop : Stop} {out out' : List ℕ} → out
 wrote is a = record { exchanges = a.exchanges; rest = a.rest; handled = a.handled; each = a.each; written =
     is ∙ a.written; stopped = a.stopped }
 
-pub written_answers : (options : Options) (ended : Status) (call : Call) → HasWritten options ended call →
+pub written_answers : AreLaws → (options : Options) (ended : Status) (call : Call) → HasWritten options ended call →
     HasAnswered options ended call
-written_answers options status.Done call is = wrote is (plain_answered options call.left call.answers)
-written_answers options status.Unclean call is = wrote is (plain_answered options call.left call.answers)
-written_answers options (status.BadFrame place kind) call is = wrote is (plain_answered options call.left call.answers)
-written_answers options status.Usage call is = is
-written_answers options status.ReadFault call is = wrote is (plain_answered options call.taken call.answers)
-written_answers options status.LongInput call is = wrote is (plain_answered options call.taken call.answers)
-written_answers options status.StoreFault call is = wrote is.0 (plain_answered options call.taken call.answers)
-written_answers options status.WriteFault call is =
-    ((plain options call.left call.answers).out, plain_answered options call.left call.answers, is)
-written_answers options status.NoMemory call is =
-    (is.0, wrote is.1 (play_answered (take is.0 (frames call.taken).contents) (fresh options) call.answers))
+written_answers laws options status.Done call is = wrote is (plain_answered laws options call.left call.answers)
+written_answers laws options status.Unclean call is = wrote is (plain_answered laws options call.left call.answers)
+written_answers laws options (status.BadFrame place kind) call is = wrote is (plain_answered laws options call.left call.answers)
+written_answers laws options status.Usage call is = is
+written_answers laws options status.ReadFault call is = wrote is (plain_answered laws options call.taken call.answers)
+written_answers laws options status.LongInput call is = wrote is (plain_answered laws options call.taken call.answers)
+written_answers laws options status.StoreFault call is = wrote is.0 (plain_answered laws options call.taken call.answers)
+written_answers laws options status.WriteFault call is =
+    ((plain options call.left call.answers).out, plain_answered laws options call.left call.answers, is)
+written_answers laws options status.NoMemory call is =
+    (is.0, wrote is.1 (play_answered laws (take is.0 (frames call.taken).contents) (fresh options) call.answers))
 
 -- what follows of each call follows of the call that its ends tell
 pub told_more : (w w' : Option Traffic) (a a' : Option (List Entry)) (P Q : Call → Type 0) →

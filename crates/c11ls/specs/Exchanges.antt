@@ -5,7 +5,8 @@ use Rattle.std.specs.List.{All, flat_map}
 use Rattle.lsp_framing.specs.Frames.{frames}
 use Rattle.c_session.specs.Message.{message}
 use Rattle.c_session.specs.Responses.{IsAnswered, IsExit}
-use Rattle.c_session.specs.State.{Options, fresh}
+use Rattle.project_conf.specs.declared.options.Options.{Options}
+use Rattle.c_session.specs.State.{fresh}
 use Rattle.c11ls.specs.Calls.{Call}
 use Rattle.c11ls.specs.Plain.{Stop, Exited, Lacks, Through, play, played}
 use Rattle.c11ls.specs.Serve.{Begins}

@@ -2,6 +2,7 @@
 ghost use Rattle.std.specs.Prelude.{◌≡◌, ◌⊎◌, ◌↔◌, ◌+◌, ◌<◌, ◌≤◌, ◌^◌, length, true, false};
 ghost use Rattle.c11ls.specs.Calls.{IfTold, IfToldAddsUp};
 ghost use Rattle.c11ls.specs.Codes.{line_of};
+ghost use Rattle.c11ls.specs.Exchanges.{HasAnswered};
 ghost use Rattle.c11ls.specs.Going.{Ended};
 ghost use Rattle.c11ls.specs.Lines.{WritesLine};
 ghost use Rattle.c11ls.specs.Plain.{Done, Unclean, Faulty};
@@ -13,6 +14,7 @@ ghost use Rattle.std.specs.Prelude.{Some};
 use crate::lines::write_line;
 use crate::run::run;
 use crate::status::Status;
+use c_session::{exits_alone_end, requests_are_answered};
 use io_edges::{Sink, Store, Wire};
 use std::alloc::Global;
 use std::sync::ledger::Ledger;
@@ -84,6 +86,10 @@ pub fn serve<W: Wire, E: Sink, D: Store, L: Ledger>(
     ensures written { serves (texts words.now) ≡ true → IfTold (W.told wire.old) (W.told wire.new) (D.answers store.old) (D.answers store.new)
         (HasWritten (options_of (texts words.now)) result) }
 
+    // They are the replies to the contents that were handled, in order: one response for each request, none for a notification.
+    ensures responded { serves (texts words.now) ≡ true → IfTold (W.told wire.old) (W.told wire.new) (D.answers store.old) (D.answers store.new)
+        (HasAnswered (options_of (texts words.now)) result) }
+
     // The store's answers were all used, but for the message in which the call ended early.
     ensures answers { serves (texts words.now) ≡ true → IfTold (W.told wire.old) (W.told wire.new) (D.answers store.old) (D.answers store.new)
         (HasUsed (options_of (texts words.now)) result) }
@@ -123,6 +129,9 @@ pub fn serve<W: Wire, E: Sink, D: Store, L: Ledger>(
     // The error sink got the status's line, or a front of it where its count rose, and nothing else.
     ensures line { WritesLine (line_of result) (E.written errs.old) (E.written errs.new) (E.faults errs.old) (E.faults errs.new) }
 {
+    // laws, for `responded`
+    requests_are_answered();
+    exits_alone_end();
     let status = answer(alloc, words, wire, store, steps);
     tell(errs, status);
     status

@@ -1,5 +1,8 @@
 use Rattle.project_conf.specs.Options.{no_options}
+use Rattle.c11ls.specs.Exchanges.{HasAnswered}
+use Rattle.c11ls.specs.Serve.{HasWritten}
 use Rattle.c11ls.specs.declared.status.Status.TheVariants as status
+use Rattle.c11ls.proofs.Exchanging.{told_more, written_answers}
 use Rattle.c11ls.proofs.Serving.{tells_consumed, tells_written, tells_used, tells_prompt, tells_wanted, tells_done, tells_unclean, tells_bad_frame, tells_long, tells_no_end, tells_complete, not_read, not_write, not_store, ended_as}
 use Rattle.c11ls.proofs.serve.serve.Goals as goal
 
@@ -8,6 +11,11 @@ returns-clause-consumed g c = λ serves. tells_consumed no_options _ _ _ _ _ (c.
 
 pub returns-clause-written : goal.returns-clause-written
 returns-clause-written g c = λ serves. tells_written no_options _ _ _ _ _ (c.answer-status.ensures.ended serves)
+
+pub returns-clause-responded : goal.returns-clause-responded
+returns-clause-responded g c = λ serves. told_more _ _ _ _ (HasWritten no_options c.answer-status.result) (HasAnswered no_options c.answer-status.result)
+    (written_answers (record { answered = c.requests_are_answered.ensures; exits = c.exits_alone_end.ensures }) no_options c.answer-status.result)
+    (tells_written no_options _ _ _ _ _ (c.answer-status.ensures.ended serves))
 
 pub returns-clause-answers : goal.returns-clause-answers
 returns-clause-answers g c = λ serves. tells_used no_options _ _ _ _ _ (c.answer-status.ensures.ended serves)
