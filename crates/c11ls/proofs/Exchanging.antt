@@ -18,9 +18,12 @@ use Rattle.c11ls.specs.declared.status.Status.TheVariants as status
 
 stops_behind : (stop : Stop) (first : Exchange) (exchanges : List Exchange) (rest : List (List ℕ)) →
     StopsAt stop exchanges rest → StopsAt stop (first ∷ exchanges) rest
-stops_behind (Exited end) first exchanges rest at =
-    record { before = first ∷ at.before; last = at.last; ends =
-        ap (λ (es : List Exchange). first ∷ es) at.ends; exits = at.exits }
+stops_behind (Exited end) first exchanges rest at = record {
+  before = first ∷ at.before;
+  last = at.last;
+  ends = ap (λ (es : List Exchange). first ∷ es) at.ends;
+  exits = at.exits;
+}
 stops_behind (Lacks call) first exchanges rest at = at
 stops_behind (Through s) first exchanges rest at = at
 
@@ -47,28 +50,35 @@ exited last contents end fits at = record {
   stopped = at;
 }
 
+none_handled : (contents : List (List ℕ)) (stop : Stop) → StopsAt stop [] contents → AreAnswered contents stop []
+none_handled contents stop at = record {
+  exchanges = [];
+  rest = contents;
+  handled = refl;
+  each = All-nil IsFit;
+  written = refl;
+  stopped = at;
+}
+
 more_than_none : (c : List ℕ) (cs : List (List ℕ)) → c ∷ cs ≡ [] → ⊥
 more_than_none c cs none = cc
 
 reacts : (r : Reaction) (s : State) (c : List ℕ) (cs : List (List ℕ)) (answers : List Entry) → react s c answers ≡ r →
     ((next : State) (left : List Entry) → AreAnswered cs (play cs next left).stop (play cs next left).out) →
     AreAnswered (c ∷ cs) (go_on r answers (play cs)).stop (go_on r answers (play cs)).out
-reacts (Wants call) s c cs answers is further =
-    record { exchanges = []; rest = c ∷ cs; handled = refl; each = All-nil IsFit; written = refl; stopped =
-        more_than_none c cs }
+reacts (Wants call) s c cs answers is further = none_handled (c ∷ cs) (Lacks call) (more_than_none c cs)
 reacts (Replies next bytes (Some status) used) s c cs answers is further =
     let last : Exchange = record { content = c; reply = bytes } in
     exited last cs status (react_answered s next c bytes (Some status) used answers is)
-        (record { before = []; last = last; ends = refl; exits = exit_ended s next c bytes status used answers is })
+    (record { before = []; last = last; ends = refl; exits = exit_ended s next c bytes status used answers is })
 reacts (Replies next bytes None used) s c cs answers is further =
     one_more (record { content = c; reply = bytes }) cs (play cs next (drop used answers)).stop
-        (play cs next (drop used answers)).out
-        (react_answered s next c bytes None used answers is) (further next (drop used answers))
+    (play cs next (drop used answers)).out
+    (react_answered s next c bytes None used answers is) (further next (drop used answers))
 
 pub play_answered : (cs : List (List ℕ)) (s : State) (answers : List Entry) →
     AreAnswered cs (play cs s answers).stop (play cs s answers).out
-play_answered [] s answers = record { exchanges = []; rest = []; handled = refl; each = All-nil IsFit; written =
-    refl; stopped = refl }
+play_answered [] s answers = none_handled [] (Through s) refl
 play_answered (c ∷ cs) s answers = reacts (react s c answers) s c cs answers refl (play_answered cs)
 
 pub plain_answered : (options : Options) (bytes : List ℕ) (answers : List Entry) →
@@ -80,8 +90,14 @@ plain_answered options bytes answers = play_answered (frames bytes).contents (fr
 
 wrote : {contents : List (List ℕ)} {stop : Stop} {out out' : List ℕ} → out ≡ out' → AreAnswered contents stop out' →
     AreAnswered contents stop out
-wrote is a = record { exchanges = a.exchanges; rest = a.rest; handled = a.handled; each = a.each; written =
-    is ∙ a.written; stopped = a.stopped }
+wrote is a = record {
+  exchanges = a.exchanges;
+  rest = a.rest;
+  handled = a.handled;
+  each = a.each;
+  written = is ∙ a.written;
+  stopped = a.stopped;
+}
 
 pub written_answers : (options : Options) (ended : Status) (call : Call) → HasWritten options ended call →
     HasAnswered options ended call
