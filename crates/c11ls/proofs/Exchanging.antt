@@ -27,9 +27,12 @@ pub record AreLaws : Type 0 where
 
 stops_behind : (stop : Stop) (first : Exchange) (exchanges : List Exchange) (rest : List (List ℕ)) →
     StopsAt stop exchanges rest → StopsAt stop (first ∷ exchanges) rest
-stops_behind (Exited end) first exchanges rest at =
-    record { before = first ∷ at.before; last = at.last; ends =
-        ap (λ (es : List Exchange). first ∷ es) at.ends; exits = at.exits }
+stops_behind (Exited end) first exchanges rest at = record {
+  before = first ∷ at.before;
+  last = at.last;
+  ends = ap (λ (es : List Exchange). first ∷ es) at.ends;
+  exits = at.exits;
+}
 stops_behind (Lacks call) first exchanges rest at = at
 stops_behind (Through s) first exchanges rest at = at
 
@@ -56,28 +59,35 @@ exited last contents end fits at = record {
   stopped = at;
 }
 
+none_handled : (contents : List (List ℕ)) (stop : Stop) → StopsAt stop [] contents → AreAnswered contents stop []
+none_handled contents stop at = record {
+  exchanges = [];
+  rest = contents;
+  handled = refl;
+  each = All-nil IsFit;
+  written = refl;
+  stopped = at;
+}
+
 more_than_none : (c : List ℕ) (cs : List (List ℕ)) → c ∷ cs ≡ [] → ⊥
 more_than_none c cs none = cc
 
 reacts : AreLaws → (r : Reaction) (s : State) (c : List ℕ) (cs : List (List ℕ)) (answers : List Entry) → react s c answers ≡ r →
     ((next : State) (left : List Entry) → AreAnswered cs (play cs next left).stop (play cs next left).out) →
     AreAnswered (c ∷ cs) (go_on r answers (play cs)).stop (go_on r answers (play cs)).out
-reacts laws (Wants call) s c cs answers is further =
-    record { exchanges = []; rest = c ∷ cs; handled = refl; each = All-nil IsFit; written = refl; stopped =
-        more_than_none c cs }
+reacts laws (Wants call) s c cs answers is further = none_handled (c ∷ cs) (Lacks call) (more_than_none c cs)
 reacts laws (Replies next bytes (Some status) used) s c cs answers is further =
     let last : Exchange = record { content = c; reply = bytes } in
     exited last cs status (laws.answered s next c bytes (Some status) used answers is)
-        (record { before = []; last = last; ends = refl; exits = laws.exits s next c bytes status used answers is })
+    (record { before = []; last = last; ends = refl; exits = laws.exits s next c bytes status used answers is })
 reacts laws (Replies next bytes None used) s c cs answers is further =
     one_more (record { content = c; reply = bytes }) cs (play cs next (drop used answers)).stop
-        (play cs next (drop used answers)).out
-        (laws.answered s next c bytes None used answers is) (further next (drop used answers))
+    (play cs next (drop used answers)).out
+    (laws.answered s next c bytes None used answers is) (further next (drop used answers))
 
 pub play_answered : AreLaws → (cs : List (List ℕ)) (s : State) (answers : List Entry) →
     AreAnswered cs (play cs s answers).stop (play cs s answers).out
-play_answered laws [] s answers = record { exchanges = []; rest = []; handled = refl; each = All-nil IsFit; written =
-    refl; stopped = refl }
+play_answered laws [] s answers = none_handled [] (Through s) refl
 play_answered laws (c ∷ cs) s answers = reacts laws (react s c answers) s c cs answers refl (play_answered laws cs)
 
 pub plain_answered : AreLaws → (options : Options) (bytes : List ℕ) (answers : List Entry) →
@@ -89,8 +99,14 @@ plain_answered laws options bytes answers = play_answered laws (frames bytes).co
 
 wrote : {contents : List (List ℕ)} {stop : Stop} {out out' : List ℕ} → out ≡ out' → AreAnswered contents stop out' →
     AreAnswered contents stop out
-wrote is a = record { exchanges = a.exchanges; rest = a.rest; handled = a.handled; each = a.each; written =
-    is ∙ a.written; stopped = a.stopped }
+wrote is a = record {
+  exchanges = a.exchanges;
+  rest = a.rest;
+  handled = a.handled;
+  each = a.each;
+  written = is ∙ a.written;
+  stopped = a.stopped;
+}
 
 pub written_answers : AreLaws → (options : Options) (ended : Status) (call : Call) → HasWritten options ended call →
     HasAnswered options ended call

@@ -71,4 +71,4 @@ HasAnswered options status.WriteFault call =
     (whole : List ℕ) × Answer options call.left call whole × Begins call.out whole
 HasAnswered options status.NoMemory call =
     (n : ℕ) × AreAnswered (take n (frames call.taken).contents)
-        (play (take n (frames call.taken).contents) (fresh options) call.answers).stop call.out
+    (play (take n (frames call.taken).contents) (fresh options) call.answers).stop call.out

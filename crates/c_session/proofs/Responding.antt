@@ -75,8 +75,8 @@ each_published : (encoding : Encoding) (t : Texts) (paths : List (List ℕ)) →
 each_published encoding t [] = no_notice
 each_published encoding t (path ∷ paths) =
     more_notices (publication encoding t path) (flat_map (publication encoding t) paths)
-        (one_notice (publication encoding t path) (publication_notice encoding t path))
-            (each_published encoding t paths)
+    (one_notice (publication encoding t path) (publication_notice encoding t path))
+    (each_published encoding t paths)
 
 pub publications_notices : (touched : List (List ℕ)) (encoding : Encoding) (before after : Texts) →
     AreNotices (publications touched encoding before after)
@@ -118,7 +118,7 @@ root_logged (Some root) = λ all. loads_logged _ (to_load root all) (unreadable_
 pub read_back_logged : (l : Loading) (path : List ℕ) → Logged l → Each Logged (read_back l path)
 read_back_logged l path h =
     each_if Logged (is_read l.texts.root path) _ (Gives l)
-        (λ has. settles_kept (load_log path) l (with_found l.texts path has) h) h
+    (λ has. settles_kept (load_log path) l (with_found l.texts path has) h) h
 
 updates_logged : (l : Loading) (path : List ℕ) (kind : FileChangeKind) → Logged l → Each Logged (updates l path kind)
 updates_logged l path Created h = λ has. settles_kept (λ e. watched_log (ByTexts e)) l (with_found l.texts path has) h
@@ -130,12 +130,12 @@ change_logged : (l : Loading) (kind : FileChangeKind) (r : Result (List ℕ) Rea
 change_logged l kind (Err r) h = log_kept (watched_log r) l h
 change_logged l kind (Ok path) h =
     each_if Logged (not (is_read l.texts.root path)) (Gives l) _ h
-        (each_if Logged (is_outside l.texts path) (Gives (with_log (watched_log (ByTexts OutsideRoot)) l))
-            (updates l path kind)
-            (log_kept (watched_log (ByTexts OutsideRoot)) l h) (updates_logged l path kind h))
+    (each_if Logged (is_outside l.texts path) (Gives (with_log (watched_log (ByTexts OutsideRoot)) l))
+    (updates l path kind)
+    (log_kept (watched_log (ByTexts OutsideRoot)) l h) (updates_logged l path kind h))
 
 pub changes_logged : (l : Loading) (changes : List FileChange) → Logged l → Each Logged (updates_all l changes)
 changes_logged l [] h = h
 changes_logged l (change ∷ changes) h =
     each_then Logged Logged (updates_at l change.kind (by_uri (path_of_uri change.uri))) (λ l'. updates_all l' changes)
-        (change_logged l change.kind (by_uri (path_of_uri change.uri)) h) (λ l' kept. changes_logged l' changes kept)
+    (change_logged l change.kind (by_uri (path_of_uri change.uri)) h) (λ l' kept. changes_logged l' changes kept)

@@ -65,8 +65,7 @@ rejected s id code text = responds_alone s id (error (Some id) code text) (HasEr
 begun : (s : State) (id : Id) (encoding : Encoding) (l : Loading) → Logged l → Responds id (begins s id encoding l)
 begun s id encoding l logged =
     let answer = response id (initialize_result encoding) in
-    let shown = publications [] encoding s.texts l.texts in
-    (
+    let shown = publications [] encoding s.texts l.texts in (
       record {
         first = answer;
         rest = l.logs ++ shown;
@@ -80,7 +79,7 @@ begun s id encoding l logged =
 starts_responds : (s : State) (id : Id) (r : Result Beginning Reason) → Each (Responds id) (starts s id r)
 starts_responds s id (Ok b) =
     each_then Logged (Responds id) (loads_root b.root) (λ l. Gives (begins s id b.encoding l)) (root_logged b.root)
-        (λ l logged. begun s id b.encoding l logged)
+    (λ l logged. begun s id b.encoding l logged)
 starts_responds s id (Err r) = rejected s id invalid_params (reason_text r)
 
 fresh_responds : (s : State) (id : Id) (method : List ℕ) (params : Option Data) →
@@ -88,16 +87,16 @@ fresh_responds : (s : State) (id : Id) (method : List ℕ) (params : Option Data
 unfolding fresh_request
 fresh_responds s id method params =
     each_if (Responds id) (bytes_eq method (codes "initialize")) (starts s id (beginning_by params)) _
-        (starts_responds s id (beginning_by params)) (rejected s id server_not_initialized (codes "not initialized"))
+    (starts_responds s id (beginning_by params)) (rejected s id server_not_initialized (codes "not initialized"))
 
 running_responds : (s : State) (id : Id) (method : List ℕ) → Responds id (running_request s id method)
 unfolding running_request
 running_responds s id method =
     either (Responds id) (bytes_eq method (codes "initialize")) _ _
-        (rejected s id invalid_request (codes "already initialized"))
-        (either (Responds id) (bytes_eq method (codes "shutdown")) _ _
-            (responds_alone (in_phase Down s) id (response id null) (HasResult id null refl refl))
-            (rejected s id method_not_found (codes "unknown method")))
+    (rejected s id invalid_request (codes "already initialized"))
+    (either (Responds id) (bytes_eq method (codes "shutdown")) _ _
+    (responds_alone (in_phase Down s) id (response id null) (HasResult id null refl refl))
+    (rejected s id method_not_found (codes "unknown method")))
 
 request_responds : (phase : Phase) (s : State) (id : Id) (method : List ℕ) (params : Option Data) →
     Each (Responds id) (on_request phase s id method params)
@@ -115,9 +114,11 @@ refused s method text = (log_notice _, refl)
 
 has_new_texts : (s s' : State) (logs : List ℕ) (touched : List (List ℕ)) → AreNotices logs →
     Notifies (has_texts s s' [] logs touched)
-has_new_texts s s' logs touched logged =
-    (more_notices logs (publications touched s'.encoding s.texts s'.texts) logged
-        (publications_notices touched s'.encoding s.texts s'.texts), refl)
+has_new_texts s s' logs touched logged = (
+  more_notices logs (publications touched s'.encoding s.texts s'.texts) logged
+      (publications_notices touched s'.encoding s.texts s'.texts),
+  refl,
+)
 
 edits_notify : (s : State) (method : List ℕ) (r : Result Edited Reason) → Notifies (edits s method r)
 edits_notify s method (Ok e) = has_new_texts s (with_texts e.texts s) [] (e.path ∷ []) no_notice
@@ -126,17 +127,17 @@ edits_notify s method (Err r) = refused s method (reason_text r)
 closes_notify : (s : State) (r : Result Edited Reason) → Each Notifies (closes s r)
 closes_notify s (Ok e) =
     each_then Logged Notifies (read_back (record { texts = e.texts; logs = [] }) e.path)
-        (λ l. Gives (has_texts s (with_texts l.texts s) [] l.logs []))
-        (read_back_logged (record { texts = e.texts; logs = [] }) e.path no_notice)
-        (λ l logged. has_new_texts s (with_texts l.texts s) l.logs [] logged)
+    (λ l. Gives (has_texts s (with_texts l.texts s) [] l.logs []))
+    (read_back_logged (record { texts = e.texts; logs = [] }) e.path no_notice)
+    (λ l logged. has_new_texts s (with_texts l.texts s) l.logs [] logged)
 closes_notify s (Err r) = refused s did_close (reason_text r)
 
 watches_notify : (s : State) (r : Result (List FileChange) Reason) → Each Notifies (watches s r)
 watches_notify s (Ok changes) =
     each_then Logged Notifies (updates_all (record { texts = s.texts; logs = [] }) changes)
-        (λ l. Gives (has_texts s (with_texts l.texts s) [] l.logs []))
-        (changes_logged (record { texts = s.texts; logs = [] }) changes no_notice)
-        (λ l logged. has_new_texts s (with_texts l.texts s) l.logs [] logged)
+    (λ l. Gives (has_texts s (with_texts l.texts s) [] l.logs []))
+    (changes_logged (record { texts = s.texts; logs = [] }) changes no_notice)
+    (λ l logged. has_new_texts s (with_texts l.texts s) l.logs [] logged)
 watches_notify s (Err r) = refused s did_change_watched (reason_text r)
 
 running_notifies : (s : State) (method : List ℕ) (params : Option Data) →
@@ -144,14 +145,14 @@ running_notifies : (s : State) (method : List ℕ) (params : Option Data) →
 unfolding running_notification
 running_notifies s method params =
     each_if Notifies (bytes_eq method did_open) (Gives (edits s did_open (opened_by s.texts params))) _
-        (edits_notify s did_open (opened_by s.texts params))
+    (edits_notify s did_open (opened_by s.texts params))
     (each_if Notifies (bytes_eq method did_change) (Gives (edits s did_change (changed_by s.texts s.encoding params))) _
-        (edits_notify s did_change (changed_by s.texts s.encoding params))
+    (edits_notify s did_change (changed_by s.texts s.encoding params))
     (each_if Notifies (bytes_eq method did_close) (closes s (closed_by s.texts params)) _
-        (closes_notify s (closed_by s.texts params))
+    (closes_notify s (closed_by s.texts params))
     (each_if Notifies (bytes_eq method did_change_watched) (watches s (by_params (watching_in params)))
-        (Gives (is_quiet s))
-        (watches_notify s (by_params (watching_in params))) (quiet s))))
+    (Gives (is_quiet s))
+    (watches_notify s (by_params (watching_in params))) (quiet s))))
 
 -- ---- messages
 
@@ -169,7 +170,7 @@ notified method params t = each_weaker Notifies (Fits (Notification method param
 exit_or : (method : List ℕ) (params : Option Data) (b : Bool) (s : State) (status : ℕ) (other : Asking Outcome) →
     bytes_eq method (codes "exit") ≡ b → Each Notifies other →
     Each (Fits (Notification method params))
-        (cond b (Gives (record { state = s; bytes = []; end = Some status })) other)
+    (cond b (Gives (record { state = s; bytes = []; end = Some status })) other)
 exit_or method params true s status other is h = (no_notice, (bytes_eq-Decides method (codes "exit")).0 is)
 exit_or method params false s status other is h = notified method params other h
 
@@ -178,13 +179,13 @@ notification_fits : (s : State) (method : List ℕ) (params : Option Data) →
 unfolding on_notification
 notification_fits s method params =
     exit_or method params (bytes_eq method (codes "exit")) s (exit_status s.phase) _ refl
-        (each_if Notifies (is_running s.phase) (running_notification s method params) (Gives (is_quiet s))
-            (running_notifies s method params) (quiet s))
+    (each_if Notifies (is_running s.phase) (running_notification s method params) (Gives (is_quiet s))
+    (running_notifies s method params) (quiet s))
 
 message_fits : (s : State) (m : Message) → Each (Fits m) (on_message s m)
 message_fits s (Request id method params) =
     each_weaker (Responds id) (Fits (Request id method params)) (on_request s.phase s id method params)
-        (λ o h. (h.0, no_end (Request id method params) o.end h.1)) (request_responds s.phase s id method params)
+    (λ o h. (h.0, no_end (Request id method params) o.end h.1)) (request_responds s.phase s id method params)
 message_fits s (Notification method params) = notification_fits s method params
 message_fits s NotJson = (HasError _ _ refl, tt)
 message_fits s Batch = (HasError _ _ refl, tt)
@@ -228,7 +229,7 @@ react_fits : (s next : State) (content bytes : List ℕ) (end : Option ℕ) (use
 unfolding react
 react_fits s next content bytes end used answers is =
     subst (OfReply (Fits (message content))) is
-        (run_keeps (Fits (message content)) (asks s content) answers (asks_fits s content))
+    (run_keeps (Fits (message content)) (asks s content) answers (asks_fits s content))
 
 pub react_answered : (s next : State) (content bytes : List ℕ) (end : Option ℕ) (used : ℕ) (answers : List Entry) →
     react s content answers ≡ Replies next bytes end used → IsAnswered (message content) bytes

@@ -42,9 +42,9 @@ digits_pass : (k n : ℕ) (acc more : List ℕ) →
 digits_pass zero n acc more = refl
 digits_pass (suc k) n acc more =
     either_passes (n / 10 == 0) (digit_glyph false (n % 10) ∷ acc)
-        (digits_onto k 10 false (n / 10) (digit_glyph false (n % 10) ∷ acc)) more _
-        (digit_passes n (acc ++ more))
-        (digits_pass k (n / 10) (digit_glyph false (n % 10) ∷ acc) more ∙ digit_passes n (acc ++ more))
+    (digits_onto k 10 false (n / 10) (digit_glyph false (n % 10) ∷ acc)) more _
+    (digit_passes n (acc ++ more))
+    (digits_pass k (n / 10) (digit_glyph false (n % 10) ∷ acc) more ∙ digit_passes n (acc ++ more))
 
 number_passes : (n : ℕ) (more : List ℕ) → from_brace (decimal n ++ more) ≡ from_brace more
 unfolding digits
@@ -55,7 +55,7 @@ fields_pass : (ds content more : List ℕ) →
     ≡ from_brace (ds ++ (13 ∷ 10 ∷ 13 ∷ 10 ∷ (content ++ more)))
 fields_pass ds content more =
     ap from_brace (append_assoc (ds ++ 13 ∷ 10 ∷ 13 ∷ 10 ∷ []) content more
-        ∙ append_assoc ds (13 ∷ 10 ∷ 13 ∷ 10 ∷ []) (content ++ more))
+    ∙ append_assoc ds (13 ∷ 10 ∷ 13 ∷ 10 ∷ []) (content ++ more))
 
 header_passes : (content more : List ℕ) → from_brace (framed content ++ more) ≡ from_brace (content ++ more)
 unfolding framed
@@ -120,4 +120,4 @@ are_notices (first ∷ rest) each = is_notice first (concat rest) (All-head IsNo
 pub no_notices : (id : Option Id) (first rest : List ℕ) → IsResponse id first → AreNotices (first ++ rest) → ⊥
 no_notices id first rest responds notices =
     true≢false (sym (is_answer id first rest responds) ∙ ap first_answers notices.joined
-        ∙ are_notices notices.notices notices.each)
+    ∙ are_notices notices.notices notices.each)
