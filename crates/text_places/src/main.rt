@@ -62,7 +62,13 @@ fn sum_of_offsets(table: &LineTable, text: &str, encoding: Encoding, lines: u32,
 }
 
 /// Prints the sum of so many calls over a text of so many lines.
-fn show(rt: &HostRuntime, call: Call, encoding: Encoding, lines: u32, count: u32) -> io::Result<()> {
+fn show(
+    rt: &HostRuntime,
+    call: Call,
+    encoding: Encoding,
+    lines: u32,
+    count: u32,
+) -> io::Result<()> {
     let text = text_of(rt.alloc(), lines)?;
     if text.len() > 4_290_772_992 {
         return println!(rt; "too long");
@@ -105,7 +111,11 @@ fn main(rt: HostRuntime) -> io::Result<()> {
     let [call, lines, count] = words.as_slice() else {
         return show_all(&rt)
     };
-    match (call_of(call.as_str()), lines.parse::<u32>(), count.parse::<u32>()) {
+    match (
+        call_of(call.as_str()),
+        lines.parse::<u32>(),
+        count.parse::<u32>(),
+    ) {
         (Some(call), Ok(lines), Ok(count)) => show(&rt, call, Encoding::Utf16, lines, count),
         _ => show_all(&rt),
     }
