@@ -10,8 +10,6 @@ mod hide;
 mod lists;
 mod operands;
 mod splicing;
-#[cfg(test)]
-mod tests;
 mod tokens;
 mod types;
 
