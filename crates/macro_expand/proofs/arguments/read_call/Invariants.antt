@@ -1,0 +1,13 @@
+use Rattle.std.proofs.Common.{◌≡◌, ◌≤◌, ◌-◌, drop, deque_len}
+use Rattle.macro_expand.specs.Arguments.{reads, called}
+use Rattle.macro_expand.proofs.arguments.read_call.Given as goal
+
+abbrev pub invariant-tokens : goal.invariant-tokens
+invariant-tokens l = record {
+  goes : reads l.def l.at l.reading (drop l.at l.items.items) ≡ called l.def l.rest;
+  depth : l.reading.depth ≤
+      l.at;
+}
+
+abbrev pub decreases-tokens : goal.decreases-tokens
+decreases-tokens l = deque_len l.items - l.at

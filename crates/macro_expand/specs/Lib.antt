@@ -1,0 +1,9 @@
+pub mod HideSets
+pub mod Tokens
+pub mod Progress
+pub mod Arguments
+pub mod Spelling
+pub mod Pasting
+pub mod Substitution
+pub mod Expansion
+pub mod Steps

@@ -1,0 +1,57 @@
+-- How a list is expanded step by step.
+use Rattle.std.specs.Prelude.{◌≡◌, ℕ, ◌<◌, ◌≤◌, List, ◌∷◌, drop, Some, None, MatchOption}
+use Rattle.tok_data.specs.declared.sources.TokId.{TokId}
+use Rattle.macro_table.specs.declared.definition.MacroDef.{MacroDef}
+use Rattle.macro_expand.specs.declared.types.Marked.{Marked}
+use Rattle.macro_expand.specs.declared.types.Progress.{Progress}
+use Rattle.macro_expand.specs.declared.types.Outcome.{Outcome}
+use Rattle.macro_expand.specs.declared.building.Building.{Building}
+use Rattle.macro_expand.specs.declared.expanding.Step.{Step}
+use Rattle.macro_expand.specs.declared.expanding.Walked.{Walked}
+use Rattle.macro_expand.specs.declared.finding.Meaning.{Meaning}
+use Rattle.macro_expand.specs.declared.finding.Meaning.TheVariants as read
+use Rattle.macro_expand.specs.declared.finding.Found.{Found as FoundMacro}
+use Rattle.macro_expand.specs.declared.finding.Found.TheVariants as macro_read
+use Rattle.macro_expand.specs.Substitution.{Expander}
+use Rattle.macro_expand.specs.Expansion.{Definitions, Sense, Ordinary, Line, File, Macro, Found, Stays, Put, Replaced, built, spliced, with_front, expansion}
+
+abbrev pub meant : Meaning → Sense
+meant read.Ordinary = Ordinary
+meant read.Line = Line
+meant read.File = File
+meant (read.Macro def) = Macro def.now
+
+abbrev pub found_of : MacroDef → FoundMacro → Found
+found_of def (macro_read.Stays p) = Stays p
+found_of def (macro_read.Replaced p args names width) = Replaced p def args names width
+
+abbrev pub kept_step : Progress → Marked → List Marked → Step
+kept_step p t ts = record { progress = p; kept = Some t; rest = ts }
+
+abbrev pub put_step : Progress → Marked → List Marked → Step
+put_step p t ts = record { progress = p; kept = None; rest = t ∷ ts }
+
+abbrev pub replaced_step : Marked → List (List ℕ) → List Marked → Building → Step
+replaced_step t names ts b = record { progress = b.progress; kept = None; rest = spliced t names b.tokens b.space ts }
+
+-- one token's worth of a list: where it is kept, and what is left
+abbrev pub step_by : Expander → Marked → List Marked → Found → Step
+step_by again t ts (Stays p) = kept_step p t ts
+step_by again t ts (Put p u) = put_step p u ts
+step_by again t ts (Replaced p def args names width) = replaced_step t names (drop width ts) (built again p t def args)
+
+-- the same where nothing is expanded
+abbrev pub settled : Marked → List Marked → Found → Step
+settled t ts found = step_by (λ p us. record { progress = p; tokens = us }) t ts found
+
+-- each step takes one of the budget, or a token
+abbrev pub IsNearer : Step → ℕ → List Marked → Type 0
+IsNearer s left ts = MatchOption s.kept (s.progress.left < left) (λ t. (s.progress.left ≤ left) × (s.rest ≡ ts))
+
+abbrev pub IsSpent : FoundMacro → ℕ → Type 0
+IsSpent (macro_read.Stays p) left = p.left ≤ left
+IsSpent (macro_read.Replaced p args names width) left = p.left < left
+
+-- what is kept, with the expansion of what is left behind it
+abbrev pub whole : Definitions → List (TokId × ℕ) → Walked → Outcome
+whole table lines w = with_front w.done (expansion table lines w.progress w.rest)

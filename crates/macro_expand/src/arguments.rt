@@ -1,0 +1,429 @@
+// The arguments of a function-like macro (ISO C11 6.10.3p4, p10 to p12).
+ghost use Rattle.std.specs.Prelude.{◌≡◌, ℕ, [], ◌++◌, ◌∷◌, ◌≤◌, ◌<◌, ◌^◌, ◌+◌, length, drop, IfOk, IsTrue, ◌↔◌, option_copied};
+ghost use Rattle.macro_expand.specs.Arguments as spec;
+
+use crate::hide::HideSet;
+use crate::tokens::{is_ident, is_mark};
+use crate::types::{Marked, MarkedList};
+use macro_table::MacroDef;
+use shared_text::Name;
+use std::alloc::{AllocError, Global};
+use std::collections::VecDeque;
+use std::marker::Model;
+use tok_data::OutToken;
+
+// Lists of tokens, one an argument.
+#[derive(Debug, Drop)]
+pub(crate) struct ArgumentList {
+    items: Vec<MarkedList>,
+}
+
+impl Model for ArgumentList {
+    ghost use Rattle.std.specs.Prelude.{List};
+    ghost use Rattle.macro_expand.specs.declared.types.Marked.{Marked};
+
+    ghost Value = { List (List Marked) };
+
+    ghost view = { λ l. l.items.items };
+}
+
+impl ArgumentList {
+    pub(crate) fn new(alloc: Global) -> ArgumentList
+        ensures { result ≡ [] }
+    {
+        ArgumentList {
+            items: Vec::new(alloc),
+        }
+    }
+
+    pub(crate) fn as_slice(&self) -> &[MarkedList]
+        ensures { result.now ≡ self.now }
+    {
+        self.items.as_slice()
+    }
+
+    pub(crate) fn with(self, argument: MarkedList) -> Result<ArgumentList, AllocError>
+        ensures { IfOk result (λ list. list ≡ self ++ argument ∷ []) }
+    {
+        let mut items = self.items;
+        items.push(argument)?;
+        Ok(ArgumentList { items })
+    }
+}
+
+// A list of tokens that is read from the front and written there.
+#[derive(Debug, Drop)]
+pub(crate) struct Rest {
+    items: VecDeque<Marked>,
+}
+
+impl Model for Rest {
+    ghost use Rattle.std.specs.Prelude.{List};
+    ghost use Rattle.macro_expand.specs.declared.types.Marked.{Marked};
+
+    ghost Value = { List Marked };
+
+    ghost view = { λ r. r.items.items };
+}
+
+impl Rest {
+    pub(crate) fn from_list(list: MarkedList) -> Rest
+        ensures { result ≡ list }
+    {
+        Rest {
+            items: VecDeque::from_vec(list.into_vec()),
+        }
+    }
+
+    pub(crate) fn items(&self) -> &VecDeque<Marked>
+        ensures { result.now.items ≡ self.now }
+    {
+        &self.items
+    }
+
+    pub(crate) fn from_items(items: VecDeque<Marked>) -> Rest
+        ensures { result ≡ items.items }
+    {
+        Rest { items }
+    }
+
+    pub(crate) fn is_empty(&self) -> bool
+        ensures { IsTrue result ↔ (self.now ≡ []) }
+    {
+        self.items.is_empty()
+    }
+
+    // Without its first token, where it has one.
+    pub(crate) fn behind(self) -> Rest
+        ensures { result ≡ drop 1 self }
+    {
+        let mut items = self.items;
+        let _first = items.pop_front();
+        Rest { items }
+    }
+
+    // With one token more at the front.
+    pub(crate) fn before(self, token: Marked) -> Result<Rest, AllocError>
+        ensures { IfOk result (λ r. r ≡ token ∷ self) }
+    {
+        let mut items = self.items;
+        items.push_front(token)?;
+        Ok(Rest { items })
+    }
+
+    pub(crate) fn into_items(self) -> VecDeque<Marked>
+        ensures { result.items ≡ self }
+    {
+        self.items
+    }
+}
+
+// What is known of a call that is being read: how many brackets are open, the arguments that are read, and the one
+// that is being read.
+#[derive(Debug, Drop)]
+pub(crate) struct Reading {
+    depth: usize,
+    done: ArgumentList,
+    current: MarkedList,
+}
+
+// What stands behind the name of a function-like macro.
+#[derive(Debug, Drop)]
+pub(crate) enum Called {
+    // No opening parenthesis.
+    Absent,
+    // No closing parenthesis.
+    Unclosed,
+    // The arguments, the hide set of the closing parenthesis, and how many tokens all of it has.
+    Closed(ArgumentList, HideSet, usize),
+}
+
+#[derive(Debug, Drop)]
+pub(crate) enum Turn {
+    Goes(Reading),
+    Ends(Called),
+}
+
+// How many parameters have a name.
+pub(crate) fn name_count(def: &MacroDef) -> usize
+    ensures { result ≡ length (spec.names_of def.now.params) }
+{
+    match &def.params {
+        Some(names) => names.as_slice().len(),
+        None => 0,
+    }
+}
+
+fn taken(reading: Reading, token: &Marked) -> Result<Reading, AllocError>
+    ensures { IfOk result (λ r. r ≡ spec.taken token.now reading) }
+{
+    let Reading {
+        depth,
+        done,
+        current,
+    } = reading;
+    let copy = token.copy()?;
+    let current = current.with(copy)?;
+    Ok(Reading {
+        depth,
+        done,
+        current,
+    })
+}
+
+fn parted(alloc: Global, reading: Reading) -> Result<Reading, AllocError>
+    ensures { IfOk result (λ r. r ≡ spec.parted reading) }
+{
+    let Reading {
+        depth,
+        done,
+        current,
+    } = reading;
+    let done = done.with(current)?;
+    Ok(Reading {
+        depth,
+        done,
+        current: MarkedList::new(alloc),
+    })
+}
+
+#[tactic(auto, unfolding(crate::specs::Arguments::parts))]
+fn parts(def: &MacroDef, reading: &Reading, token: &OutToken) -> bool
+    ensures { result ≡ spec.parts def.now reading.now token.now }
+{
+    if !is_mark(",", token) {
+        return false;
+    }
+    if reading.depth != 1 {
+        return false;
+    }
+    !def.variadic || reading.done.as_slice().len() < name_count(def)
+}
+
+fn opened(reading: Reading, token: &Marked) -> Result<Reading, AllocError>
+    requires { reading.depth < 2 ^ 63 }
+    ensures value { IfOk result (λ r. r ≡ spec.opened token.now reading) }
+    ensures deep { IfOk result (λ r. r.depth ≤ reading.depth + 1) }
+{
+    if reading.depth == 0 {
+        let Reading {
+            depth: _,
+            done,
+            current,
+        } = reading;
+        return Ok(Reading {
+            depth: 1,
+            done,
+            current,
+        });
+    }
+    let taken = taken(reading, token)?;
+    let Reading {
+        depth,
+        done,
+        current,
+    } = taken;
+    Ok(Reading {
+        depth: depth + 1,
+        done,
+        current,
+    })
+}
+
+fn closed(reading: Reading, token: &Marked, at: usize) -> Result<Turn, AllocError>
+    requires depth { 0 < reading.depth }
+    requires place { at < 2 ^ 63 }
+    ensures value { IfOk result (λ t. t ≡ spec.closed token.now reading at) }
+    ensures within { IfOk result (λ t. spec.IsWithin t reading.depth) }
+{
+    if reading.depth == 1 {
+        let Reading {
+            depth: _,
+            done,
+            current,
+        } = reading;
+        let done = done.with(current)?;
+        let hides = token.hides.copy()?;
+        return Ok(Turn::Ends(Called::Closed(done, hides, at + 1)));
+    }
+    let taken = taken(reading, token)?;
+    let Reading {
+        depth,
+        done,
+        current,
+    } = taken;
+    Ok(Turn::Goes(Reading {
+        depth: depth - 1,
+        done,
+        current,
+    }))
+}
+
+#[tactic(auto, unfolding(crate::specs::Arguments::turn))]
+fn take_turn(
+    alloc: Global,
+    def: &MacroDef,
+    at: usize,
+    reading: Reading,
+    token: &Marked,
+) -> Result<Turn, AllocError>
+    requires depth { reading.depth ≤ at }
+    requires place { at < 2 ^ 63 }
+    ensures value { IfOk result (λ t. t ≡ spec.turn def.now at reading token.now) }
+    ensures within { IfOk result (λ t. spec.IsWithin t (at + 1)) }
+{
+    if is_mark("(", &token.token) {
+        let opened = opened(reading, token)?;
+        return Ok(Turn::Goes(opened));
+    }
+    if reading.depth == 0 {
+        return Ok(Turn::Ends(Called::Absent));
+    }
+    if is_mark(")", &token.token) {
+        return closed(reading, token, at);
+    }
+    if parts(def, &reading, &token.token) {
+        let parted = parted(alloc, reading)?;
+        return Ok(Turn::Goes(parted));
+    }
+    let taken = taken(reading, token)?;
+    Ok(Turn::Goes(taken))
+}
+
+fn at_end(reading: &Reading) -> Called
+    ensures { result ≡ spec.at_end reading.now }
+{
+    if reading.depth == 0 {
+        Called::Absent
+    } else {
+        Called::Unclosed
+    }
+}
+
+// The call that the tokens behind a name begin with.
+pub(crate) fn read_call(alloc: Global, def: &MacroDef, rest: &Rest) -> Result<Called, AllocError>
+    ensures { IfOk result (λ c. c ≡ spec.called def.now rest.now) }
+{
+    let items = rest.items();
+    let mut reading = Reading {
+        depth: 0,
+        done: ArgumentList::new(alloc),
+        current: MarkedList::new(alloc),
+    };
+    let mut at = 0;
+    'tokens: loop {
+        let Some(token) = items.get(at) else {
+            return Ok(at_end(&reading));
+        };
+        let turn = take_turn(alloc, def, at, reading, token)?;
+        match turn {
+            Turn::Goes(more) => reading = more,
+            Turn::Ends(called) => return Ok(called),
+        }
+        at += 1;
+    }
+}
+
+fn is_nothing(args: &ArgumentList) -> bool
+    ensures { result ≡ spec.is_nothing args.now }
+{
+    match args.as_slice() {
+        [] => true,
+        [only] => only.as_slice().is_empty(),
+        _ => false,
+    }
+}
+
+// The arguments as the parameters take them; none where they are too few or too many.
+#[tactic(auto, unfolding(crate::specs::Arguments::fitted))]
+pub(crate) fn fitted(
+    alloc: Global,
+    def: &MacroDef,
+    args: ArgumentList,
+) -> Result<Option<ArgumentList>, AllocError>
+    ensures { IfOk result (λ r. r ≡ spec.fitted def.now args) }
+{
+    let count = args.as_slice().len();
+    let names = name_count(def);
+    if def.variadic {
+        if count == names {
+            let all = args.with(MarkedList::new(alloc))?;
+            return Ok(Some(all));
+        }
+        if 0 < count && count - 1 == names {
+            return Ok(Some(args));
+        }
+        return Ok(None);
+    }
+    if names == 0 && is_nothing(&args) {
+        return Ok(Some(ArgumentList::new(alloc)));
+    }
+    if count == names {
+        Ok(Some(args))
+    } else {
+        Ok(None)
+    }
+}
+
+// The variable argument is absent.
+#[tactic(auto, unfolding(crate::specs::Arguments::lacks_variable))]
+pub(crate) fn lacks_variable(def: &MacroDef, args: &ArgumentList) -> bool
+    ensures { result ≡ spec.lacks_variable def.now args.now }
+{
+    if !def.variadic {
+        return false;
+    }
+    args.as_slice().len() == name_count(def)
+}
+
+fn arg_by<'a>(
+    variadic: bool,
+    names: &[Name],
+    args: &'a [MarkedList],
+    name: &str,
+) -> Option<&'a MarkedList>
+    ensures { option_copied result ≡ spec.arg_by variadic names.now args.now name.now }
+{
+    let mut names = names;
+    let mut args = args;
+    'parameters: loop {
+        let Some((arg, behind)) = args.split_first() else {
+            return None;
+        };
+        let Some((first, more)) = names.split_first() else {
+            if variadic && name == "__VA_ARGS__" {
+                return Some(arg);
+            }
+            return None;
+        };
+        if first.as_str() == name {
+            return Some(arg);
+        }
+        names = more;
+        args = behind;
+    }
+}
+
+fn names_of(def: &MacroDef) -> &[Name]
+    ensures { result.now ≡ spec.names_of def.now.params }
+{
+    match &def.params {
+        Some(names) => names.as_slice(),
+        None => &[],
+    }
+}
+
+// The argument of a parameter.
+#[tactic(auto, unfolding(crate::specs::Arguments::arg_of))]
+pub(crate) fn arg_of<'a>(
+    def: &MacroDef,
+    args: &'a [MarkedList],
+    token: &OutToken,
+) -> Option<&'a MarkedList>
+    ensures { option_copied result ≡ spec.arg_of def.now args.now token.now }
+{
+    if !is_ident(token.kind) {
+        return None;
+    }
+    arg_by(def.variadic, names_of(def), args, token.spelling.as_str())
+}

@@ -1,0 +1,223 @@
+// The substitution of arguments into a replacement list (ISO C11 6.10.3.1 to 6.10.3.3), but for their expansion.
+ghost use Rattle.std.specs.Prelude.{◌≡◌, ℕ, [], ◌++◌, ◌∷◌, ◌≤◌, ◌||◌, ◌&&◌, not, IfOk};
+ghost use Rattle.macro_expand.specs.Substitution as spec;
+ghost use Rattle.macro_expand.specs.Tokens.{last_of};
+
+use crate::arguments::Rest;
+use crate::glue::pasted;
+use crate::lists::TokIds;
+use crate::operands::Operand;
+use crate::types::{Marked, MarkedList, Progress};
+use std::alloc::{AllocError, Global};
+use tok_data::TokId;
+
+// What was made of the front of a replacement list.
+#[derive(Debug, Drop)]
+pub(crate) struct Building {
+    pub(crate) progress: Progress,
+    pub(crate) tokens: MarkedList,
+    // White space that nothing took.
+    pub(crate) space: bool,
+    // The last operand had no tokens.
+    pub(crate) empty: bool,
+    // No operand was read.
+    pub(crate) first: bool,
+}
+
+// The same with what one more part of the list made, and how many tokens that has besides its first.
+#[derive(Debug, Drop)]
+pub(crate) struct Part {
+    pub(crate) built: Building,
+    pub(crate) more: usize,
+}
+
+// A list with the rest of another behind it.
+fn appended(list: MarkedList, rest: Rest) -> Result<MarkedList, AllocError>
+    ensures { IfOk result (λ all. all ≡ list ++ rest) }
+{
+    let mut out = list.into_vec();
+    let mut items = rest.into_items();
+    while let Some(token) = items.pop_front() {
+        out.push(token)?;
+    }
+    Ok(MarkedList::from_vec(out))
+}
+
+impl Building {
+    pub(crate) fn begun(alloc: Global, progress: Progress, space: bool) -> Building
+        ensures { result ≡ spec.begun progress space }
+    {
+        Building {
+            progress,
+            tokens: MarkedList::new(alloc),
+            space,
+            empty: false,
+            first: true,
+        }
+    }
+
+    // The white space before an operand.
+    pub(crate) fn space_of(&self, space: bool) -> bool
+        ensures { result ≡ spec.space_of self.now space }
+    {
+        if self.space {
+            return true;
+        }
+        space && !self.first
+    }
+
+    // The tokens of an operand at the end.
+    pub(crate) fn puts(self, space: bool, more: MarkedList) -> Result<Building, AllocError>
+        ensures { IfOk result (λ b. b ≡ spec.puts space more self) }
+    {
+        let Building {
+            progress,
+            tokens,
+            space: _,
+            empty: _,
+            first: _,
+        } = self;
+        let mut items = Rest::from_list(more).into_items();
+        let Some(token) = items.pop_front() else {
+            return Ok(Building {
+                progress,
+                tokens,
+                space,
+                empty: true,
+                first: false,
+            });
+        };
+        let front = tokens.with(token.spaced(space))?;
+        let tokens = appended(front, Rest::from_items(items))?;
+        Ok(Building {
+            progress,
+            tokens,
+            space: false,
+            empty: false,
+            first: false,
+        })
+    }
+
+    pub(crate) fn with_noted(self, toks: TokIds) -> Result<Building, AllocError>
+        ensures { IfOk result (λ b. b ≡ spec.with_noted toks self) }
+    {
+        let Building {
+            progress,
+            tokens,
+            space,
+            empty,
+            first,
+        } = self;
+        let progress = progress.noted(toks)?;
+        Ok(Building {
+            progress,
+            tokens,
+            space,
+            empty,
+            first,
+        })
+    }
+
+    fn glued(self, alloc: Global, site: &TokId, more: MarkedList) -> Result<Building, AllocError>
+        ensures { IfOk result (λ b. b ≡ spec.glued site.now more self) }
+    {
+        let mut items = Rest::from_list(more).into_items();
+        let Some(right) = items.pop_front() else {
+            return Ok(self);
+        };
+        self.pasted_to(alloc, site, right, Rest::from_items(items))
+    }
+
+    // The last token with the next one, and what stands behind that.
+    fn pasted_to(
+        self,
+        alloc: Global,
+        site: &TokId,
+        right: Marked,
+        behind: Rest,
+    ) -> Result<Building, AllocError>
+        ensures { IfOk result (λ b. b ≡ spec.pasted_to site.now right behind (last_of self.tokens) self) }
+    {
+        let Building {
+            progress,
+            tokens,
+            space,
+            empty,
+            first,
+        } = self;
+        let Some((front, left)) = tokens.last() else {
+            let all = behind.before(right)?;
+            let tokens = appended(MarkedList::new(alloc), all)?;
+            return Ok(Building {
+                progress,
+                tokens,
+                space,
+                empty,
+                first,
+            });
+        };
+        let pasted = pasted(alloc, &left, &right)?;
+        match pasted {
+            Some(token) => {
+                let all = behind.before(token)?;
+                let tokens = appended(front, all)?;
+                Ok(Building {
+                    progress,
+                    tokens,
+                    space,
+                    empty,
+                    first,
+                })
+            }
+            None => {
+                let some = behind.before(right)?;
+                let all = some.before(left)?;
+                let tokens = appended(front, all)?;
+                let progress = progress.faulty(alloc, 206, site, "")?;
+                Ok(Building {
+                    progress,
+                    tokens,
+                    space,
+                    empty,
+                    first,
+                })
+            }
+        }
+    }
+
+    // The right operand of `##`.
+    #[tactic(auto, unfolding(crate::specs::Substitution::joins))]
+    pub(crate) fn joins(
+        self,
+        alloc: Global,
+        site: &TokId,
+        more: MarkedList,
+    ) -> Result<Building, AllocError>
+        ensures { IfOk result (λ b. b ≡ spec.joins site.now more self) }
+    {
+        if self.empty {
+            let space = self.space;
+            return self.puts(space, more);
+        }
+        self.glued(alloc, site, more)
+    }
+
+    pub(crate) fn joins_operand(
+        self,
+        alloc: Global,
+        site: &TokId,
+        operand: Operand,
+    ) -> Result<Building, AllocError>
+        ensures { IfOk result (λ b. b ≡ spec.joins_operand site.now self operand) }
+    {
+        let Operand {
+            given: _,
+            tokens,
+            spelled,
+            space: _,
+            more: _,
+        } = operand;
+        let noted = self.with_noted(spelled)?;
+        noted.joins(alloc, site, tokens)
+    }
+}

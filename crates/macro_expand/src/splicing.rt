@@ -1,0 +1,118 @@
+// What replaced a name, in front of the rest of the list.
+ghost use Rattle.std.specs.Prelude.{◌≡◌, ◌++◌, ◌∷◌, drop, IfOk};
+ghost use Rattle.macro_expand.specs.Expansion as spec;
+ghost use Rattle.macro_expand.specs.Substitution as subst;
+ghost use Rattle.macro_expand.specs.Tokens as tokens;
+
+use crate::arguments::Rest;
+use crate::hide::HideSet;
+use crate::types::{Marked, MarkedList};
+use std::alloc::{AllocError, Global};
+use tok_data::{OutToken, TokId};
+
+// The token on a site, hidden from more names.
+fn marked_by(
+    alloc: Global,
+    site: &TokId,
+    names: &HideSet,
+    token: Marked,
+) -> Result<Marked, AllocError>
+    ensures { IfOk result (λ t. t ≡ subst.marked_by site.now names.now token) }
+{
+    let Marked { token, hides } = token;
+    let OutToken {
+        kind,
+        spelling,
+        space_before,
+        spelt,
+        site: _,
+    } = token;
+    let site = site.copy()?;
+    let hides = hides.united(alloc, names)?;
+    Ok(Marked {
+        token: OutToken {
+            kind,
+            spelling,
+            space_before,
+            spelt,
+            site,
+        },
+        hides,
+    })
+}
+
+// White space that nothing took passes to the next token.
+fn passed_on(space: bool, rest: Rest) -> Result<Rest, AllocError>
+    ensures { IfOk result (λ r. r ≡ tokens.passed_on space rest) }
+{
+    let mut items = rest.into_items();
+    let Some(token) = items.pop_front() else {
+        return Ok(Rest::from_items(items));
+    };
+    let space = token.token.space_before || space;
+    items.push_front(token.spaced(space))?;
+    Ok(Rest::from_items(items))
+}
+
+// The tokens on a site, hidden from more names, in front of others.
+fn marked_before(
+    alloc: Global,
+    site: &TokId,
+    names: &HideSet,
+    list: MarkedList,
+    rest: Rest,
+) -> Result<Rest, AllocError>
+    ensures { IfOk result (λ r. r ≡ subst.all_marked site.now names.now list ++ rest) }
+{
+    let mut front = list.into_vec();
+    let mut items = rest.into_items();
+    while let Some(token) = front.pop() {
+        let marked = marked_by(alloc, site, names, token)?;
+        items.push_front(marked)?;
+    }
+    Ok(Rest::from_items(items))
+}
+
+// The first token with this white space before it.
+fn respaced(space: bool, rest: Rest) -> Result<Rest, AllocError>
+    ensures { IfOk result (λ r. r ≡ tokens.first_spaced space rest) }
+{
+    let mut items = rest.into_items();
+    let Some(token) = items.pop_front() else {
+        return Ok(Rest::from_items(items));
+    };
+    items.push_front(token.spaced(space))?;
+    Ok(Rest::from_items(items))
+}
+
+// What replaced a name, in front of the rest.
+pub(crate) fn spliced(
+    alloc: Global,
+    token: &Marked,
+    names: &HideSet,
+    list: MarkedList,
+    space: bool,
+    rest: Rest,
+) -> Result<Rest, AllocError>
+    ensures { IfOk result (λ r. r ≡ spec.spliced token.now names.now list space rest) }
+{
+    let behind = passed_on(space, rest)?;
+    if list.as_slice().is_empty() {
+        return Ok(behind);
+    }
+    let all = marked_before(alloc, &token.token.site, names, list, behind)?;
+    respaced(token.token.space_before, all)
+}
+
+// The rest without its first tokens.
+pub(crate) fn dropped(width: usize, rest: Rest) -> Rest
+    ensures { result ≡ drop width rest }
+{
+    let mut rest = rest;
+    let mut left = width;
+    while 0 < left {
+        rest = rest.behind();
+        left -= 1;
+    }
+    rest
+}

@@ -1,0 +1,341 @@
+// Tokens with their hide sets, what was done so far, and what expansion gives.
+ghost use Rattle.std.specs.Prelude.{◌≡◌, ℕ, [], ◌++◌, ◌∷◌, ◌<◌, IfOk};
+ghost use Rattle.macro_expand.specs.Tokens as spec;
+ghost use Rattle.macro_expand.specs.Progress as made;
+ghost use Rattle.macro_expand.specs.Tokens.{last_of};
+
+use crate::hide::HideSet;
+use crate::lists::{MacroOccs, OutTokens, PpFaults, TokIds};
+use shared_text::Name;
+use std::alloc::{AllocError, Global};
+use std::marker::Model;
+use tok_data::{MacroOcc, MacroRole, OutToken, PpFault, Spelt, TokId};
+
+// A token with the names that it is hidden from.
+#[derive(Debug, Drop)]
+pub(crate) struct Marked {
+    pub(crate) token: OutToken,
+    pub(crate) hides: HideSet,
+}
+
+impl Marked {
+    pub(crate) fn plain(token: OutToken) -> Marked
+        ensures { result ≡ spec.plain token }
+    {
+        Marked {
+            token,
+            hides: HideSet::empty(),
+        }
+    }
+
+    pub(crate) fn copy(&self) -> Result<Marked, AllocError>
+        ensures { IfOk result (λ copy. copy ≡ self.now) }
+    {
+        let token = self.token.copy()?;
+        let hides = self.hides.copy()?;
+        Ok(Marked { token, hides })
+    }
+
+    // The same with this white space before it.
+    pub(crate) fn spaced(self, space: bool) -> Marked
+        ensures { result ≡ spec.spaced space self }
+    {
+        let Marked { token, hides } = self;
+        let OutToken {
+            kind,
+            spelling,
+            space_before: _,
+            spelt,
+            site,
+        } = token;
+        let token = OutToken {
+            kind,
+            spelling,
+            space_before: space,
+            spelt,
+            site,
+        };
+        Marked { token, hides }
+    }
+}
+
+#[derive(Debug, Drop)]
+pub(crate) struct MarkedList {
+    items: Vec<Marked>,
+}
+
+impl Model for MarkedList {
+    ghost use Rattle.std.specs.Prelude.{List};
+    ghost use Rattle.macro_expand.specs.declared.types.Marked.{Marked};
+
+    ghost Value = { List Marked };
+
+    ghost view = { λ l. l.items.items };
+}
+
+impl MarkedList {
+    pub(crate) fn new(alloc: Global) -> MarkedList
+        ensures { result ≡ [] }
+    {
+        MarkedList {
+            items: Vec::new(alloc),
+        }
+    }
+
+    pub(crate) fn from_vec(items: Vec<Marked>) -> MarkedList
+        ensures { result ≡ items.items }
+    {
+        MarkedList { items }
+    }
+
+    pub(crate) fn as_slice(&self) -> &[Marked]
+        ensures { result.now ≡ self.now }
+    {
+        self.items.as_slice()
+    }
+
+    pub(crate) fn into_vec(self) -> Vec<Marked>
+        ensures { result.items ≡ self }
+    {
+        self.items
+    }
+
+    pub(crate) fn with(self, token: Marked) -> Result<MarkedList, AllocError>
+        ensures { IfOk result (λ list. list ≡ self ++ token ∷ []) }
+    {
+        let mut items = self.items;
+        items.push(token)?;
+        Ok(MarkedList { items })
+    }
+
+    pub(crate) fn joined(self, more: MarkedList) -> Result<MarkedList, AllocError>
+        ensures { IfOk result (λ list. list ≡ self ++ more) }
+    {
+        let mut items = self.items;
+        let mut behind = more.items;
+        items.append(&mut behind)?;
+        Ok(MarkedList { items })
+    }
+
+    // The last token with its front.
+    pub(crate) fn last(self) -> Option<(MarkedList, Marked)>
+        ensures { result ≡ last_of self }
+    {
+        let mut items = self.items;
+        match items.pop() {
+            Some(token) => Some((MarkedList { items }, token)),
+            None => None,
+        }
+    }
+
+    pub(crate) fn copy(&self, alloc: Global) -> Result<MarkedList, AllocError>
+        ensures { IfOk result (λ copy. copy ≡ self.now) }
+    {
+        let mut items = Vec::new(alloc);
+        for token in self.items.as_slice() {
+            let copy = token.copy()?;
+            items.push(copy)?;
+        }
+        Ok(MarkedList { items })
+    }
+}
+
+// What was done so far: how many replacements may still be made, and what was noted of those that were.
+#[derive(Debug, Drop)]
+pub(crate) struct Progress {
+    pub(crate) left: u32,
+    // Nothing more is replaced.
+    pub(crate) stopped: bool,
+    pub(crate) faults: PpFaults,
+    pub(crate) spelled: TokIds,
+    pub(crate) macros: MacroOccs,
+    pub(crate) asked: Option<TokId>,
+}
+
+fn is_made(spelt: &Spelt) -> bool
+    ensures { result ≡ made.is_made spelt.now }
+{
+    match spelt {
+        Spelt::At(_) => false,
+        Spelt::Made => true,
+    }
+}
+
+fn place(token: &OutToken) -> Result<TokId, AllocError>
+    ensures { IfOk result (λ tok. tok ≡ made.place_by token.now.site token.now.spelt) }
+{
+    match &token.spelt {
+        Spelt::At(tok) => tok.copy(),
+        Spelt::Made => token.site.copy(),
+    }
+}
+
+fn occurrence(token: &Marked, def: Option<TokId>) -> Result<MacroOcc, AllocError>
+    ensures { IfOk result (λ occ. occ ≡ made.occurrence token.now def) }
+{
+    let tok = place(&token.token)?;
+    let name = token.token.spelling.share()?;
+    Ok(MacroOcc {
+        tok,
+        name,
+        role: MacroRole::Uses,
+        def,
+        made: is_made(&token.token.spelt),
+    })
+}
+
+impl Progress {
+    // A fault more.
+    pub(crate) fn faulty(
+        self,
+        alloc: Global,
+        rule: u16,
+        tok: &TokId,
+        text: &str,
+    ) -> Result<Progress, AllocError>
+        ensures { IfOk result (λ p. p ≡ made.faulty rule tok.now text.now self) }
+    {
+        let Progress {
+            left,
+            stopped,
+            faults,
+            spelled,
+            macros,
+            asked,
+        } = self;
+        let tok = tok.copy()?;
+        let text = Name::from_str(alloc, text)?;
+        let mut items = faults.into_vec();
+        items.push(PpFault { rule, tok, text })?;
+        let faults = PpFaults::from_vec(items);
+        Ok(Progress {
+            left,
+            stopped,
+            faults,
+            spelled,
+            macros,
+            asked,
+        })
+    }
+
+    // Source tokens that were spelled.
+    pub(crate) fn noted(self, toks: TokIds) -> Result<Progress, AllocError>
+        ensures { IfOk result (λ p. p ≡ made.noted toks self) }
+    {
+        let Progress {
+            left,
+            stopped,
+            faults,
+            spelled,
+            macros,
+            asked,
+        } = self;
+        let mut items = spelled.into_vec();
+        let mut more = toks.into_vec();
+        items.append(&mut more)?;
+        let spelled = TokIds::from_vec(items);
+        Ok(Progress {
+            left,
+            stopped,
+            faults,
+            spelled,
+            macros,
+            asked,
+        })
+    }
+
+    // A replacement more.
+    pub(crate) fn counted(self, token: &Marked, def: Option<TokId>) -> Result<Progress, AllocError>
+        requires { 0 < self.left }
+        ensures { IfOk result (λ p. p ≡ made.counted token.now def self) }
+    {
+        let Progress {
+            left,
+            stopped,
+            faults,
+            spelled,
+            macros,
+            asked,
+        } = self;
+        let occurrence = occurrence(token, def)?;
+        let mut items = macros.into_vec();
+        items.push(occurrence)?;
+        let macros = MacroOccs::from_vec(items);
+        Ok(Progress {
+            left: left - 1,
+            stopped,
+            faults,
+            spelled,
+            macros,
+            asked,
+        })
+    }
+
+    // A line that isn't known.
+    pub(crate) fn asking(self, token: &Marked) -> Result<Progress, AllocError>
+        ensures { IfOk result (λ p. p ≡ made.asking token.now self) }
+    {
+        let site = token.token.site.copy()?;
+        let Progress {
+            left,
+            stopped: _,
+            faults,
+            spelled,
+            macros,
+            asked: _,
+        } = self;
+        Ok(Progress {
+            left,
+            stopped: true,
+            faults,
+            spelled,
+            macros,
+            asked: Some(site),
+        })
+    }
+
+    // Too many replacements.
+    pub(crate) fn refused(self, alloc: Global, token: &Marked) -> Result<Progress, AllocError>
+        ensures { IfOk result (λ p. p ≡ made.refused token.now self) }
+    {
+        let faulty = self.faulty(alloc, 207, &token.token.site, "")?;
+        let Progress {
+            left,
+            stopped: _,
+            faults,
+            spelled,
+            macros,
+            asked,
+        } = faulty;
+        Ok(Progress {
+            left,
+            stopped: true,
+            faults,
+            spelled,
+            macros,
+            asked,
+        })
+    }
+}
+
+// What expansion of a list made of it.
+#[derive(Debug, Drop)]
+pub(crate) struct Outcome {
+    pub(crate) progress: Progress,
+    pub(crate) tokens: MarkedList,
+}
+
+/// What macro expansion gives. Where `asked` is some, the lists are empty.
+#[derive(Debug, Drop)]
+pub struct Expanded {
+    pub tokens: OutTokens,
+    /// The number of replacements.
+    pub used: u32,
+    pub faults: PpFaults,
+    /// The source tokens of arguments that `#` spelled.
+    pub spelled: TokIds,
+    /// The identifiers that were replaced.
+    pub macros: MacroOccs,
+    /// The first site at which `__LINE__` was to be replaced and whose line isn't known.
+    pub asked: Option<TokId>,
+}
