@@ -1,6 +1,5 @@
 -- A bound beyond the budget is never met, so expansion is the same under each.
-use Rattle.std.proofs.Common.{◌≡◌, ℕ, zero, suc, ◌<◌, ◌≤◌, Bool, List, [], ◌∷◌, drop, refl, ap, ◌∙◌, arith, ◌&&◌, not, Option}
-use Rattle.std.specs.Prelude.{Some, None}
+use Rattle.std.proofs.Common.{◌≡◌, ℕ, zero, suc, ◌<◌, ◌≤◌, Bool, List, [], ◌∷◌, drop, refl, ap, ◌∙◌, arith, ◌&&◌, not}
 use Rattle.tok_data.specs.declared.sources.TokId.{TokId}
 use Rattle.tok_data.specs.declared.tokens.OutToken.{OutToken}
 use Rattle.macro_expand.specs.declared.types.Marked.{Marked}
@@ -10,18 +9,18 @@ use Rattle.macro_expand.specs.declared.types.Outcome.{Outcome}
 use Rattle.macro_expand.specs.declared.operands.Operand.{Operand}
 use Rattle.macro_expand.specs.declared.building.Building.{Building}
 use Rattle.macro_expand.specs.declared.building.Part.{Part}
-use Rattle.macro_expand.specs.declared.expanding.Step.{Step}
 use Rattle.macro_expand.specs.Tokens.{is_paste, begins_paste}
 use Rattle.macro_expand.specs.Substitution as subst
 use Rattle.macro_expand.specs.Substitution.{Expander}
 use Rattle.macro_expand.specs.Expansion as spec
 use Rattle.macro_expand.specs.Steps as steps
+use Rattle.macro_expand.specs.Steps.{after}
 use Rattle.macro_expand.specs.Expansion.{Found, Stays, Put, Replaced}
 use Rattle.macro_expand.proofs.Cases.{if_both}
 use Rattle.macro_expand.proofs.Spending.{Keeps, Spends, found_spends, part_keeps, substituted_keeps}
 
 -- two ways to expand give the same where fewer replacements are left
-abbrev pub Agrees : Expander → Expander → ℕ → Type 0
+abbrev pub Agrees : (Expander) → (Expander) → ℕ → Type 0
 Agrees f g most = (p : Progress) (ts : List Marked) → p.left < most → f p ts ≡ g p ts
 
 pub operand_agrees : (f g : Expander) (most : ℕ) → Agrees f g most → (b : Building) (o : Operand) (raw : Bool)
@@ -132,14 +131,6 @@ expansion_is table lines n p ts below = bounded_agrees table lines n (suc p.left
 pub expansion_keeps : (table : spec.Definitions) (lines : List (TokId × ℕ)) → Keeps (spec.expansion table lines)
 unfolding spec.expansion
 expansion_keeps table lines = λ p ts. bounded_keeps table lines (suc p.left) p ts
-
--- what comes after a step
-abbrev pub after_by : Expander → Progress → List Marked → Option Marked → Outcome
-after_by again p ts None = again p ts
-after_by again p ts (Some t) = spec.with_front (t ∷ []) (again p ts)
-
-abbrev pub after : Expander → Step → Outcome
-after again s = after_by again s.progress s.rest s.kept
 
 pub step_after : (f g : Expander) (most : ℕ) → Agrees f g most → Keeps f → (more : Progress → Outcome) (t : Marked)
     (ts : List Marked) → ((q : Progress) → q.left ≤ most → more q ≡ g q ts) → (found : Found) → Spends most found

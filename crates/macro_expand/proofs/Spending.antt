@@ -21,7 +21,7 @@ use Rattle.macro_expand.specs.Expansion as spec
 use Rattle.macro_expand.specs.Expansion.{Found, Stays, Put, Replaced, Sense, Ordinary, Line, File, Macro}
 use Rattle.macro_expand.proofs.Cases.{if_cases, above_zero}
 
-abbrev pub Keeps : Expander → Type 0
+abbrev pub Keeps : (Expander) → Type 0
 Keeps again = (p : Progress) (ts : List Marked) → (again p ts).progress.left ≤ p.left
 
 abbrev pub Spends : ℕ → Found → Type 0

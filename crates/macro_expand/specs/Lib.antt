@@ -7,3 +7,4 @@ pub mod Pasting
 pub mod Substitution
 pub mod Expansion
 pub mod Steps
+pub mod Machine

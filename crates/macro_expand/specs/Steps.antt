@@ -1,5 +1,5 @@
 -- How a list is expanded step by step.
-use Rattle.std.specs.Prelude.{◌≡◌, ℕ, ◌<◌, ◌≤◌, List, ◌∷◌, drop, Some, None, MatchOption}
+use Rattle.std.specs.Prelude.{◌≡◌, ℕ, ◌<◌, ◌≤◌, List, [], ◌∷◌, drop, Option, Some, None, MatchOption}
 use Rattle.tok_data.specs.declared.sources.TokId.{TokId}
 use Rattle.macro_table.specs.declared.definition.MacroDef.{MacroDef}
 use Rattle.macro_expand.specs.declared.types.Marked.{Marked}
@@ -7,7 +7,7 @@ use Rattle.macro_expand.specs.declared.types.Progress.{Progress}
 use Rattle.macro_expand.specs.declared.types.Outcome.{Outcome}
 use Rattle.macro_expand.specs.declared.building.Building.{Building}
 use Rattle.macro_expand.specs.declared.expanding.Step.{Step}
-use Rattle.macro_expand.specs.declared.expanding.Walked.{Walked}
+use Rattle.macro_expand.specs.declared.machine.Walked.{Walked}
 use Rattle.macro_expand.specs.declared.finding.Meaning.{Meaning}
 use Rattle.macro_expand.specs.declared.finding.Meaning.TheVariants as read
 use Rattle.macro_expand.specs.declared.finding.Found.{Found as FoundMacro}
@@ -51,6 +51,14 @@ IsNearer s left ts = MatchOption s.kept (s.progress.left < left) (λ t. (s.progr
 abbrev pub IsSpent : FoundMacro → ℕ → Type 0
 IsSpent (macro_read.Stays p) left = p.left ≤ left
 IsSpent (macro_read.Replaced p args names width) left = p.left < left
+
+-- what comes after a step
+abbrev pub after_by : Expander → Progress → List Marked → Option Marked → Outcome
+after_by again p ts None = again p ts
+after_by again p ts (Some t) = with_front (t ∷ []) (again p ts)
+
+abbrev pub after : Expander → Step → Outcome
+after again s = after_by again s.progress s.rest s.kept
 
 -- what is kept, with the expansion of what is left behind it
 abbrev pub whole : Definitions → List (TokId × ℕ) → Walked → Outcome

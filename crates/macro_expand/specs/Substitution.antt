@@ -104,8 +104,11 @@ abbrev pub joins_operand : TokId → Building → Operand → Building
 joins_operand site b o = joins site o.tokens (with_noted o.spelled b)
 
 -- an operand, in front of `##` or not
+abbrev pub operand_part : Expander → Building → Operand → Bool → Part
+operand_part again b o raw = record { built = puts_operand again b o raw; more = o.more }
+
 abbrev pub puts_part : Expander → Building → List OutToken → Operand → Part
-puts_part again b ts o = record { built = puts_operand again b o (begins_paste ts); more = o.more }
+puts_part again b ts o = operand_part again b o (begins_paste ts)
 
 -- `##` with its right operand
 abbrev pub joins_part : TokId → Building → Operand → Part

@@ -68,7 +68,8 @@ impl Building {
 
     // The tokens of an operand at the end.
     pub(crate) fn puts(self, space: bool, more: MarkedList) -> Result<Building, AllocError>
-        ensures { IfOk result (λ b. b ≡ spec.puts space more self) }
+        ensures value { IfOk result (λ b. b ≡ spec.puts space more self) }
+        ensures same { IfOk result (λ b. b.progress.left ≡ self.progress.left) }
     {
         let Building {
             progress,

@@ -4,17 +4,17 @@ ghost use Rattle.std.specs.FinMap as map;
 ghost use Rattle.macro_expand.specs.Expansion as spec;
 ghost use Rattle.macro_expand.specs.Steps as steps;
 ghost use Rattle.macro_expand.specs.Progress as made;
-ghost use Rattle.macro_expand.specs.Substitution as subst;
+ghost use Rattle.macro_expand.specs.Machine as work;
+ghost use Rattle.macro_expand.specs.Substitution.{Expander};
 ghost use Rattle.macro_expand.specs.Tokens as tokens;
 
 use crate::arguments::{ArgumentList, Rest};
-use crate::building::{Building, Part};
 use crate::finding::{Found, Meaning, line_in, macro_found, meaning_of};
 use crate::hide::HideSet;
 use crate::lists::{MacroOccs, OutTokens, PpFaults, TokIds};
-use crate::operands::{Operand, quoted_text, read_operand};
-use crate::splicing::{dropped, spliced};
-use crate::tokens::{begins_paste, is_paste};
+use crate::machine::expansion;
+use crate::operands::quoted_text;
+use crate::splicing::dropped;
 use crate::types::{Expanded, Marked, MarkedList, Outcome, Progress};
 use macro_table::{MacroDef, MacroTable};
 use shared_text::Name;
@@ -134,325 +134,62 @@ fn file_step(
     put(counted, made_token(token, PpKind::Str, text), rest)
 }
 
-// An operand at the end of what is built.
-#[cycle(expansion)]
-fn puts_operand(
-    alloc: Global,
-    table: &MacroTable,
-    lines: &[(TokId, u32)],
-    building: Building,
-    operand: Operand,
-    raw: bool,
-) -> Result<Building, AllocError>
-    ensures value { IfOk result (λ b. b
-        ≡ subst.puts_operand (spec.expansion (map.get table.now) lines.now) building operand raw) }
-    ensures fewer { IfOk result (λ b. b.progress.left ≤ building.progress.left) }
-{
-    let Operand {
-        given,
-        tokens,
-        spelled,
-        space,
-        more: _,
-    } = operand;
-    let space = building.space_of(space);
-    if given && !raw {
-        let Building {
-            progress,
-            tokens: front,
-            space: before,
-            empty,
-            first,
-        } = building;
-        let outcome = expansion(alloc, table, lines, progress, tokens)?;
-        let Outcome { progress, tokens } = outcome;
-        let building = Building {
-            progress,
-            tokens: front,
-            space: before,
-            empty,
-            first,
-        };
-        return building.puts(space, tokens);
-    }
-    let noted = building.with_noted(spelled)?;
-    noted.puts(space, tokens)
+// What comes of a token: a step is taken, or it is replaced by a definition's list, with what is noted then, arguments,
+// a hide set and what stands behind the call.
+#[derive(Drop)]
+pub(crate) enum Taken<'a> {
+    Settled(Step),
+    Called(Progress, Marked, &'a MacroDef, ArgumentList, HideSet, Rest),
 }
 
-// `##` with its right operand.
-fn pastes(
+fn macro_step<'a>(
     alloc: Global,
-    def: &MacroDef,
-    args: &[MarkedList],
-    site: &TokId,
-    building: Building,
-    token: &OutToken,
-    behind: &[OutToken],
-) -> Result<Part, AllocError>
-    ensures value { IfOk result (λ p. p ≡ subst.pastes def.now args.now site.now building token.now behind.now) }
-    ensures same { IfOk result (λ p. p.built.progress.left ≡ building.progress.left) }
-{
-    let Some((right, more)) = behind.split_first() else {
-        let space = building.space_of(token.space_before);
-        let copy = token.copy()?;
-        let one = MarkedList::new(alloc).with(Marked::plain(copy))?;
-        let built = building.puts(space, one)?;
-        return Ok(Part { built, more: 0 });
-    };
-    let operand = read_operand(alloc, def, args, right, more)?;
-    let more = operand.more + 1;
-    let built = building.joins_operand(alloc, site, operand)?;
-    Ok(Part { built, more })
-}
-
-// What stands at the front of a replacement list, at the end of what is built.
-#[cycle(expansion)]
-#[tactic(auto, unfolding(crate::specs::Substitution::part))]
-fn part(
-    alloc: Global,
-    table: &MacroTable,
-    lines: &[(TokId, u32)],
-    def: &MacroDef,
-    args: &[MarkedList],
-    site: &TokId,
-    building: Building,
-    token: &OutToken,
-    behind: &[OutToken],
-) -> Result<Part, AllocError>
-    ensures value { IfOk result (λ p. p
-        ≡ subst.part (spec.expansion (map.get table.now) lines.now)
-        def.now args.now site.now building token.now behind.now) }
-    ensures fewer { IfOk result (λ p. p.built.progress.left ≤ building.progress.left) }
-{
-    if is_paste(token) {
-        return pastes(alloc, def, args, site, building, token, behind);
-    }
-    let operand = read_operand(alloc, def, args, token, behind)?;
-    let more = operand.more;
-    let built = puts_operand(alloc, table, lines, building, operand, begins_paste(behind))?;
-    Ok(Part { built, more })
-}
-
-// A replacement list with its arguments.
-#[cycle(expansion)]
-fn substituted(
-    alloc: Global,
-    table: &MacroTable,
-    lines: &[(TokId, u32)],
-    def: &MacroDef,
-    args: &[MarkedList],
-    site: &TokId,
-    begun: Building,
-) -> Result<Building, AllocError>
-    ensures value { IfOk result (λ b. b
-        ≡ subst.substituted (spec.expansion (map.get table.now) lines.now)
-        def.now args.now site.now 0 begun def.now.body) }
-    ensures fewer { IfOk result (λ b. b.progress.left ≤ begun.progress.left) }
-{
-    let mut rest = def.body.as_slice();
-    let mut building = begun;
-    let mut skip = 0;
-    'parts: while let Some((token, behind)) = rest.split_first() {
-        rest = behind;
-        if 0 < skip {
-            skip -= 1;
-            continue;
-        }
-        let part = part(
-            alloc, table, lines, def, args, site, building, token, behind,
-        )?;
-        building = part.built;
-        skip = part.more;
-    }
-    Ok(building)
-}
-
-// What a name is replaced by, in front of the rest.
-#[cycle(expansion)]
-fn replaced(
-    alloc: Global,
-    table: &MacroTable,
-    lines: &[(TokId, u32)],
-    progress: Progress,
-    token: &Marked,
-    def: &MacroDef,
-    args: ArgumentList,
-    names: HideSet,
-    rest: Rest,
-) -> Result<Step, AllocError>
-    ensures value { IfOk result (λ s. s
-        ≡ steps.replaced_step token.now names rest
-        (spec.built (spec.expansion (map.get table.now) lines.now) progress token.now def.now args)) }
-    ensures fewer { IfOk result (λ s. s.progress.left ≤ progress.left) }
-{
-    let begun = Building::begun(alloc, progress, token.token.space_before);
-    let built = substituted(
-        alloc,
-        table,
-        lines,
-        def,
-        args.as_slice(),
-        &token.token.site,
-        begun,
-    )?;
-    let Building {
-        progress,
-        tokens,
-        space,
-        empty: _,
-        first: _,
-    } = built;
-    let rest = spliced(alloc, token, &names, tokens, space, rest)?;
-    Ok(Step {
-        progress,
-        kept: None,
-        rest,
-    })
-}
-
-#[cycle(expansion)]
-fn macro_step(
-    alloc: Global,
-    table: &MacroTable,
-    lines: &[(TokId, u32)],
     progress: Progress,
     token: Marked,
     rest: Rest,
-    def: &MacroDef,
-) -> Result<Step, AllocError>
-    ensures value { IfOk result (λ s. s
-        ≡ steps.step_by (spec.expansion (map.get table.now) lines.now) token rest
-        (spec.macro_found progress token rest def.now def.now.params)) }
-    ensures nearer { IfOk result (λ s. steps.IsNearer s progress.left rest) }
+    def: &'a MacroDef,
+) -> Result<Taken<'a>, AllocError>
+    ensures value { IfOk result (λ s. (again : Expander) → work.taken_outcome again s
+        ≡ steps.after again (steps.step_by again token rest (spec.macro_found progress token rest def.now def.now.params))) }
+    ensures nearer { IfOk result (λ s. work.IsTaken s progress.left rest) }
 {
     let found = macro_found(alloc, progress, &token, &rest, def)?;
     match found {
-        Found::Stays(progress) => Ok(kept(progress, token, rest)),
-        Found::Replaced(progress, args, names, width) => replaced(
-            alloc,
-            table,
-            lines,
-            progress,
-            &token,
-            def,
-            args,
-            names,
-            dropped(width, rest),
-        ),
+        Found::Stays(progress) => Ok(Taken::Settled(kept(progress, token, rest))),
+        Found::Replaced(progress, args, names, width) => {
+            Ok(Taken::Called(progress, token, def, args, names, dropped(width, rest)))
+        }
     }
 }
 
 // What comes of the first token of a list.
-#[cycle(expansion)]
 #[tactic(auto, unfolding(crate::specs::Expansion::found))]
-fn take_step(
+pub(crate) fn take_step<'a>(
     alloc: Global,
-    table: &MacroTable,
+    table: &'a MacroTable,
     lines: &[(TokId, u32)],
     progress: Progress,
     token: Marked,
     rest: Rest,
-) -> Result<Step, AllocError>
-    ensures value { IfOk result (λ s. s
-        ≡ steps.step_by (spec.expansion (map.get table.now) lines.now) token rest
-        (spec.found (map.get table.now) lines.now progress token rest)) }
-    ensures nearer { IfOk result (λ s. steps.IsNearer s progress.left rest) }
+) -> Result<Taken<'a>, AllocError>
+    ensures value { IfOk result (λ s. (again : Expander) → work.taken_outcome again s
+        ≡ steps.after again (steps.step_by again token rest (spec.found (map.get table.now) lines.now progress token rest))) }
+    ensures nearer { IfOk result (λ s. work.IsTaken s progress.left rest) }
 {
     if progress.stopped {
-        return Ok(kept(progress, token, rest));
+        return Ok(Taken::Settled(kept(progress, token, rest)));
     }
     match meaning_of(table, &token) {
-        Meaning::Ordinary => Ok(kept(progress, token, rest)),
-        Meaning::Line => line_step(alloc, lines, progress, token, rest),
-        Meaning::File => file_step(alloc, progress, token, rest),
-        Meaning::Macro(def) => macro_step(alloc, table, lines, progress, token, rest, def),
-    }
-}
-
-// A list up to a name that was replaced, or to its end: what is done, what is kept and what is left.
-#[derive(Debug, Drop)]
-pub(crate) struct Walked {
-    pub(crate) progress: Progress,
-    pub(crate) done: MarkedList,
-    pub(crate) rest: Rest,
-}
-
-// Goes on to the next name that is replaced.
-#[cycle(expansion)]
-fn walk(
-    alloc: Global,
-    table: &MacroTable,
-    lines: &[(TokId, u32)],
-    walked: Walked,
-) -> Result<Walked, AllocError>
-    ensures value { IfOk result (λ w. steps.whole (map.get table.now) lines.now w
-        ≡ steps.whole (map.get table.now) lines.now walked) }
-    ensures ended { IfOk result (λ w. (w.rest ≡ []) ⊎ (w.progress.left < walked.progress.left)) }
-    ensures fewer { IfOk result (λ w. w.progress.left ≤ walked.progress.left) }
-{
-    let Walked {
-        progress,
-        done,
-        rest,
-    } = walked;
-    let mut progress = progress;
-    let mut rest = rest.into_items();
-    let mut done = done.into_vec();
-    'tokens: while let Some(token) = rest.pop_front() {
-        let step = take_step(alloc, table, lines, progress, token, Rest::from_items(rest))?;
-        let Step {
-            progress: after,
-            kept,
-            rest: behind,
-        } = step;
-        let Some(token) = kept else {
-            return Ok(Walked {
-                progress: after,
-                done: MarkedList::from_vec(done),
-                rest: behind,
-            });
-        };
-        progress = after;
-        rest = behind.into_items();
-        done.push(token)?;
-    }
-    Ok(Walked {
-        progress,
-        done: MarkedList::from_vec(done),
-        rest: Rest::from_items(rest),
-    })
-}
-
-// The expansion of a list of tokens with their hide sets.
-#[cycle(expansion)]
-fn expansion(
-    alloc: Global,
-    table: &MacroTable,
-    lines: &[(TokId, u32)],
-    progress: Progress,
-    tokens: MarkedList,
-) -> Result<Outcome, AllocError>
-    ensures value { IfOk result (λ o. o ≡ spec.expansion (map.get table.now) lines.now progress tokens) }
-    ensures fewer { IfOk result (λ o. o.progress.left ≤ progress.left) }
-{
-    let mut walked = Walked {
-        progress,
-        done: MarkedList::new(alloc),
-        rest: Rest::from_list(tokens),
-    };
-    'names: loop {
-        if walked.rest.is_empty() {
-            let Walked {
-                progress,
-                done,
-                rest: _,
-            } = walked;
-            return Ok(Outcome {
-                progress,
-                tokens: done,
-            });
+        Meaning::Ordinary => Ok(Taken::Settled(kept(progress, token, rest))),
+        Meaning::Line => {
+            let step = line_step(alloc, lines, progress, token, rest)?;
+            Ok(Taken::Settled(step))
         }
-        walked = walk(alloc, table, lines, walked)?;
+        Meaning::File => {
+            let step = file_step(alloc, progress, token, rest)?;
+            Ok(Taken::Settled(step))
+        }
+        Meaning::Macro(def) => macro_step(alloc, progress, token, rest, def),
     }
 }
 
@@ -536,9 +273,6 @@ fn told(alloc: Global, budget: u32, outcome: Outcome) -> Result<Expanded, AllocE
 /// Faults fall on sites: 202 (a wrong number of arguments) and 203 (an open argument list) leave the name as it is, 206
 /// (`##` makes no token) leaves both operands, 207 (too many replacements) comes at most once and leaves everything
 /// behind it, 211 warns of an absent variable argument.
-///
-/// Fails only for want of memory. The time grows with the tokens that come of the list and with the names that hide
-/// each.
 pub fn expand(
     alloc: Global,
     tokens: &[OutToken],

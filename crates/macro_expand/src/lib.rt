@@ -1,6 +1,7 @@
 // Macro expansion (ISO C11 6.10.3) by Prosser's algorithm.
 #![tactic(auto)]
 
+mod advancing;
 mod arguments;
 mod building;
 mod expanding;
@@ -8,6 +9,7 @@ mod finding;
 mod glue;
 mod hide;
 mod lists;
+mod machine;
 mod operands;
 mod splicing;
 mod tokens;

@@ -2,7 +2,7 @@ use Rattle.std.proofs.Common.{ap, ◌∙◌}
 use Rattle.macro_expand.specs.declared.building.Building.{Building}
 use Rattle.macro_expand.specs.Substitution.{with_noted}
 use Rattle.macro_expand.proofs.Spending.{joins_keeps}
-use Rattle.macro_expand.proofs.expanding.pastes.Goals as goal
+use Rattle.macro_expand.proofs.advancing.pastes.Goals as goal
 
 pub returns-clause-same : goal.returns-clause-same
 returns-clause-same c =

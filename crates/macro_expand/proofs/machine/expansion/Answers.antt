@@ -1,0 +1,22 @@
+-- Nothing is left, and nothing waits.
+use Rattle.std.proofs.Common.{arith, ◌≡◌, [], List, length, ap, sym, ◌∙◌}
+use Rattle.std.proofs.lemmas.List.{nil_from_length}
+use Rattle.std.proofs.lemmas.Grind.{common_steps}
+use Rattle.std.specs.FinMap as map
+use Rattle.macro_expand.specs.declared.machine.Frame.{Frame}
+use Rattle.macro_expand.specs.Substitution.{Expander}
+use Rattle.macro_expand.specs.Expansion as spec
+use Rattle.macro_expand.specs.Steps as steps
+use Rattle.macro_expand.specs.Machine as work
+use Rattle.macro_expand.proofs.WalkLemmas.{whole_done}
+use Rattle.macro_expand.proofs.machine.expansion.Goals as goal
+
+pub returns-then-is_empty-2-clause-value : goal.returns-then-is_empty-2-clause-value
+returns-then-is_empty-2-clause-value c =
+    let table = map.get c.args.table.now in
+    let again : Expander = spec.expansion table c.args.lines.now in
+    let short : length c.names.machine.frames.items ≡ 0 = grind (arith, common_steps) in
+    let none : c.names.machine.frames.items ≡ [] = nil_from_length c.names.machine.frames.items short in
+    sym (whole_done table c.args.lines.now c.names.machine.level (c.is_empty.ensures.0 c.if-is_empty.true))
+    ∙ ap (λ (l : List Frame). work.resume again l (steps.whole table c.args.lines.now c.names.machine.level)) (sym none)
+    ∙ c.names.invariant.same

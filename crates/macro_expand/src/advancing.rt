@@ -1,0 +1,138 @@
+// A replacement list up to a parameter whose argument is to be expanded (ISO C11 6.10.3.1), or to its end.
+ghost use Rattle.std.specs.Prelude.{◌≡◌, ℕ, ◌<◌, ◌≤◌, length, IfOk};
+ghost use Rattle.macro_expand.specs.Machine as spec;
+ghost use Rattle.macro_expand.specs.Substitution as subst;
+ghost use Rattle.macro_expand.specs.Substitution.{Expander};
+
+use crate::building::{Building, Part};
+use crate::operands::{Operand, read_operand};
+use crate::tokens::{begins_paste, is_paste};
+use crate::types::{Marked, MarkedList};
+use macro_table::MacroDef;
+use std::alloc::{AllocError, Global};
+use tok_data::{OutToken, TokId};
+
+// What comes of one part of a replacement list, and how many tokens of the list it has besides its first: it is at the
+// end of what is built, or an argument is to be expanded and put there with this white space.
+#[derive(Debug, Drop)]
+pub(crate) enum Next {
+    Built(Building, usize),
+    Wanted(Building, bool, MarkedList, usize),
+}
+
+// What comes of a replacement list: all of it is built, or an argument is to be expanded and put at the end of what is
+// built with this white space; then so many tokens of what is left are read already.
+#[derive(Debug, Drop)]
+pub(crate) enum Advance<'a> {
+    Done(Building),
+    Paused(Building, bool, MarkedList, usize, &'a [OutToken]),
+}
+
+// An operand that isn't joined to the one before it.
+fn puts_operand(building: Building, operand: Operand, raw: bool) -> Result<Next, AllocError>
+    ensures value { IfOk result (λ n. (again : Expander) → spec.part_of again n ≡ subst.operand_part again building operand raw) }
+    ensures same { IfOk result (λ n. spec.next_left n ≡ building.progress.left) }
+{
+    let Operand {
+        given,
+        tokens,
+        spelled,
+        space,
+        more,
+    } = operand;
+    let space = building.space_of(space);
+    if given && !raw {
+        return Ok(Next::Wanted(building, space, tokens, more));
+    }
+    let noted = building.with_noted(spelled)?;
+    let built = noted.puts(space, tokens)?;
+    Ok(Next::Built(built, more))
+}
+
+// `##` with its right operand.
+fn pastes(
+    alloc: Global,
+    def: &MacroDef,
+    args: &[MarkedList],
+    site: &TokId,
+    building: Building,
+    token: &OutToken,
+    behind: &[OutToken],
+) -> Result<Part, AllocError>
+    ensures value { IfOk result (λ p. p ≡ subst.pastes def.now args.now site.now building token.now behind.now) }
+    ensures same { IfOk result (λ p. p.built.progress.left ≡ building.progress.left) }
+{
+    let Some((right, more)) = behind.split_first() else {
+        let space = building.space_of(token.space_before);
+        let copy = token.copy()?;
+        let one = MarkedList::new(alloc).with(Marked::plain(copy))?;
+        let built = building.puts(space, one)?;
+        return Ok(Part { built, more: 0 });
+    };
+    let operand = read_operand(alloc, def, args, right, more)?;
+    let more = operand.more + 1;
+    let built = building.joins_operand(alloc, site, operand)?;
+    Ok(Part { built, more })
+}
+
+// What stands at the front of a replacement list.
+#[tactic(auto, unfolding(crate::specs::Substitution::part))]
+fn next_part(
+    alloc: Global,
+    def: &MacroDef,
+    args: &[MarkedList],
+    site: &TokId,
+    building: Building,
+    token: &OutToken,
+    behind: &[OutToken],
+) -> Result<Next, AllocError>
+    ensures value { IfOk result (λ n. (again : Expander) → spec.part_of again n
+        ≡ subst.part again def.now args.now site.now building token.now behind.now) }
+    ensures same { IfOk result (λ n. spec.next_left n ≡ building.progress.left) }
+{
+    if is_paste(token) {
+        let part = pastes(alloc, def, args, site, building, token, behind)?;
+        let Part { built, more } = part;
+        return Ok(Next::Built(built, more));
+    }
+    let operand = read_operand(alloc, def, args, token, behind)?;
+    puts_operand(building, operand, begins_paste(behind))
+}
+
+// A replacement list of which some tokens are read already.
+pub(crate) fn read_list<'a>(
+    alloc: Global,
+    def: &MacroDef,
+    args: &[MarkedList],
+    site: &TokId,
+    begun: Building,
+    read: usize,
+    list: &'a [OutToken],
+) -> Result<Advance<'a>, AllocError>
+    ensures value { IfOk result (λ a. (again : Expander) → spec.building_of again def.now args.now site.now a
+        ≡ subst.substituted again def.now args.now site.now read begun list.now) }
+    ensures same { IfOk result (λ a. spec.advance_left a ≡ begun.progress.left) }
+    ensures shorter { IfOk result (λ a. spec.IsShorter a (length list.now)) }
+{
+    let mut rest = list;
+    let mut building = begun;
+    let mut skip = read;
+    'parts: while let Some((token, behind)) = rest.split_first() {
+        rest = behind;
+        if 0 < skip {
+            skip -= 1;
+            continue;
+        }
+        let next = next_part(alloc, def, args, site, building, token, behind)?;
+        match next {
+            Next::Built(built, more) => {
+                building = built;
+                skip = more;
+            }
+            Next::Wanted(built, space, argument, more) => {
+                return Ok(Advance::Paused(built, space, argument, more, behind));
+            }
+        }
+    }
+    Ok(Advance::Done(building))
+}

@@ -1,0 +1,357 @@
+// Macro expansion over a list of replacements that are under way, in place of a recursion.
+ghost use Rattle.std.specs.Prelude.{◌≡◌, ℕ, [], ◌≤◌, ◌<◌, ◌⊎◌, ◌+◌, ◌∷◌, IfOk};
+ghost use Rattle.std.specs.FinMap as map;
+ghost use Rattle.macro_expand.specs.Expansion as spec;
+ghost use Rattle.macro_expand.specs.Steps as steps;
+ghost use Rattle.macro_expand.specs.Machine as work;
+ghost use Rattle.macro_expand.specs.Substitution.{Expander};
+
+use crate::advancing::{Advance, read_list};
+use crate::arguments::{ArgumentList, Rest};
+use crate::building::Building;
+use crate::expanding::{Step, Taken, take_step};
+use crate::hide::HideSet;
+use crate::splicing::spliced;
+use crate::types::{Marked, MarkedList, Outcome, Progress};
+use macro_table::{MacroDef, MacroTable};
+use std::alloc::{AllocError, Global};
+use std::collections::VecDeque;
+use tok_data::{OutToken, TokId};
+
+// A list in its expansion: what was done so far, what is expanded and what is left.
+#[derive(Debug, Drop)]
+pub(crate) struct Walked {
+    pub(crate) progress: Progress,
+    pub(crate) done: MarkedList,
+    pub(crate) rest: Rest,
+}
+
+// A name that is replaced: its hide set from then on, its definition and arguments, and what of its list stands before
+// it, expanded, and behind it.
+#[derive(Drop)]
+pub(crate) struct Call<'a> {
+    token: Marked,
+    names: HideSet,
+    def: &'a MacroDef,
+    args: ArgumentList,
+    done: MarkedList,
+    rest: Rest,
+}
+
+// A replacement that waits for the expansion of an argument: what is built of it, the white space before the argument,
+// and what is left of the replacement list, of which some tokens are read already.
+#[derive(Drop)]
+pub(crate) struct Frame<'a> {
+    call: Call<'a>,
+    tokens: MarkedList,
+    before: bool,
+    empty: bool,
+    first: bool,
+    space: bool,
+    skip: usize,
+    behind: &'a [OutToken],
+}
+
+// The list that is expanded, and the replacements that wait for it, the last first.
+#[derive(Drop)]
+pub(crate) struct Machine<'a> {
+    pub(crate) level: Walked,
+    frames: VecDeque<Frame<'a>>,
+}
+
+// Where a list stops: at its end or behind a token that another was put for, or at a name that is replaced.
+#[derive(Drop)]
+pub(crate) enum Stop<'a> {
+    Level(Walked),
+    Called(Progress, Call<'a>),
+}
+
+// Goes on to the next name that is replaced.
+fn walk<'a>(
+    alloc: Global,
+    table: &'a MacroTable,
+    lines: &[(TokId, u32)],
+    walked: Walked,
+) -> Result<Stop<'a>, AllocError>
+    ensures value { IfOk result (λ s. work.stop_outcome (spec.expansion (map.get table.now) lines.now) s
+        ≡ steps.whole (map.get table.now) lines.now walked) }
+    ensures ended { IfOk result (λ s. work.IsStop s walked.progress.left) }
+{
+    let Walked {
+        progress,
+        done,
+        rest,
+    } = walked;
+    let mut progress = progress;
+    let mut rest = rest.into_items();
+    let mut done = done.into_vec();
+    'tokens: while let Some(token) = rest.pop_front() {
+        let taken = take_step(alloc, table, lines, progress, token, Rest::from_items(rest))?;
+        match taken {
+            Taken::Settled(step) => {
+                let Step {
+                    progress: after,
+                    kept,
+                    rest: behind,
+                } = step;
+                let Some(token) = kept else {
+                    return Ok(Stop::Level(Walked {
+                        progress: after,
+                        done: MarkedList::from_vec(done),
+                        rest: behind,
+                    }));
+                };
+                progress = after;
+                rest = behind.into_items();
+                done.push(token)?;
+            }
+            Taken::Called(after, token, def, args, names, behind) => {
+                let done = MarkedList::from_vec(done);
+                return Ok(Stop::Called(
+                    after,
+                    Call {
+                        token,
+                        names,
+                        def,
+                        args,
+                        done,
+                        rest: behind,
+                    },
+                ));
+            }
+        }
+    }
+    Ok(Stop::Level(Walked {
+        progress,
+        done: MarkedList::from_vec(done),
+        rest: Rest::from_items(rest),
+    }))
+}
+
+// A replacement list is built, or waits for an argument.
+fn settle<'a>(
+    alloc: Global,
+    advance: Advance<'a>,
+    call: Call<'a>,
+    frames: VecDeque<Frame<'a>>,
+) -> Result<Machine<'a>, AllocError>
+    ensures value { IfOk result (λ m. (again : Expander) → work.outcome again m
+        ≡ work.resume again frames.entry.items (work.ended again call.entry (work.advanced again call.entry advance.entry))) }
+    ensures same { IfOk result (λ m. m.level.progress.left ≡ work.advance_left advance.entry) }
+    ensures waiting { IfOk result (λ m. work.waiting m.frames.items ≡ work.advance_waiting advance.entry + work.waiting frames.entry.items) }
+{
+    let mut frames = frames;
+    match advance {
+        Advance::Done(built) => {
+            let Call {
+                token,
+                names,
+                def: _,
+                args: _,
+                done,
+                rest,
+            } = call;
+            let Building {
+                progress,
+                tokens,
+                space,
+                empty: _,
+                first: _,
+            } = built;
+            let rest = spliced(alloc, &token, &names, tokens, space, rest)?;
+            Ok(Machine {
+                level: Walked {
+                    progress,
+                    done,
+                    rest,
+                },
+                frames,
+            })
+        }
+        Advance::Paused(built, space, argument, skip, behind) => {
+            let Building {
+                progress,
+                tokens,
+                space: before,
+                empty,
+                first,
+            } = built;
+            frames.push_front(Frame {
+                call,
+                tokens,
+                before,
+                empty,
+                first,
+                space,
+                skip,
+                behind,
+            })?;
+            let level = Walked {
+                progress,
+                done: MarkedList::new(alloc),
+                rest: Rest::from_list(argument),
+            };
+            Ok(Machine { level, frames })
+        }
+    }
+}
+
+// A name's replacement begins.
+fn begin<'a>(
+    alloc: Global,
+    progress: Progress,
+    call: Call<'a>,
+    frames: VecDeque<Frame<'a>>,
+) -> Result<Machine<'a>, AllocError>
+    ensures value { IfOk result (λ m. (again : Expander) → work.outcome again m
+        ≡ work.resume again frames.entry.items
+        (work.ended again call.entry (spec.built again progress call.entry.token call.entry.def.now call.entry.args))) }
+    ensures same { IfOk result (λ m. m.level.progress.left ≡ progress.left) }
+{
+    let def = call.def;
+    let begun = Building::begun(alloc, progress, call.token.token.space_before);
+    let advance = read_list(
+        alloc,
+        def,
+        call.args.as_slice(),
+        &call.token.token.site,
+        begun,
+        0,
+        def.body.as_slice(),
+    )?;
+    let settled = settle(alloc, advance, call, frames)?;
+    Ok(settled)
+}
+
+// An argument is expanded, and its replacement goes on.
+fn goes_on<'a>(
+    alloc: Global,
+    progress: Progress,
+    done: MarkedList,
+    frame: Frame<'a>,
+    frames: VecDeque<Frame<'a>>,
+) -> Result<Machine<'a>, AllocError>
+    ensures value { IfOk result (λ m. (again : Expander) → work.outcome again m
+        ≡ work.resume again (frame.entry ∷ frames.entry.items) (record { progress = progress; tokens = done })) }
+    ensures same { IfOk result (λ m. m.level.progress.left ≡ progress.left) }
+    ensures fewer { IfOk result (λ m. work.waiting m.frames.items < work.waiting (frame.entry ∷ frames.entry.items)) }
+{
+    let Frame {
+        call,
+        tokens,
+        before,
+        empty,
+        first,
+        space,
+        skip,
+        behind,
+    } = frame;
+    let building = Building {
+        progress,
+        tokens,
+        space: before,
+        empty,
+        first,
+    };
+    let built = building.puts(space, done)?;
+    let advance = read_list(
+        alloc,
+        call.def,
+        call.args.as_slice(),
+        &call.token.token.site,
+        built,
+        skip,
+        behind,
+    )?;
+    let settled = settle(alloc, advance, call, frames)?;
+    Ok(settled)
+}
+
+// Goes on until a name is replaced, or all is expanded.
+pub(crate) fn climb<'a>(
+    alloc: Global,
+    table: &'a MacroTable,
+    lines: &[(TokId, u32)],
+    machine: Machine<'a>,
+) -> Result<Machine<'a>, AllocError>
+    ensures value { IfOk result (λ m. work.outcome (spec.expansion (map.get table.now) lines.now) m
+        ≡ work.outcome (spec.expansion (map.get table.now) lines.now) machine.entry) }
+    ensures ended { IfOk result (λ m. work.IsClimbed m machine.entry.level.progress.left) }
+    ensures fewer { IfOk result (λ m. m.level.progress.left ≤ machine.entry.level.progress.left) }
+{
+    let Machine { level, frames } = machine;
+    let mut level = level;
+    let mut frames = frames;
+    'levels: loop {
+        let stop = walk(alloc, table, lines, level)?;
+        match stop {
+            Stop::Called(progress, call) => {
+                let begun = begin(alloc, progress, call, frames)?;
+                return Ok(begun);
+            }
+            Stop::Level(walked) => {
+                if !walked.rest.is_empty() {
+                    return Ok(Machine {
+                        level: walked,
+                        frames,
+                    });
+                }
+                let Some(frame) = frames.pop_front() else {
+                    return Ok(Machine {
+                        level: walked,
+                        frames,
+                    });
+                };
+                let Walked {
+                    progress,
+                    done,
+                    rest: _,
+                } = walked;
+                let next = goes_on(alloc, progress, done, frame, frames)?;
+                let Machine {
+                    level: inner,
+                    frames: waiting,
+                } = next;
+                level = inner;
+                frames = waiting;
+            }
+        }
+    }
+}
+
+// The expansion of a list of tokens with their hide sets.
+pub(crate) fn expansion(
+    alloc: Global,
+    table: &MacroTable,
+    lines: &[(TokId, u32)],
+    progress: Progress,
+    tokens: MarkedList,
+) -> Result<Outcome, AllocError>
+    ensures value { IfOk result (λ o. o ≡ spec.expansion (map.get table.now) lines.now progress tokens) }
+    ensures fewer { IfOk result (λ o. o.progress.left ≤ progress.left) }
+{
+    let level = Walked {
+        progress,
+        done: MarkedList::new(alloc),
+        rest: Rest::from_list(tokens),
+    };
+    let mut machine = Machine {
+        level,
+        frames: VecDeque::new(alloc),
+    };
+    'names: loop {
+        if machine.level.rest.is_empty() && machine.frames.is_empty() {
+            let Machine { level, frames: _ } = machine;
+            let Walked {
+                progress,
+                done,
+                rest: _,
+            } = level;
+            return Ok(Outcome {
+                progress,
+                tokens: done,
+            });
+        }
+        machine = climb(alloc, table, lines, machine)?;
+    }
+}
