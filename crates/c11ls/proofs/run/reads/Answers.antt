@@ -1,5 +1,6 @@
 use Rattle.std.proofs.Common.{◌∙◌, ap, refl, take, Some, arith}
 use Rattle.project_conf.specs.Options.{no_options}
+use Rattle.c_session.specs.State.{fresh}
 use Rattle.c11ls.proofs.Draining.{stands_on}
 use Rattle.c11ls.proofs.EndingUp.{ends_long, ends_unread}
 use Rattle.c11ls.proofs.GoingOn.{going_begins, settled_size}
@@ -9,7 +10,7 @@ use Rattle.c11ls.proofs.run.reads.Goals as goal
 
 pub reads-init : goal.reads-init
 reads-init g c = record {
-  going = going_begins no_options _ _ _ _ (nothing_answered _) c.new-frames.ensures c.new-session.ensures;
+  going = going_begins no_options _ _ _ _ (nothing_answered _) c.new-frames.ensures (c.new-session.ensures ∙ ap fresh c.none.ensures);
   stands = record { read_is = refl; write_is = refl; store_is = refl };
   room = c.requires.room;
   short = omega arith;
