@@ -5,3 +5,8 @@ pub mod WalkLemmas
 pub mod ListLemmas
 pub mod ReadingLemmas
 pub mod Examples
+pub mod SetLemmas
+pub mod NumberLemmas
+pub mod BuildingLemmas
+pub mod FindingLemmas
+pub mod MachineLemmas

@@ -1,5 +1,6 @@
 -- Nothing gives replacements back, and each replacement takes one.
-use Rattle.std.proofs.Common.{◌≡◌, ℕ, zero, suc, ◌<◌, ◌≤◌, Bool, true, false, List, [], ◌∷◌, refl, arith, Option, ◌&&◌, not}
+use Rattle.std.proofs.Common.{◌≡◌, ℕ, zero, suc, ◌<◌, ◌≤◌, Bool, true, false, List, [], ◌∷◌, refl, arith, Option, ◌&&◌}
+use Rattle.std.proofs.Common.{not}
 use Rattle.std.specs.Prelude.{Some, None}
 use Rattle.tok_data.specs.declared.sources.TokId.{TokId}
 use Rattle.tok_data.specs.declared.tokens.OutToken.{OutToken}

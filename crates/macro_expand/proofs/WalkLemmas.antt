@@ -1,18 +1,27 @@
 -- A walk goes by steps. Each lemma has the shape of a loop's invariant: what is done and what is left make an outcome.
-use Rattle.std.proofs.Common.{◌≡◌, ℕ, ◌<◌, ◌≤◌, subst, List, [], ◌∷◌, ◌++◌, ap, sym, ◌∙◌, append_assoc, Option}
+use Rattle.std.proofs.Common.{◌≡◌, ℕ, ◌-◌, ◌<◌, ◌≤◌, subst, map, refl, List, [], ◌∷◌, ◌++◌, ap, sym, ◌∙◌, append_assoc}
+use Rattle.std.proofs.Common.{Option}
 use Rattle.std.proofs.lemmas.List.{append-nil}
 use Rattle.std.specs.Prelude.{Some, None, MatchOption}
 use Rattle.tok_data.specs.declared.sources.TokId.{TokId}
+use Rattle.tok_data.specs.declared.tokens.OutToken.{OutToken}
 use Rattle.macro_expand.specs.declared.types.Marked.{Marked}
 use Rattle.macro_expand.specs.declared.types.Progress.{Progress}
 use Rattle.macro_expand.specs.declared.types.Outcome.{Outcome}
 use Rattle.macro_expand.specs.declared.expanding.Step.{Step}
 use Rattle.macro_expand.specs.declared.machine.Walked.{Walked}
 use Rattle.macro_expand.specs.declared.machine.Frame.{Frame}
+use Rattle.macro_expand.specs.declared.types.Expanded.{Expanded}
+use Rattle.macro_expand.specs.Codes.{Names}
+use Rattle.macro_expand.specs.Stands.{Stands}
+use Rattle.macro_expand.specs.Numbers.{reals, real_outcome}
+use Rattle.macro_expand.specs.Tokens.{plain}
 use Rattle.macro_expand.specs.Expansion as spec
 use Rattle.macro_expand.specs.Steps as steps
 use Rattle.macro_expand.specs.Machine as work
 use Rattle.macro_expand.proofs.Bounds.{expansion_steps}
+use Rattle.macro_expand.proofs.SetLemmas.{stands_for, table_stands}
+use Rattle.macro_expand.proofs.NumberLemmas.{plains_real}
 
 -- an outcome with some tokens
 abbrev pub told : Progress → List Marked → Outcome
@@ -72,11 +81,11 @@ unfolding spec.expansion
 whole_ends table lines p front = ap (told p) (append-nil front)
 
 -- nothing is left
-pub whole_done : (table : spec.Definitions) (lines : List (TokId × ℕ)) (w : Walked)
-    → w.rest ≡ [] → steps.whole table lines w ≡ told w.progress w.done
-whole_done table lines w none =
-    ap (λ (r : List Marked). spec.with_front w.done (spec.expansion table lines w.progress r)) none
-    ∙ whole_ends table lines w.progress w.done
+pub whole_done : (f : Names → Names) (table : spec.Definitions) (lines : List (TokId × ℕ)) (w : Walked)
+    → w.rest ≡ [] → steps.whole f table lines w ≡ told w.progress (reals f w.done)
+whole_done f table lines w none =
+    ap (λ (r : List Marked). spec.with_front (reals f w.done) (spec.expansion table lines w.progress (reals f r))) none
+    ∙ whole_ends table lines w.progress (reals f w.done)
 
 pub kept_nearer : (s : Step) (left : ℕ) (ts : List Marked) (u : Marked)
     → steps.IsNearer s left ts → s.kept ≡ Some u → s.progress.left ≤ left
@@ -91,13 +100,49 @@ put_nearer s left ts near kept =
     × (s.rest ≡ ts))) kept near
 
 -- a level is at its end, and a replacement waits for it
-pub level_ends : (table : spec.Definitions) (lines : List (TokId × ℕ)) (w : Walked) (f : Frame) (fs frames : List Frame)
-    (made o : Outcome)
-    → w.rest ≡ [] → frames ≡ f ∷ fs
-    → made ≡ work.resume (spec.expansion table lines) (f ∷ fs) (told w.progress w.done)
-    → work.resume (spec.expansion table lines) frames (steps.whole table lines w) ≡ o → made ≡ o
-level_ends table lines w f fs frames made o none begins is same =
+pub level_ends : (f : Names → Names) (table : spec.Definitions) (lines : List (TokId × ℕ)) (w : Walked)
+    (waiting : Frame) (others frames : List Frame) (made o : Outcome) → w.rest ≡ [] → frames ≡ waiting ∷ others
+    → made ≡ work.resume f (spec.expansion table lines) (waiting ∷ others) (told w.progress (reals f w.done))
+    → work.resume f (spec.expansion table lines) frames (steps.whole f table lines w) ≡ o → made ≡ o
+level_ends f table lines w waiting others frames made o none begins is same =
     is
-    ∙ ap (work.resume (spec.expansion table lines) (f ∷ fs)) (sym (whole_done table lines w none))
-    ∙ ap (λ (l : List Frame). work.resume (spec.expansion table lines) l (steps.whole table lines w)) (sym begins)
+    ∙ ap (work.resume f (spec.expansion table lines) (waiting ∷ others)) (sym (whole_done f table lines w none))
+    ∙ ap (λ (l : List Frame). work.resume f (spec.expansion table lines) l (steps.whole f table lines w)) (sym begins)
     ∙ same
+
+-- what is told of an outcome reads no hide set
+pub bare_real : (f : Names → Names) (ts : List Marked)
+    → map (λ (t : Marked). t.token) (reals f ts) ≡ map (λ (t : Marked). t.token) ts
+bare_real f [] = refl
+bare_real f (t ∷ ts) = ap (λ (more : List OutToken). t.token ∷ more) (bare_real f ts)
+
+told_by_real : (f : Names → Names) (budget : ℕ) (o : Outcome) (asked : Option TokId)
+    → spec.told_by budget (real_outcome f o) asked ≡ spec.told_by budget o asked
+told_by_real f budget o None =
+    ap (λ (ts : List OutToken). (let all : Expanded = record {
+      tokens = ts;
+      used = budget - o.progress.left;
+      faults = o.progress.faults;
+      spelled = o.progress.spelled;
+      macros = o.progress.macros;
+      asked = None;
+    } in all)) (bare_real f o.tokens)
+told_by_real f budget o (Some site) = refl
+
+pub told_real : (f : Names → Names) (budget : ℕ) (o : Outcome)
+    → spec.told budget (real_outcome f o) ≡ spec.told budget o
+told_real f budget o = told_by_real f budget o o.progress.asked
+
+pub expanded_is : (table : spec.Definitions) (lines : List (TokId × ℕ)) (budget : ℕ) (tokens : List OutToken)
+    (sets : List Names) (list : List Marked) (p : Progress) (o : Outcome)
+    → list ≡ map plain tokens → p ≡ spec.at_first budget
+    → ((f : Names → Names) → Stands f sets
+    → real_outcome f o ≡ spec.expansion table lines p (reals f list))
+    → spec.told budget o ≡ spec.expanded table lines budget tokens
+expanded_is table lines budget tokens sets list p o list_is begun is =
+    let f : Names → Names = stands_for sets in
+    sym (told_real f budget o)
+    ∙ ap (spec.told budget) (is f (table_stands sets)
+    ∙ ap (λ (q : Progress). spec.expansion table lines q (reals f list)) begun
+    ∙ ap (λ (ts : List Marked). spec.expansion table lines (spec.at_first budget) (reals f ts)) list_is
+    ∙ ap (spec.expansion table lines (spec.at_first budget)) (plains_real f refl tokens))

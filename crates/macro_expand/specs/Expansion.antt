@@ -1,6 +1,7 @@
 -- Macro expansion by Prosser's algorithm (ISO C11 6.10.3; `expand`, X3J11/86-196): each token has a hide set, and a
 -- name in its own hide set is left.
-use Rattle.std.specs.Prelude.{ℕ, zero, suc, ◌-◌, ◌==◌, Bool, false, ◌&&◌, not, List, [], ◌∷◌, ◌++◌, map, drop, Option, Some, None, option_map, if◌then◌else◌, bytes_eq, codes, decimal, find}
+use Rattle.std.specs.Prelude.{ℕ, zero, suc, ◌-◌, ◌==◌, Bool, false, ◌&&◌, not, List, [], ◌∷◌, ◌++◌, map, drop, Option}
+use Rattle.std.specs.Prelude.{Some, None, option_map, if◌then◌else◌, bytes_eq, codes, decimal, find}
 use Rattle.tok_data.specs.declared.sources.TokId.{TokId}
 use Rattle.tok_data.specs.declared.tokens.PpKind.{PpKind}
 use Rattle.tok_data.specs.declared.tokens.PpKind.TheVariants.{Number, Str}

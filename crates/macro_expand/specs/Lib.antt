@@ -1,4 +1,8 @@
 pub mod HideSets
+pub mod Codes
+pub mod Stands
+pub mod Joins
+pub mod Numbers
 pub mod Tokens
 pub mod Progress
 pub mod Arguments

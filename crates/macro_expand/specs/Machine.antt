@@ -1,8 +1,9 @@
 -- What a state of the expansion stands for: the list that is expanded, in the replacements that wait for it.
-use Rattle.std.specs.Prelude.{◌≡◌, ℕ, ◌+◌, ◌<◌, ◌≤◌, ◌⊎◌, List, [], ◌∷◌, length}
+use Rattle.std.specs.Prelude.{◌≡◌, ℕ, ◌+◌, ◌<◌, ◌≤◌, ◌⊎◌, Bool, List, [], ◌∷◌, length}
 use Rattle.tok_data.specs.declared.sources.TokId.{TokId}
 use Rattle.macro_table.specs.declared.definition.MacroDef.{MacroDef}
 use Rattle.macro_expand.specs.declared.types.Marked.{Marked}
+use Rattle.macro_expand.specs.declared.types.Progress.{Progress}
 use Rattle.macro_expand.specs.declared.types.Outcome.{Outcome}
 use Rattle.macro_expand.specs.declared.building.Building.{Building}
 use Rattle.macro_expand.specs.declared.building.Part.{Part}
@@ -17,24 +18,36 @@ use Rattle.macro_expand.specs.declared.machine.Frame.{Frame}
 use Rattle.macro_expand.specs.declared.machine.Machine.{Machine}
 use Rattle.macro_expand.specs.declared.machine.Stop.{Stop}
 use Rattle.macro_expand.specs.declared.machine.Stop.TheVariants as stop
-use Rattle.macro_expand.specs.Substitution.{Expander, puts, puts_outcome, substituted}
-use Rattle.macro_expand.specs.Expansion.{again_with, built, with_front}
-use Rattle.macro_expand.specs.Steps.{after, IsNearer}
+use Rattle.macro_expand.specs.Codes.{Names}
+use Rattle.macro_expand.specs.Numbers.{real, reals, real_args, real_building}
+use Rattle.macro_expand.specs.declared.operands.Operand.{Operand}
+use Rattle.macro_expand.specs.Substitution.{Expander, puts_operand, puts, puts_outcome, substituted}
+use Rattle.macro_expand.specs.Expansion as spec
+use Rattle.macro_expand.specs.Expansion.{again_with, with_front}
+use Rattle.macro_expand.specs.Steps.{after, real_step, IsNearer}
+
+-- an operand that isn't joined to the one before it
+abbrev pub operand_part : Expander → Building → Operand → Bool → Part
+operand_part again b o raw = record { built = puts_operand again b o raw; more = o.more }
 
 -- what a part of a replacement list makes, once its argument is expanded
-abbrev pub part_of : Expander → Next → Part
-part_of again (Built b more) = record { built = b; more = more }
-part_of again (Wanted b space arg more) = record { built = puts_outcome space b (again b.progress arg); more = more }
+abbrev pub part_of : (Names → Names) → Expander → Next → Part
+part_of f again (Built b more) = record { built = real_building f b; more = more }
+part_of f again (Wanted b space arg more) = record {
+  built = puts_outcome space (real_building f b) (again b.progress (reals f arg));
+  more = more;
+}
 
 abbrev pub next_left : Next → ℕ
 next_left (Built b more) = b.progress.left
 next_left (Wanted b space arg more) = b.progress.left
 
 -- what a replacement list makes, once its arguments are expanded
-abbrev pub building_of : Expander → MacroDef → List (List Marked) → TokId → Advance → Building
-building_of again def args site (Done b) = b
-building_of again def args site (Paused b space arg skip behind) =
-    substituted again def args site skip (puts_outcome space b (again b.progress arg)) behind.now
+abbrev pub building_of : (Names → Names) → Expander → MacroDef → List (List Marked) → TokId → Advance → Building
+building_of f again def args site (Done b) = real_building f b
+building_of f again def args site (Paused b space arg skip behind) =
+    substituted again def args site skip
+    (puts_outcome space (real_building f b) (again b.progress (reals f arg))) behind.now
 
 abbrev pub advance_left : Advance → ℕ
 advance_left (Done b) = b.progress.left
@@ -45,26 +58,37 @@ abbrev pub IsShorter : Advance → ℕ → Type 0
 IsShorter (Done b) n = Unit {0}
 IsShorter (Paused b space arg skip behind) n = length behind.now < n
 
-abbrev pub advanced : Expander → Call → Advance → Building
-advanced again c a = building_of again c.def.now c.args c.token.token.site a
+abbrev pub advanced : (Names → Names) → Expander → Call → Advance → Building
+advanced f again c a = building_of f again c.def.now (real_args f c.args) c.token.token.site a
+
+-- the whole replacement list
+abbrev pub built : (Names → Names) → Expander → Progress → Call → Building
+built f again p c = spec.built again p (real f c.token) c.def.now (real_args f c.args)
 
 -- what a list becomes, of which a name is replaced
-abbrev pub ended : Expander → Call → Building → Outcome
-ended again c b = with_front c.done (again_with again c.token c.names c.rest b)
+abbrev pub ended : (Names → Names) → Expander → Call → Building → Outcome
+ended f again c b = with_front (reals f c.done) (again_with again (real f c.token) (f c.names) (reals f c.rest) b)
 
 -- what a waiting replacement makes of its expanded argument
-abbrev pub resumed : Expander → Frame → Outcome → Building
-resumed again f o =
-    substituted again f.call.def.now f.call.args f.call.token.token.site f.skip
-    (puts f.space o.tokens (record { progress = o.progress; tokens = f.tokens; space = f.before; empty = f.empty; first = f.first }))
-    f.behind.now
+abbrev pub resumed : (Names → Names) → Expander → Frame → Outcome → Building
+resumed f again w o =
+    substituted again w.call.def.now (real_args f w.call.args) w.call.token.token.site w.skip
+    (puts w.space o.tokens (record {
+      progress = o.progress;
+      tokens = reals f w.tokens;
+      space = w.before;
+      empty = w.empty;
+      first = w.first;
+    }))
+    w.behind.now
 
-abbrev pub resume : Expander → List Frame → Outcome → Outcome
-resume again [] o = o
-resume again (f ∷ fs) o = resume again fs (ended again f.call (resumed again f o))
+abbrev pub resume : (Names → Names) → Expander → List Frame → Outcome → Outcome
+resume f again [] o = o
+resume f again (w ∷ ws) o = resume f again ws (ended f again w.call (resumed f again w o))
 
-abbrev pub outcome : Expander → Machine → Outcome
-outcome again m = resume again m.frames.items (with_front m.level.done (again m.level.progress m.level.rest))
+abbrev pub outcome : (Names → Names) → Expander → Machine → Outcome
+outcome f again m =
+    resume f again m.frames.items (with_front (reals f m.level.done) (again m.level.progress (reals f m.level.rest)))
 
 -- what is left of the replacement lists that wait
 abbrev pub waiting : List Frame → ℕ
@@ -76,18 +100,19 @@ advance_waiting (Done b) = 0
 advance_waiting (Paused b space arg skip behind) = length behind.now + 1
 
 -- what comes of a token
-abbrev pub taken_outcome : Expander → Taken → Outcome
-taken_outcome again (Settled s) = after again s
-taken_outcome again (Called p t def args names ts) = again_with again t names ts (built again p t def.now args)
+abbrev pub taken_outcome : (Names → Names) → Expander → Taken → Outcome
+taken_outcome f again (Settled s) = after again (real_step f s)
+taken_outcome f again (Called p t def args names ts) =
+    again_with again (real f t) (f names) (reals f ts) (spec.built again p (real f t) def.now (real_args f args))
 
 abbrev pub IsTaken : Taken → ℕ → List Marked → Type 0
 IsTaken (Settled s) left ts = IsNearer s left ts
 IsTaken (Called p t def args names us) left ts = p.left < left
 
 -- where a list stops
-abbrev pub stop_outcome : Expander → Stop → Outcome
-stop_outcome again (stop.Level w) = with_front w.done (again w.progress w.rest)
-stop_outcome again (stop.Called p c) = ended again c (built again p c.token c.def.now c.args)
+abbrev pub stop_outcome : (Names → Names) → Expander → Stop → Outcome
+stop_outcome f again (stop.Level w) = with_front (reals f w.done) (again w.progress (reals f w.rest))
+stop_outcome f again (stop.Called p c) = ended f again c (built f again p c)
 
 abbrev pub IsStop : Stop → ℕ → Type 0
 IsStop (stop.Level w) left = (w.progress.left ≤ left) × ((w.rest ≡ []) ⊎ (w.progress.left < left))

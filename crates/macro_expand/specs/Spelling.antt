@@ -1,5 +1,6 @@
 -- What the operator `#` makes of an argument (ISO C11 6.10.3.2).
-use Rattle.std.specs.Prelude.{ℕ, Bool, true, false, ◌||◌, ◌==◌, List, [], ◌∷◌, ◌++◌, if◌then◌else◌, chars, encode_utf8, flat_map}
+use Rattle.std.specs.Prelude.{ℕ, Bool, true, false, ◌||◌, ◌==◌, List, [], ◌∷◌, ◌++◌, if◌then◌else◌, chars, encode_utf8}
+use Rattle.std.specs.Prelude.{flat_map}
 use Rattle.tok_data.specs.declared.sources.TokId.{TokId}
 use Rattle.tok_data.specs.declared.tokens.PpKind.TheVariants.{Str}
 use Rattle.tok_data.specs.declared.tokens.Spelt.{Spelt}

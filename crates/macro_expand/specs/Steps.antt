@@ -1,5 +1,7 @@
 -- How a list is expanded step by step.
-use Rattle.std.specs.Prelude.{◌≡◌, ℕ, ◌<◌, ◌≤◌, List, [], ◌∷◌, drop, Option, Some, None, MatchOption}
+use Rattle.macro_expand.specs.Codes.{Names}
+use Rattle.macro_expand.specs.Numbers.{real, reals, real_args}
+use Rattle.std.specs.Prelude.{option_map, ◌≡◌, ℕ, ◌<◌, ◌≤◌, List, [], ◌∷◌, drop, Option, Some, None, MatchOption}
 use Rattle.tok_data.specs.declared.sources.TokId.{TokId}
 use Rattle.macro_table.specs.declared.definition.MacroDef.{MacroDef}
 use Rattle.macro_expand.specs.declared.types.Marked.{Marked}
@@ -13,7 +15,8 @@ use Rattle.macro_expand.specs.declared.finding.Meaning.TheVariants as read
 use Rattle.macro_expand.specs.declared.finding.Found.{Found as FoundMacro}
 use Rattle.macro_expand.specs.declared.finding.Found.TheVariants as macro_read
 use Rattle.macro_expand.specs.Substitution.{Expander}
-use Rattle.macro_expand.specs.Expansion.{Definitions, Sense, Ordinary, Line, File, Macro, Found, Stays, Put, Replaced, built, spliced, with_front, expansion}
+use Rattle.macro_expand.specs.Expansion.{Definitions, Sense, Ordinary, Line, File, Macro, Found, Stays, Put, Replaced}
+use Rattle.macro_expand.specs.Expansion.{built, spliced, with_front, expansion}
 
 abbrev pub meant : Meaning → Sense
 meant read.Ordinary = Ordinary
@@ -21,9 +24,9 @@ meant read.Line = Line
 meant read.File = File
 meant (read.Macro def) = Macro def.now
 
-abbrev pub found_of : MacroDef → FoundMacro → Found
-found_of def (macro_read.Stays p) = Stays p
-found_of def (macro_read.Replaced p args names width) = Replaced p def args names width
+abbrev pub found_of : (Names → Names) → MacroDef → FoundMacro → Found
+found_of f def (macro_read.Stays p) = Stays p
+found_of f def (macro_read.Replaced p args names width) = Replaced p def (real_args f args) (f names) width
 
 abbrev pub kept_step : Progress → Marked → List Marked → Step
 kept_step p t ts = record { progress = p; kept = Some t; rest = ts }
@@ -60,6 +63,10 @@ after_by again p ts (Some t) = with_front (t ∷ []) (again p ts)
 abbrev pub after : Expander → Step → Outcome
 after again s = after_by again s.progress s.rest s.kept
 
+-- the same with the sets that numbers stand for
+abbrev pub real_step : (Names → Names) → Step → Step
+real_step f s = record { progress = s.progress; kept = option_map (real f) s.kept; rest = reals f s.rest }
+
 -- what is kept, with the expansion of what is left behind it
-abbrev pub whole : Definitions → List (TokId × ℕ) → Walked → Outcome
-whole table lines w = with_front w.done (expansion table lines w.progress w.rest)
+abbrev pub whole : (Names → Names) → Definitions → List (TokId × ℕ) → Walked → Outcome
+whole f table lines w = with_front (reals f w.done) (expansion table lines w.progress (reals f w.rest))

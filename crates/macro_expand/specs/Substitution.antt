@@ -1,5 +1,6 @@
 -- The substitution of arguments into a replacement list (ISO C11 6.10.3.1 to 6.10.3.3; `subst` of Prosser's algorithm).
-use Rattle.std.specs.Prelude.{ℕ, zero, suc, ◌+◌, Bool, true, false, ◌&&◌, ◌||◌, not, List, [], ◌∷◌, ◌++◌, map, Option, Some, None, if◌then◌else◌}
+use Rattle.std.specs.Prelude.{ℕ, zero, suc, ◌+◌, Bool, true, false, ◌&&◌, ◌||◌, not, List, [], ◌∷◌, ◌++◌, map, Option}
+use Rattle.std.specs.Prelude.{Some, None, if◌then◌else◌}
 use Rattle.tok_data.specs.declared.sources.TokId.{TokId}
 use Rattle.tok_data.specs.declared.tokens.OutToken.{OutToken}
 use Rattle.macro_expand.specs.declared.types.Marked.{Marked}
@@ -104,11 +105,8 @@ abbrev pub joins_operand : TokId → Building → Operand → Building
 joins_operand site b o = joins site o.tokens (with_noted o.spelled b)
 
 -- an operand, in front of `##` or not
-abbrev pub operand_part : Expander → Building → Operand → Bool → Part
-operand_part again b o raw = record { built = puts_operand again b o raw; more = o.more }
-
 abbrev pub puts_part : Expander → Building → List OutToken → Operand → Part
-puts_part again b ts o = operand_part again b o (begins_paste ts)
+puts_part again b ts o = record { built = puts_operand again b o (begins_paste ts); more = o.more }
 
 -- `##` with its right operand
 abbrev pub joins_part : TokId → Building → Operand → Part

@@ -1,11 +1,15 @@
 // A replacement list up to a parameter whose argument is to be expanded (ISO C11 6.10.3.1), or to its end.
-ghost use Rattle.std.specs.Prelude.{◌≡◌, ℕ, ◌<◌, ◌≤◌, length, IfOk};
+ghost use Rattle.std.specs.Prelude.{◌≡◌, ℕ, ◌<◌, ◌≤◌, length, not, ◌&&◌, IfOk, OnOk};
+ghost use Rattle.macro_expand.specs.Codes.{Names};
+ghost use Rattle.macro_expand.specs.Stands.{Stands, Grows};
+ghost use Rattle.macro_expand.specs.Numbers.{reals, real_args, real_building, real_operand, real_part};
 ghost use Rattle.macro_expand.specs.Machine as spec;
 ghost use Rattle.macro_expand.specs.Substitution as subst;
 ghost use Rattle.macro_expand.specs.Substitution.{Expander};
 
 use crate::building::{Building, Part};
 use crate::operands::{Operand, read_operand};
+use crate::sets::Sets;
 use crate::tokens::{begins_paste, is_paste};
 use crate::types::{Marked, MarkedList};
 use macro_table::MacroDef;
@@ -28,9 +32,17 @@ pub(crate) enum Advance<'a> {
     Paused(Building, bool, MarkedList, usize, &'a [OutToken]),
 }
 
+// An operand is to be expanded: a parameter that `##` doesn't take as it is.
+fn is_wanted(given: bool, raw: bool) -> bool
+    ensures { result ≡ (given && not raw) }
+{
+    given && !raw
+}
+
 // An operand that isn't joined to the one before it.
 fn puts_operand(building: Building, operand: Operand, raw: bool) -> Result<Next, AllocError>
-    ensures value { IfOk result (λ n. (again : Expander) → spec.part_of again n ≡ subst.operand_part again building operand raw) }
+    ensures value { IfOk result (λ n. (f : Names → Names) (again : Expander)
+        → spec.part_of f again n ≡ spec.operand_part again (real_building f building) (real_operand f operand) raw) }
     ensures same { IfOk result (λ n. spec.next_left n ≡ building.progress.left) }
 {
     let Operand {
@@ -41,7 +53,7 @@ fn puts_operand(building: Building, operand: Operand, raw: bool) -> Result<Next,
         more,
     } = operand;
     let space = building.space_of(space);
-    if given && !raw {
+    if is_wanted(given, raw) {
         return Ok(Next::Wanted(building, space, tokens, more));
     }
     let noted = building.with_noted(spelled)?;
@@ -52,6 +64,7 @@ fn puts_operand(building: Building, operand: Operand, raw: bool) -> Result<Next,
 // `##` with its right operand.
 fn pastes(
     alloc: Global,
+    sets: &mut Sets,
     def: &MacroDef,
     args: &[MarkedList],
     site: &TokId,
@@ -59,7 +72,10 @@ fn pastes(
     token: &OutToken,
     behind: &[OutToken],
 ) -> Result<Part, AllocError>
-    ensures value { IfOk result (λ p. p ≡ subst.pastes def.now args.now site.now building token.now behind.now) }
+    ensures grows { OnOk result (Grows sets.old sets.new) }
+    ensures value { IfOk result (λ p. (f : Names → Names) → Stands f sets.new
+        → real_part f p
+        ≡ subst.pastes def.now (real_args f args.now) site.now (real_building f building) token.now behind.now) }
     ensures same { IfOk result (λ p. p.built.progress.left ≡ building.progress.left) }
 {
     let Some((right, more)) = behind.split_first() else {
@@ -71,7 +87,7 @@ fn pastes(
     };
     let operand = read_operand(alloc, def, args, right, more)?;
     let more = operand.more + 1;
-    let built = building.joins_operand(alloc, site, operand)?;
+    let built = building.joins_operand(alloc, sets, site, operand)?;
     Ok(Part { built, more })
 }
 
@@ -79,6 +95,7 @@ fn pastes(
 #[tactic(auto, unfolding(crate::specs::Substitution::part))]
 fn next_part(
     alloc: Global,
+    sets: &mut Sets,
     def: &MacroDef,
     args: &[MarkedList],
     site: &TokId,
@@ -86,22 +103,26 @@ fn next_part(
     token: &OutToken,
     behind: &[OutToken],
 ) -> Result<Next, AllocError>
-    ensures value { IfOk result (λ n. (again : Expander) → spec.part_of again n
-        ≡ subst.part again def.now args.now site.now building token.now behind.now) }
+    ensures grows { OnOk result (Grows sets.old sets.new) }
+    ensures value { IfOk result (λ n. (f : Names → Names) → Stands f sets.new → (again : Expander)
+        → spec.part_of f again n
+        ≡ subst.part again def.now (real_args f args.now) site.now (real_building f building) token.now behind.now) }
     ensures same { IfOk result (λ n. spec.next_left n ≡ building.progress.left) }
 {
     if is_paste(token) {
-        let part = pastes(alloc, def, args, site, building, token, behind)?;
+        let part = pastes(alloc, sets, def, args, site, building, token, behind)?;
         let Part { built, more } = part;
         return Ok(Next::Built(built, more));
     }
     let operand = read_operand(alloc, def, args, token, behind)?;
-    puts_operand(building, operand, begins_paste(behind))
+    let next = puts_operand(building, operand, begins_paste(behind))?;
+    Ok(next)
 }
 
 // A replacement list of which some tokens are read already.
 pub(crate) fn read_list<'a>(
     alloc: Global,
+    sets: &mut Sets,
     def: &MacroDef,
     args: &[MarkedList],
     site: &TokId,
@@ -109,8 +130,10 @@ pub(crate) fn read_list<'a>(
     read: usize,
     list: &'a [OutToken],
 ) -> Result<Advance<'a>, AllocError>
-    ensures value { IfOk result (λ a. (again : Expander) → spec.building_of again def.now args.now site.now a
-        ≡ subst.substituted again def.now args.now site.now read begun list.now) }
+    ensures grows { OnOk result (Grows sets.old sets.new) }
+    ensures value { IfOk result (λ a. (f : Names → Names) → Stands f sets.new → (again : Expander)
+        → spec.building_of f again def.now (real_args f args.now) site.now a
+        ≡ subst.substituted again def.now (real_args f args.now) site.now read (real_building f begun) list.now) }
     ensures same { IfOk result (λ a. spec.advance_left a ≡ begun.progress.left) }
     ensures shorter { IfOk result (λ a. spec.IsShorter a (length list.now)) }
 {
@@ -123,7 +146,7 @@ pub(crate) fn read_list<'a>(
             skip -= 1;
             continue;
         }
-        let next = next_part(alloc, def, args, site, building, token, behind)?;
+        let next = next_part(alloc, sets, def, args, site, building, token, behind)?;
         match next {
             Next::Built(built, more) => {
                 building = built;

@@ -1,5 +1,6 @@
 // The arguments of a function-like macro (ISO C11 6.10.3p4, p10 to p12).
-ghost use Rattle.std.specs.Prelude.{◌≡◌, ℕ, [], ◌++◌, ◌∷◌, ◌≤◌, ◌<◌, ◌^◌, ◌+◌, length, drop, IfOk, IsTrue, ◌↔◌, option_copied};
+ghost use Rattle.std.specs.Prelude.{◌≡◌, ℕ, [], ◌++◌, ◌∷◌, ◌≤◌, ◌<◌};
+ghost use Rattle.std.specs.Prelude.{◌^◌, ◌+◌, length, drop, IfOk, IsTrue, ◌↔◌, option_copied};
 ghost use Rattle.macro_expand.specs.Arguments as spec;
 
 use crate::hide::HideSet;
@@ -243,8 +244,7 @@ fn closed(reading: Reading, token: &Marked, at: usize) -> Result<Turn, AllocErro
             current,
         } = reading;
         let done = done.with(current)?;
-        let hides = token.hides.copy()?;
-        return Ok(Turn::Ends(Called::Closed(done, hides, at + 1)));
+        return Ok(Turn::Ends(Called::Closed(done, token.hides.copy(), at + 1)));
     }
     let taken = taken(reading, token)?;
     let Reading {

@@ -1,5 +1,8 @@
 // The substitution of arguments into a replacement list (ISO C11 6.10.3.1 to 6.10.3.3), but for their expansion.
-ghost use Rattle.std.specs.Prelude.{◌≡◌, ℕ, [], ◌++◌, ◌∷◌, ◌≤◌, ◌||◌, ◌&&◌, not, IfOk};
+ghost use Rattle.std.specs.Prelude.{◌≡◌, ℕ, [], ◌++◌, ◌∷◌, ◌≤◌, ◌||◌, ◌&&◌, not, IfOk, OnOk};
+ghost use Rattle.macro_expand.specs.Codes.{Names};
+ghost use Rattle.macro_expand.specs.Stands.{Stands, Grows};
+ghost use Rattle.macro_expand.specs.Numbers.{real, reals, real_operand, real_building};
 ghost use Rattle.macro_expand.specs.Substitution as spec;
 ghost use Rattle.macro_expand.specs.Tokens.{last_of};
 
@@ -7,6 +10,7 @@ use crate::arguments::Rest;
 use crate::glue::pasted;
 use crate::lists::TokIds;
 use crate::operands::Operand;
+use crate::sets::Sets;
 use crate::types::{Marked, MarkedList, Progress};
 use std::alloc::{AllocError, Global};
 use tok_data::TokId;
@@ -119,25 +123,39 @@ impl Building {
         })
     }
 
-    fn glued(self, alloc: Global, site: &TokId, more: MarkedList) -> Result<Building, AllocError>
-        ensures { IfOk result (λ b. b ≡ spec.glued site.now more self) }
+    fn glued(
+        self,
+        alloc: Global,
+        sets: &mut Sets,
+        site: &TokId,
+        more: MarkedList,
+    ) -> Result<Building, AllocError>
+        ensures grows { OnOk result (Grows sets.old sets.new) }
+        ensures value { IfOk result (λ b. (f : Names → Names) → Stands f sets.new
+            → real_building f b ≡ spec.glued site.now (reals f more) (real_building f self)) }
     {
         let mut items = Rest::from_list(more).into_items();
         let Some(right) = items.pop_front() else {
             return Ok(self);
         };
-        self.pasted_to(alloc, site, right, Rest::from_items(items))
+        let built = self.pasted_to(alloc, sets, site, right, Rest::from_items(items))?;
+        Ok(built)
     }
 
     // The last token with the next one, and what stands behind that.
     fn pasted_to(
         self,
         alloc: Global,
+        sets: &mut Sets,
         site: &TokId,
         right: Marked,
         behind: Rest,
     ) -> Result<Building, AllocError>
-        ensures { IfOk result (λ b. b ≡ spec.pasted_to site.now right behind (last_of self.tokens) self) }
+        ensures grows { OnOk result (Grows sets.old sets.new) }
+        ensures value { IfOk result (λ b. (f : Names → Names) → Stands f sets.new
+            → real_building f b
+            ≡ spec.pasted_to site.now (real f right) (reals f behind) (last_of (reals f self.tokens))
+            (real_building f self)) }
     {
         let Building {
             progress,
@@ -157,7 +175,7 @@ impl Building {
                 first,
             });
         };
-        let pasted = pasted(alloc, &left, &right)?;
+        let pasted = pasted(alloc, sets, &left, &right)?;
         match pasted {
             Some(token) => {
                 let all = behind.before(token)?;
@@ -191,25 +209,33 @@ impl Building {
     pub(crate) fn joins(
         self,
         alloc: Global,
+        sets: &mut Sets,
         site: &TokId,
         more: MarkedList,
     ) -> Result<Building, AllocError>
-        ensures { IfOk result (λ b. b ≡ spec.joins site.now more self) }
+        ensures grows { OnOk result (Grows sets.old sets.new) }
+        ensures value { IfOk result (λ b. (f : Names → Names) → Stands f sets.new
+            → real_building f b ≡ spec.joins site.now (reals f more) (real_building f self)) }
     {
         if self.empty {
             let space = self.space;
-            return self.puts(space, more);
+            let built = self.puts(space, more)?;
+            return Ok(built);
         }
-        self.glued(alloc, site, more)
+        let built = self.glued(alloc, sets, site, more)?;
+        Ok(built)
     }
 
     pub(crate) fn joins_operand(
         self,
         alloc: Global,
+        sets: &mut Sets,
         site: &TokId,
         operand: Operand,
     ) -> Result<Building, AllocError>
-        ensures { IfOk result (λ b. b ≡ spec.joins_operand site.now self operand) }
+        ensures grows { OnOk result (Grows sets.old sets.new) }
+        ensures value { IfOk result (λ b. (f : Names → Names) → Stands f sets.new
+            → real_building f b ≡ spec.joins_operand site.now (real_building f self) (real_operand f operand)) }
     {
         let Operand {
             given: _,
@@ -219,6 +245,7 @@ impl Building {
             more: _,
         } = operand;
         let noted = self.with_noted(spelled)?;
-        noted.joins(alloc, site, tokens)
+        let built = noted.joins(alloc, sets, site, tokens)?;
+        Ok(built)
     }
 }

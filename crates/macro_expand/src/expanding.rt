@@ -1,5 +1,8 @@
 // Macro expansion (ISO C11 6.10.3).
-ghost use Rattle.std.specs.Prelude.{◌≡◌, ℕ, [], ◌++◌, ◌≤◌, ◌<◌, ◌⊎◌, map as list_map, IfOk, decimal};
+ghost use Rattle.std.specs.Prelude.{◌≡◌, ℕ, [], ◌++◌, ◌≤◌, ◌<◌, ◌⊎◌, map as list_map, IfOk, OnOk, decimal};
+ghost use Rattle.macro_expand.specs.Codes.{Names};
+ghost use Rattle.macro_expand.specs.Stands.{Stands, Grows};
+ghost use Rattle.macro_expand.specs.Numbers.{real, reals};
 ghost use Rattle.std.specs.FinMap as map;
 ghost use Rattle.macro_expand.specs.Expansion as spec;
 ghost use Rattle.macro_expand.specs.Steps as steps;
@@ -14,6 +17,7 @@ use crate::hide::HideSet;
 use crate::lists::{MacroOccs, OutTokens, PpFaults, TokIds};
 use crate::machine::expansion;
 use crate::operands::quoted_text;
+use crate::sets::Sets;
 use crate::splicing::dropped;
 use crate::types::{Expanded, Marked, MarkedList, Outcome, Progress};
 use macro_table::{MacroDef, MacroTable};
@@ -101,11 +105,14 @@ fn line_step(
     token: Marked,
     rest: Rest,
 ) -> Result<Step, AllocError>
-    ensures value { IfOk result (λ s. s ≡ steps.settled token rest (spec.line_found lines.now progress token)) }
+    ensures value { IfOk result (λ s. (f : Names → Names)
+        → steps.real_step f s
+        ≡ steps.settled (real f token) (reals f rest) (spec.line_found lines.now progress (real f token))) }
     ensures nearer { IfOk result (λ s. steps.IsNearer s progress.left rest) }
 {
     if progress.left == 0 {
-        return refused_step(alloc, progress, token, rest);
+        let step = refused_step(alloc, progress, token, rest)?;
+        return Ok(step);
     }
     let Some(line) = line_in(lines, &token.token.site) else {
         let asking = progress.asking(&token)?;
@@ -113,7 +120,8 @@ fn line_step(
     };
     let text = decimal_name(alloc, line)?;
     let counted = progress.counted(&token, None)?;
-    put(counted, made_token(token, PpKind::Number, text), rest)
+    let step = put(counted, made_token(token, PpKind::Number, text), rest)?;
+    Ok(step)
 }
 
 // `__FILE__`.
@@ -123,15 +131,19 @@ fn file_step(
     token: Marked,
     rest: Rest,
 ) -> Result<Step, AllocError>
-    ensures value { IfOk result (λ s. s ≡ steps.settled token rest (spec.file_found progress token)) }
+    ensures value { IfOk result (λ s. (f : Names → Names)
+        → steps.real_step f s
+        ≡ steps.settled (real f token) (reals f rest) (spec.file_found progress (real f token))) }
     ensures nearer { IfOk result (λ s. steps.IsNearer s progress.left rest) }
 {
     if progress.left == 0 {
-        return refused_step(alloc, progress, token, rest);
+        let step = refused_step(alloc, progress, token, rest)?;
+        return Ok(step);
     }
     let text = quoted_text(alloc, token.token.site.file.as_str())?;
     let counted = progress.counted(&token, None)?;
-    put(counted, made_token(token, PpKind::Str, text), rest)
+    let step = put(counted, made_token(token, PpKind::Str, text), rest)?;
+    Ok(step)
 }
 
 // What comes of a token: a step is taken, or it is replaced by a definition's list, with what is noted then, arguments,
@@ -144,16 +156,20 @@ pub(crate) enum Taken<'a> {
 
 fn macro_step<'a>(
     alloc: Global,
+    sets: &mut Sets,
     progress: Progress,
     token: Marked,
     rest: Rest,
     def: &'a MacroDef,
 ) -> Result<Taken<'a>, AllocError>
-    ensures value { IfOk result (λ s. (again : Expander) → work.taken_outcome again s
-        ≡ steps.after again (steps.step_by again token rest (spec.macro_found progress token rest def.now def.now.params))) }
+    ensures grows { OnOk result (Grows sets.old sets.new) }
+    ensures value { IfOk result (λ s. (f : Names → Names) → Stands f sets.new → (again : Expander)
+        → work.taken_outcome f again s
+        ≡ steps.after again (steps.step_by again (real f token) (reals f rest)
+        (spec.macro_found progress (real f token) (reals f rest) def.now def.now.params))) }
     ensures nearer { IfOk result (λ s. work.IsTaken s progress.left rest) }
 {
-    let found = macro_found(alloc, progress, &token, &rest, def)?;
+    let found = macro_found(alloc, sets, progress, &token, &rest, def)?;
     match found {
         Found::Stays(progress) => Ok(Taken::Settled(kept(progress, token, rest))),
         Found::Replaced(progress, args, names, width) => {
@@ -166,20 +182,25 @@ fn macro_step<'a>(
 #[tactic(auto, unfolding(crate::specs::Expansion::found))]
 pub(crate) fn take_step<'a>(
     alloc: Global,
+    sets: &mut Sets,
     table: &'a MacroTable,
     lines: &[(TokId, u32)],
     progress: Progress,
     token: Marked,
     rest: Rest,
 ) -> Result<Taken<'a>, AllocError>
-    ensures value { IfOk result (λ s. (again : Expander) → work.taken_outcome again s
-        ≡ steps.after again (steps.step_by again token rest (spec.found (map.get table.now) lines.now progress token rest))) }
+    ensures grows { OnOk result (Grows sets.old sets.new) }
+    ensures value { IfOk result (λ s. (f : Names → Names) → Stands f sets.new → (again : Expander)
+        → work.taken_outcome f again s
+        ≡ steps.after again (steps.step_by again (real f token) (reals f rest)
+        (spec.found (map.get table.now) lines.now progress (real f token) (reals f rest)))) }
     ensures nearer { IfOk result (λ s. work.IsTaken s progress.left rest) }
 {
     if progress.stopped {
         return Ok(Taken::Settled(kept(progress, token, rest)));
     }
-    match meaning_of(table, &token) {
+    let meaning = meaning_of(alloc, sets, table, &token)?;
+    match meaning {
         Meaning::Ordinary => Ok(Taken::Settled(kept(progress, token, rest))),
         Meaning::Line => {
             let step = line_step(alloc, lines, progress, token, rest)?;
@@ -189,7 +210,10 @@ pub(crate) fn take_step<'a>(
             let step = file_step(alloc, progress, token, rest)?;
             Ok(Taken::Settled(step))
         }
-        Meaning::Macro(def) => macro_step(alloc, progress, token, rest, def),
+        Meaning::Macro(def) => {
+            let taken = macro_step(alloc, sets, progress, token, rest, def)?;
+            Ok(taken)
+        }
     }
 }
 
@@ -283,6 +307,15 @@ pub fn expand(
     ensures { IfOk result (λ e. e ≡ spec.expanded (map.get table.now) lines.now budget tokens.now) }
 {
     let list = plain_list(alloc, tokens)?;
-    let outcome = expansion(alloc, table, lines, at_first(alloc, budget), list)?;
-    told(alloc, budget, outcome)
+    let mut sets = Sets::new(alloc);
+    let outcome = expansion(
+        alloc,
+        &mut sets,
+        table,
+        lines,
+        at_first(alloc, budget),
+        list,
+    )?;
+    let expanded = told(alloc, budget, outcome)?;
+    Ok(expanded)
 }

@@ -1,5 +1,8 @@
 // What comes of a token (ISO C11 6.10.3p9, p10).
-ghost use Rattle.std.specs.Prelude.{◌≡◌, [], ◌≤◌, ◌<◌, IfOk, option_copied};
+ghost use Rattle.std.specs.Prelude.{◌≡◌, [], ◌≤◌, ◌<◌, IfOk, OnOk, option_copied};
+ghost use Rattle.macro_expand.specs.Codes.{Names};
+ghost use Rattle.macro_expand.specs.Stands.{Stands, Grows};
+ghost use Rattle.macro_expand.specs.Numbers.{real, reals, real_args, real_called};
 ghost use Rattle.std.specs.FinMap as map;
 ghost use Rattle.macro_expand.specs.Expansion as spec;
 ghost use Rattle.macro_expand.specs.Steps as steps;
@@ -8,6 +11,7 @@ ghost use Rattle.macro_expand.specs.declared.finding.Found.TheVariants.{Stays};
 
 use crate::arguments::{ArgumentList, Called, Rest, fitted, lacks_variable, read_call};
 use crate::hide::HideSet;
+use crate::sets::Sets;
 use crate::tokens::is_ident;
 use crate::types::{Marked, Progress};
 use macro_table::{MacroDef, MacroTable};
@@ -45,16 +49,24 @@ fn named<'a>(table: &'a MacroTable, name: &str) -> Meaning<'a>
 }
 
 #[tactic(auto, unfolding(crate::specs::Expansion::meaning))]
-pub(crate) fn meaning_of<'a>(table: &'a MacroTable, token: &Marked) -> Meaning<'a>
-    ensures { steps.meant result ≡ spec.meaning (map.get table.now) token.now }
+pub(crate) fn meaning_of<'a>(
+    alloc: Global,
+    sets: &mut Sets,
+    table: &'a MacroTable,
+    token: &Marked,
+) -> Result<Meaning<'a>, AllocError>
+    ensures grows { OnOk result (Grows sets.old sets.new) }
+    ensures value { IfOk result (λ m. (f : Names → Names) → Stands f sets.new
+        → steps.meant m ≡ spec.meaning (map.get table.now) (real f token.now)) }
 {
     if !is_ident(token.token.kind) {
-        return Meaning::Ordinary;
+        return Ok(Meaning::Ordinary);
     }
-    if token.hides.hides(&token.token.spelling) {
-        return Meaning::Ordinary;
+    let hidden = sets.hides(alloc, &token.hides, &token.token.spelling)?;
+    if hidden {
+        return Ok(Meaning::Ordinary);
     }
-    named(table, token.token.spelling.as_str())
+    Ok(named(table, token.token.spelling.as_str()))
 }
 
 // The line of a site.
@@ -101,19 +113,22 @@ fn faulty_found(
 
 fn object_found(
     alloc: Global,
+    sets: &mut Sets,
     progress: Progress,
     token: &Marked,
     def: &MacroDef,
 ) -> Result<Found, AllocError>
-    ensures value { IfOk result (λ f. steps.found_of def.now f ≡ spec.object_found progress token.now def.now) }
-    ensures spent { IfOk result (λ f. steps.IsSpent f progress.left) }
+    ensures grows { OnOk result (Grows sets.old sets.new) }
+    ensures value { IfOk result (λ r. (f : Names → Names) → Stands f sets.new
+        → steps.found_of f def.now r ≡ spec.object_found progress (real f token.now) def.now) }
+    ensures spent { IfOk result (λ r. steps.IsSpent r progress.left) }
 {
     if progress.left == 0 {
         return refused_found(alloc, progress, token);
     }
     let tok = def.tok.copy()?;
     let counted = progress.counted(token, Some(tok))?;
-    let names = token.hides.with(alloc, &token.token.spelling)?;
+    let names = sets.with(alloc, &token.hides, &token.token.spelling)?;
     Ok(Found::Replaced(counted, ArgumentList::new(alloc), names, 0))
 }
 
@@ -138,6 +153,7 @@ fn counted_call(
 
 fn fit_found(
     alloc: Global,
+    sets: &mut Sets,
     progress: Progress,
     token: &Marked,
     def: &MacroDef,
@@ -146,21 +162,24 @@ fn fit_found(
     names: HideSet,
     width: usize,
 ) -> Result<Found, AllocError>
-    ensures value { IfOk result (λ f. steps.found_of def.now f
-        ≡ spec.fit_found progress token.now def.now lacks args names width) }
-    ensures spent { IfOk result (λ f. steps.IsSpent f progress.left) }
+    ensures grows { OnOk result (Grows sets.old sets.new) }
+    ensures value { IfOk result (λ r. (f : Names → Names) → Stands f sets.new
+        → steps.found_of f def.now r
+        ≡ spec.fit_found progress (real f token.now) def.now lacks (real_args f args) (f names) width) }
+    ensures spent { IfOk result (λ r. steps.IsSpent r progress.left) }
 {
     if progress.left == 0 {
         return refused_found(alloc, progress, token);
     }
     let counted = counted_call(alloc, progress, token, def, lacks)?;
-    let both = token.hides.common(alloc, &names)?;
-    let hidden = both.with(alloc, &token.token.spelling)?;
+    let both = sets.common(alloc, &token.hides, &names)?;
+    let hidden = sets.with(alloc, &both, &token.token.spelling)?;
     Ok(Found::Replaced(counted, args, hidden, width))
 }
 
 fn closed_found(
     alloc: Global,
+    sets: &mut Sets,
     progress: Progress,
     token: &Marked,
     def: &MacroDef,
@@ -168,53 +187,75 @@ fn closed_found(
     names: HideSet,
     width: usize,
 ) -> Result<Found, AllocError>
-    ensures value { IfOk result (λ f. steps.found_of def.now f
-        ≡ spec.closed_found progress token.now def.now args names width) }
-    ensures spent { IfOk result (λ f. steps.IsSpent f progress.left) }
+    ensures grows { OnOk result (Grows sets.old sets.new) }
+    ensures value { IfOk result (λ r. (f : Names → Names) → Stands f sets.new
+        → steps.found_of f def.now r
+        ≡ spec.closed_found progress (real f token.now) def.now (real_args f args) (f names) width) }
+    ensures spent { IfOk result (λ r. steps.IsSpent r progress.left) }
 {
     let lacks = lacks_variable(def, &args);
     let fit = fitted(alloc, def, args)?;
     match fit {
-        Some(fit) => fit_found(alloc, progress, token, def, lacks, fit, names, width),
-        None => faulty_found(alloc, 202, progress, token),
+        Some(fit) => {
+            let found = fit_found(alloc, sets, progress, token, def, lacks, fit, names, width)?;
+            Ok(found)
+        }
+        None => {
+            let found = faulty_found(alloc, 202, progress, token)?;
+            Ok(found)
+        }
     }
 }
 
 fn call_found(
     alloc: Global,
+    sets: &mut Sets,
     progress: Progress,
     token: &Marked,
     def: &MacroDef,
     called: Called,
 ) -> Result<Found, AllocError>
-    ensures value { IfOk result (λ f. steps.found_of def.now f ≡ spec.call_found progress token.now def.now called) }
-    ensures spent { IfOk result (λ f. steps.IsSpent f progress.left) }
+    ensures grows { OnOk result (Grows sets.old sets.new) }
+    ensures value { IfOk result (λ r. (f : Names → Names) → Stands f sets.new
+        → steps.found_of f def.now r ≡ spec.call_found progress (real f token.now) def.now (real_called f called)) }
+    ensures spent { IfOk result (λ r. steps.IsSpent r progress.left) }
 {
     match called {
         Called::Absent => Ok(Found::Stays(progress)),
-        Called::Unclosed => faulty_found(alloc, 203, progress, token),
-        Called::Closed(args, names, width) => closed_found(
-            alloc, progress, token, def, args, names, width,
-        ),
+        Called::Unclosed => {
+            let found = faulty_found(alloc, 203, progress, token)?;
+            Ok(found)
+        }
+        Called::Closed(args, names, width) => {
+            let found = closed_found(alloc, sets, progress, token, def, args, names, width)?;
+            Ok(found)
+        }
     }
 }
 
 pub(crate) fn macro_found(
     alloc: Global,
+    sets: &mut Sets,
     progress: Progress,
     token: &Marked,
     rest: &Rest,
     def: &MacroDef,
 ) -> Result<Found, AllocError>
-    ensures value { IfOk result (λ f. steps.found_of def.now f
-        ≡ spec.macro_found progress token.now rest.now def.now def.now.params) }
-    ensures spent { IfOk result (λ f. steps.IsSpent f progress.left) }
+    ensures grows { OnOk result (Grows sets.old sets.new) }
+    ensures value { IfOk result (λ r. (f : Names → Names) → Stands f sets.new
+        → steps.found_of f def.now r
+        ≡ spec.macro_found progress (real f token.now) (reals f rest.now) def.now def.now.params) }
+    ensures spent { IfOk result (λ r. steps.IsSpent r progress.left) }
 {
     match &def.params {
-        None => object_found(alloc, progress, token, def),
+        None => {
+            let found = object_found(alloc, sets, progress, token, def)?;
+            Ok(found)
+        }
         Some(_) => {
             let called = read_call(alloc, def, rest)?;
-            call_found(alloc, progress, token, def, called)
+            let found = call_found(alloc, sets, progress, token, def, called)?;
+            Ok(found)
         }
     }
 }

@@ -1,7 +1,11 @@
 // What `##` makes of two tokens (ISO C11 6.10.3.3).
-ghost use Rattle.std.specs.Prelude.{◌≡◌, ℕ, ◌++◌, IfOk};
+ghost use Rattle.std.specs.Prelude.{◌≡◌, ℕ, ◌++◌, IfOk, OnOk, option_map};
+ghost use Rattle.macro_expand.specs.Codes.{Names};
+ghost use Rattle.macro_expand.specs.Stands.{Stands, Grows};
+ghost use Rattle.macro_expand.specs.Numbers.{real};
 ghost use Rattle.macro_expand.specs.Pasting as spec;
 
+use crate::sets::Sets;
 use crate::types::Marked;
 use c_tokens::lex;
 use shared_text::Name;
@@ -54,10 +58,13 @@ fn both(alloc: Global, left: &str, right: &str) -> Result<Name, AllocError>
 #[tactic(auto, unfolding(crate::specs::Pasting::pasted))]
 pub(crate) fn pasted(
     alloc: Global,
+    sets: &mut Sets,
     left: &Marked,
     right: &Marked,
 ) -> Result<Option<Marked>, AllocError>
-    ensures { IfOk result (λ t. t ≡ spec.pasted left.now right.now) }
+    ensures grows { OnOk result (Grows sets.old sets.new) }
+    ensures value { IfOk result (λ t. (f : Names → Names) → Stands f sets.new
+        → option_map (real f) t ≡ spec.pasted (real f left.now) (real f right.now)) }
 {
     let spelling = both(
         alloc,
@@ -69,7 +76,7 @@ pub(crate) fn pasted(
         return Ok(None);
     };
     let site = left.token.site.copy()?;
-    let hides = left.hides.common(alloc, &right.hides)?;
+    let hides = sets.common(alloc, &left.hides, &right.hides)?;
     let token = OutToken {
         kind,
         spelling,

@@ -1,142 +1,68 @@
-// Hide sets: the names that a token is no longer replaced by. Many tokens share one.
-ghost use Rattle.std.specs.Prelude.{◌≡◌, ℕ, ◌++◌, ◌∷◌, [], not, filter, IfOk, OnOk};
-ghost use Rattle.macro_expand.specs.HideSets as sets;
+// Hide sets: the names that a token is no longer replaced by. A number stands for each set.
+ghost use Rattle.std.specs.Prelude.{◌≡◌, [], IsTrue, Some};
+ghost use Rattle.macro_expand.specs.Codes.{coded};
 
-use shared_text::Name;
-use std::alloc::{AllocError, Global};
 use std::marker::Model;
-use std::rc::Rc;
 
-// A set of names; the empty one takes no memory.
+// The number of a hide set; the empty set has none.
 #[derive(Debug, Drop)]
 pub(crate) struct HideSet {
-    names: Option<Rc<Vec<Name>>>,
+    number: Option<usize>,
 }
 
 impl Model for HideSet {
-    ghost use Rattle.std.specs.Prelude.{List, ℕ, [], option_map, unwrap_or};
+    ghost use Rattle.std.specs.Prelude.{List, ℕ};
+    ghost use Rattle.macro_expand.specs.Codes.{coded};
 
     ghost Value = { List (List ℕ) };
 
-    ghost view = { λ h. unwrap_or (option_map (λ names. names.value.items) h.names) [] };
-}
-
-// The names that aren't in the other set.
-fn left(alloc: Global, names: &[Name], more: &HideSet) -> Result<Vec<Name>, AllocError>
-    ensures { IfOk result (λ v. v.items ≡ filter (λ n. not (sets.hides more.now n)) names.now) }
-{
-    let mut out = Vec::new(alloc);
-    for name in names {
-        if !more.hides(name) {
-            let copy = name.share()?;
-            out.push(copy)?;
-        }
-    }
-    Ok(out)
-}
-
-// The names that are in the other set.
-fn kept(alloc: Global, names: &[Name], others: &HideSet) -> Result<Vec<Name>, AllocError>
-    ensures { IfOk result (λ v. v.items ≡ filter (sets.hides others.now) names.now) }
-{
-    let mut out = Vec::new(alloc);
-    for name in names {
-        if others.hides(name) {
-            let copy = name.share()?;
-            out.push(copy)?;
-        }
-    }
-    Ok(out)
-}
-
-fn append(mut out: Vec<Name>, names: &[Name]) -> Result<Vec<Name>, AllocError>
-    ensures { IfOk result (λ v. v.items ≡ out.items ++ names.now) }
-{
-    for name in names {
-        let copy = name.share()?;
-        out.push(copy)?;
-    }
-    Ok(out)
+    ghost view = { λ h. coded h.number };
 }
 
 impl HideSet {
     pub(crate) fn empty() -> HideSet
         ensures { result ≡ [] }
     {
-        HideSet { names: None }
+        HideSet { number: None }
     }
 
-    fn of(alloc: Global, names: Vec<Name>) -> Result<HideSet, AllocError>
-        ensures { IfOk result (λ set. set ≡ names.items) }
+    pub(crate) fn numbered(number: usize) -> HideSet
+        ensures { result ≡ coded (Some number) }
     {
-        let names = Rc::new(alloc, names)?;
-        Ok(HideSet { names: Some(names) })
-    }
-
-    pub(crate) fn copy(&self) -> Result<HideSet, AllocError>
-        ensures { IfOk result (λ copy. copy ≡ self.now) }
-    {
-        match &self.names {
-            Some(names) => {
-                let names = names.clone()?;
-                Ok(HideSet { names: Some(names) })
-            }
-            None => Ok(HideSet { names: None }),
+        HideSet {
+            number: Some(number),
         }
     }
 
-    pub(crate) fn as_slice(&self) -> &[Name]
-        ensures { result.now ≡ self.now }
+    pub(crate) fn number(&self) -> Option<usize>
+        ensures { self.now ≡ coded result }
     {
-        match &self.names {
-            Some(names) => names.as_slice(),
-            None => &[],
+        self.number
+    }
+
+    pub(crate) fn is_empty(&self) -> bool
+        ensures { IsTrue result → self.now ≡ [] }
+    {
+        self.number.is_none()
+    }
+
+    pub(crate) fn copy(&self) -> HideSet
+        ensures { result ≡ self.now }
+    {
+        HideSet {
+            number: self.number,
         }
     }
 
-    // A name is in the set.
-    #[tactic(auto, unfolding(crate::specs::HideSets::hides))]
-    pub(crate) fn hides(&self, name: &Name) -> bool
-        ensures { result ≡ sets.hides self.now name.now }
+    pub(crate) fn same(&self, other: &HideSet) -> bool
+        ensures { IsTrue result → self.now ≡ other.now }
     {
-        self.as_slice().iter().any(|n| *n == *name)
-    }
-
-    // The union.
-    #[tactic(auto, unfolding(crate::specs::HideSets::united))]
-    pub(crate) fn united(&self, alloc: Global, more: &HideSet) -> Result<HideSet, AllocError>
-        ensures { IfOk result (λ set. set ≡ sets.united self.now more.now) }
-    {
-        let names = self.as_slice();
-        let [_, ..] = names else {
-            return more.copy();
-        };
-        let first = left(alloc, names, more)?;
-        let all = append(first, more.as_slice())?;
-        HideSet::of(alloc, all)
-    }
-
-    // The intersection.
-    #[tactic(auto, unfolding(crate::specs::HideSets::common))]
-    pub(crate) fn common(&self, alloc: Global, others: &HideSet) -> Result<HideSet, AllocError>
-        ensures { IfOk result (λ set. set ≡ sets.common self.now others.now) }
-    {
-        let names = self.as_slice();
-        let [_, ..] = names else {
-            return Ok(HideSet::empty());
-        };
-        let both = kept(alloc, names, others)?;
-        HideSet::of(alloc, both)
-    }
-
-    // The set with one name more.
-    pub(crate) fn with(&self, alloc: Global, name: &Name) -> Result<HideSet, AllocError>
-        ensures { IfOk result (λ set. set ≡ name.now ∷ self.now) }
-    {
-        let mut names = Vec::new(alloc);
-        let copy = name.share()?;
-        names.push(copy)?;
-        let all = append(names, self.as_slice())?;
-        HideSet::of(alloc, all)
+        match self.number {
+            None => other.number.is_none(),
+            Some(number) => match other.number {
+                None => false,
+                Some(also) => number == also,
+            },
+        }
     }
 }

@@ -1,5 +1,8 @@
 // Macro expansion over a list of replacements that are under way, in place of a recursion.
-ghost use Rattle.std.specs.Prelude.{◌≡◌, ℕ, [], ◌≤◌, ◌<◌, ◌⊎◌, ◌+◌, ◌∷◌, IfOk};
+ghost use Rattle.std.specs.Prelude.{◌≡◌, ℕ, [], ◌≤◌, ◌<◌, ◌⊎◌, ◌+◌, ◌∷◌, IfOk, OnOk};
+ghost use Rattle.macro_expand.specs.Codes.{Names};
+ghost use Rattle.macro_expand.specs.Stands.{Stands, Grows};
+ghost use Rattle.macro_expand.specs.Numbers.{reals, real_outcome};
 ghost use Rattle.std.specs.FinMap as map;
 ghost use Rattle.macro_expand.specs.Expansion as spec;
 ghost use Rattle.macro_expand.specs.Steps as steps;
@@ -11,6 +14,7 @@ use crate::arguments::{ArgumentList, Rest};
 use crate::building::Building;
 use crate::expanding::{Step, Taken, take_step};
 use crate::hide::HideSet;
+use crate::sets::Sets;
 use crate::splicing::spliced;
 use crate::types::{Marked, MarkedList, Outcome, Progress};
 use macro_table::{MacroDef, MacroTable};
@@ -69,12 +73,15 @@ pub(crate) enum Stop<'a> {
 // Goes on to the next name that is replaced.
 fn walk<'a>(
     alloc: Global,
+    sets: &mut Sets,
     table: &'a MacroTable,
     lines: &[(TokId, u32)],
     walked: Walked,
 ) -> Result<Stop<'a>, AllocError>
-    ensures value { IfOk result (λ s. work.stop_outcome (spec.expansion (map.get table.now) lines.now) s
-        ≡ steps.whole (map.get table.now) lines.now walked) }
+    ensures grows { OnOk result (Grows sets.old sets.new) }
+    ensures value { IfOk result (λ s. (f : Names → Names) → Stands f sets.new
+        → work.stop_outcome f (spec.expansion (map.get table.now) lines.now) s
+        ≡ steps.whole f (map.get table.now) lines.now walked) }
     ensures ended { IfOk result (λ s. work.IsStop s walked.progress.left) }
 {
     let Walked {
@@ -86,7 +93,15 @@ fn walk<'a>(
     let mut rest = rest.into_items();
     let mut done = done.into_vec();
     'tokens: while let Some(token) = rest.pop_front() {
-        let taken = take_step(alloc, table, lines, progress, token, Rest::from_items(rest))?;
+        let taken = take_step(
+            alloc,
+            sets,
+            table,
+            lines,
+            progress,
+            token,
+            Rest::from_items(rest),
+        )?;
         match taken {
             Taken::Settled(step) => {
                 let Step {
@@ -131,14 +146,19 @@ fn walk<'a>(
 // A replacement list is built, or waits for an argument.
 fn settle<'a>(
     alloc: Global,
+    sets: &mut Sets,
     advance: Advance<'a>,
     call: Call<'a>,
     frames: VecDeque<Frame<'a>>,
 ) -> Result<Machine<'a>, AllocError>
-    ensures value { IfOk result (λ m. (again : Expander) → work.outcome again m
-        ≡ work.resume again frames.entry.items (work.ended again call.entry (work.advanced again call.entry advance.entry))) }
+    ensures grows { OnOk result (Grows sets.old sets.new) }
+    ensures value { IfOk result (λ m. (f : Names → Names) → Stands f sets.new → (again : Expander)
+        → work.outcome f again m
+        ≡ work.resume f again frames.entry.items
+        (work.ended f again call.entry (work.advanced f again call.entry advance.entry))) }
     ensures same { IfOk result (λ m. m.level.progress.left ≡ work.advance_left advance.entry) }
-    ensures waiting { IfOk result (λ m. work.waiting m.frames.items ≡ work.advance_waiting advance.entry + work.waiting frames.entry.items) }
+    ensures waiting { IfOk result (λ m. work.waiting m.frames.items
+        ≡ work.advance_waiting advance.entry + work.waiting frames.entry.items) }
 {
     let mut frames = frames;
     match advance {
@@ -158,7 +178,7 @@ fn settle<'a>(
                 empty: _,
                 first: _,
             } = built;
-            let rest = spliced(alloc, &token, &names, tokens, space, rest)?;
+            let rest = spliced(alloc, sets, &token, &names, tokens, space, rest)?;
             Ok(Machine {
                 level: Walked {
                     progress,
@@ -199,19 +219,23 @@ fn settle<'a>(
 // A name's replacement begins.
 fn begin<'a>(
     alloc: Global,
+    sets: &mut Sets,
     progress: Progress,
     call: Call<'a>,
     frames: VecDeque<Frame<'a>>,
 ) -> Result<Machine<'a>, AllocError>
-    ensures value { IfOk result (λ m. (again : Expander) → work.outcome again m
-        ≡ work.resume again frames.entry.items
-        (work.ended again call.entry (spec.built again progress call.entry.token call.entry.def.now call.entry.args))) }
+    ensures grows { OnOk result (Grows sets.old sets.new) }
+    ensures value { IfOk result (λ m. (f : Names → Names) → Stands f sets.new → (again : Expander)
+        → work.outcome f again m
+        ≡ work.resume f again frames.entry.items
+        (work.ended f again call.entry (work.built f again progress call.entry))) }
     ensures same { IfOk result (λ m. m.level.progress.left ≡ progress.left) }
 {
     let def = call.def;
     let begun = Building::begun(alloc, progress, call.token.token.space_before);
     let advance = read_list(
         alloc,
+        sets,
         def,
         call.args.as_slice(),
         &call.token.token.site,
@@ -219,20 +243,24 @@ fn begin<'a>(
         0,
         def.body.as_slice(),
     )?;
-    let settled = settle(alloc, advance, call, frames)?;
+    let settled = settle(alloc, sets, advance, call, frames)?;
     Ok(settled)
 }
 
 // An argument is expanded, and its replacement goes on.
 fn goes_on<'a>(
     alloc: Global,
+    sets: &mut Sets,
     progress: Progress,
     done: MarkedList,
     frame: Frame<'a>,
     frames: VecDeque<Frame<'a>>,
 ) -> Result<Machine<'a>, AllocError>
-    ensures value { IfOk result (λ m. (again : Expander) → work.outcome again m
-        ≡ work.resume again (frame.entry ∷ frames.entry.items) (record { progress = progress; tokens = done })) }
+    ensures grows { OnOk result (Grows sets.old sets.new) }
+    ensures value { IfOk result (λ m. (f : Names → Names) → Stands f sets.new → (again : Expander)
+        → work.outcome f again m
+        ≡ work.resume f again (frame.entry ∷ frames.entry.items)
+        (record { progress = progress; tokens = reals f done })) }
     ensures same { IfOk result (λ m. m.level.progress.left ≡ progress.left) }
     ensures fewer { IfOk result (λ m. work.waiting m.frames.items < work.waiting (frame.entry ∷ frames.entry.items)) }
 {
@@ -256,6 +284,7 @@ fn goes_on<'a>(
     let built = building.puts(space, done)?;
     let advance = read_list(
         alloc,
+        sets,
         call.def,
         call.args.as_slice(),
         &call.token.token.site,
@@ -263,19 +292,22 @@ fn goes_on<'a>(
         skip,
         behind,
     )?;
-    let settled = settle(alloc, advance, call, frames)?;
+    let settled = settle(alloc, sets, advance, call, frames)?;
     Ok(settled)
 }
 
 // Goes on until a name is replaced, or all is expanded.
 pub(crate) fn climb<'a>(
     alloc: Global,
+    sets: &mut Sets,
     table: &'a MacroTable,
     lines: &[(TokId, u32)],
     machine: Machine<'a>,
 ) -> Result<Machine<'a>, AllocError>
-    ensures value { IfOk result (λ m. work.outcome (spec.expansion (map.get table.now) lines.now) m
-        ≡ work.outcome (spec.expansion (map.get table.now) lines.now) machine.entry) }
+    ensures grows { OnOk result (Grows sets.old sets.new) }
+    ensures value { IfOk result (λ m. (f : Names → Names) → Stands f sets.new
+        → work.outcome f (spec.expansion (map.get table.now) lines.now) m
+        ≡ work.outcome f (spec.expansion (map.get table.now) lines.now) machine.entry) }
     ensures ended { IfOk result (λ m. work.IsClimbed m machine.entry.level.progress.left) }
     ensures fewer { IfOk result (λ m. m.level.progress.left ≤ machine.entry.level.progress.left) }
 {
@@ -283,10 +315,10 @@ pub(crate) fn climb<'a>(
     let mut level = level;
     let mut frames = frames;
     'levels: loop {
-        let stop = walk(alloc, table, lines, level)?;
+        let stop = walk(alloc, sets, table, lines, level)?;
         match stop {
             Stop::Called(progress, call) => {
-                let begun = begin(alloc, progress, call, frames)?;
+                let begun = begin(alloc, sets, progress, call, frames)?;
                 return Ok(begun);
             }
             Stop::Level(walked) => {
@@ -307,7 +339,7 @@ pub(crate) fn climb<'a>(
                     done,
                     rest: _,
                 } = walked;
-                let next = goes_on(alloc, progress, done, frame, frames)?;
+                let next = goes_on(alloc, sets, progress, done, frame, frames)?;
                 let Machine {
                     level: inner,
                     frames: waiting,
@@ -322,12 +354,15 @@ pub(crate) fn climb<'a>(
 // The expansion of a list of tokens with their hide sets.
 pub(crate) fn expansion(
     alloc: Global,
+    sets: &mut Sets,
     table: &MacroTable,
     lines: &[(TokId, u32)],
     progress: Progress,
     tokens: MarkedList,
 ) -> Result<Outcome, AllocError>
-    ensures value { IfOk result (λ o. o ≡ spec.expansion (map.get table.now) lines.now progress tokens) }
+    ensures grows { OnOk result (Grows sets.old sets.new) }
+    ensures value { IfOk result (λ o. (f : Names → Names) → Stands f sets.new
+        → real_outcome f o ≡ spec.expansion (map.get table.now) lines.now progress (reals f tokens)) }
     ensures fewer { IfOk result (λ o. o.progress.left ≤ progress.left) }
 {
     let level = Walked {
@@ -352,6 +387,7 @@ pub(crate) fn expansion(
                 tokens: done,
             });
         }
-        machine = climb(alloc, table, lines, machine)?;
+        let next = climb(alloc, sets, table, lines, machine)?;
+        machine = next;
     }
 }

@@ -1,11 +1,15 @@
 // What replaced a name, in front of the rest of the list.
-ghost use Rattle.std.specs.Prelude.{◌≡◌, ◌++◌, ◌∷◌, drop, IfOk};
+ghost use Rattle.std.specs.Prelude.{◌≡◌, ◌++◌, ◌∷◌, drop, IfOk, OnOk};
+ghost use Rattle.macro_expand.specs.Codes.{Names};
+ghost use Rattle.macro_expand.specs.Stands.{Stands, Grows};
+ghost use Rattle.macro_expand.specs.Numbers.{real, reals};
 ghost use Rattle.macro_expand.specs.Expansion as spec;
 ghost use Rattle.macro_expand.specs.Substitution as subst;
 ghost use Rattle.macro_expand.specs.Tokens as tokens;
 
 use crate::arguments::Rest;
 use crate::hide::HideSet;
+use crate::sets::Sets;
 use crate::types::{Marked, MarkedList};
 use std::alloc::{AllocError, Global};
 use tok_data::{OutToken, TokId};
@@ -13,11 +17,14 @@ use tok_data::{OutToken, TokId};
 // The token on a site, hidden from more names.
 fn marked_by(
     alloc: Global,
+    sets: &mut Sets,
     site: &TokId,
     names: &HideSet,
     token: Marked,
 ) -> Result<Marked, AllocError>
-    ensures { IfOk result (λ t. t ≡ subst.marked_by site.now names.now token) }
+    ensures grows { OnOk result (Grows sets.old sets.new) }
+    ensures value { IfOk result (λ t. (f : Names → Names) → Stands f sets.new
+        → real f t ≡ subst.marked_by site.now (f names.now) (real f token)) }
 {
     let Marked { token, hides } = token;
     let OutToken {
@@ -28,7 +35,7 @@ fn marked_by(
         site: _,
     } = token;
     let site = site.copy()?;
-    let hides = hides.united(alloc, names)?;
+    let hides = sets.united(alloc, &hides, names)?;
     Ok(Marked {
         token: OutToken {
             kind,
@@ -57,17 +64,20 @@ fn passed_on(space: bool, rest: Rest) -> Result<Rest, AllocError>
 // The tokens on a site, hidden from more names, in front of others.
 fn marked_before(
     alloc: Global,
+    sets: &mut Sets,
     site: &TokId,
     names: &HideSet,
     list: MarkedList,
     rest: Rest,
 ) -> Result<Rest, AllocError>
-    ensures { IfOk result (λ r. r ≡ subst.all_marked site.now names.now list ++ rest) }
+    ensures grows { OnOk result (Grows sets.old sets.new) }
+    ensures value { IfOk result (λ r. (f : Names → Names) → Stands f sets.new
+        → reals f r ≡ subst.all_marked site.now (f names.now) (reals f list) ++ reals f rest) }
 {
     let mut front = list.into_vec();
     let mut items = rest.into_items();
     while let Some(token) = front.pop() {
-        let marked = marked_by(alloc, site, names, token)?;
+        let marked = marked_by(alloc, sets, site, names, token)?;
         items.push_front(marked)?;
     }
     Ok(Rest::from_items(items))
@@ -88,20 +98,24 @@ fn respaced(space: bool, rest: Rest) -> Result<Rest, AllocError>
 // What replaced a name, in front of the rest.
 pub(crate) fn spliced(
     alloc: Global,
+    sets: &mut Sets,
     token: &Marked,
     names: &HideSet,
     list: MarkedList,
     space: bool,
     rest: Rest,
 ) -> Result<Rest, AllocError>
-    ensures { IfOk result (λ r. r ≡ spec.spliced token.now names.now list space rest) }
+    ensures grows { OnOk result (Grows sets.old sets.new) }
+    ensures value { IfOk result (λ r. (f : Names → Names) → Stands f sets.new
+        → reals f r ≡ spec.spliced (real f token.now) (f names.now) (reals f list) space (reals f rest)) }
 {
     let behind = passed_on(space, rest)?;
     if list.as_slice().is_empty() {
         return Ok(behind);
     }
-    let all = marked_before(alloc, &token.token.site, names, list, behind)?;
-    respaced(token.token.space_before, all)
+    let all = marked_before(alloc, sets, &token.token.site, names, list, behind)?;
+    let whole = respaced(token.token.space_before, all)?;
+    Ok(whole)
 }
 
 // The rest without its first tokens.

@@ -32,8 +32,10 @@ impl Marked {
         ensures { IfOk result (λ copy. copy ≡ self.now) }
     {
         let token = self.token.copy()?;
-        let hides = self.hides.copy()?;
-        Ok(Marked { token, hides })
+        Ok(Marked {
+            token,
+            hides: self.hides.copy(),
+        })
     }
 
     // The same with this white space before it.

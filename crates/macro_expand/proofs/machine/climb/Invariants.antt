@@ -1,6 +1,8 @@
 -- The list and the replacements that wait make what they made.
 use Rattle.std.proofs.Common.{◌≡◌, ◌≤◌}
 use Rattle.std.specs.FinMap as map
+use Rattle.macro_expand.specs.Codes.{Names}
+use Rattle.macro_expand.specs.Stands.{Stands, Grows}
 use Rattle.macro_expand.specs.Expansion as spec
 use Rattle.macro_expand.specs.Steps as steps
 use Rattle.macro_expand.specs.Machine as work
@@ -8,8 +10,11 @@ use Rattle.macro_expand.proofs.machine.climb.Given as goal
 
 abbrev pub invariant-levels : goal.invariant-levels
 invariant-levels l = record {
-  same : work.resume (spec.expansion (map.get l.table) l.lines) l.frames.items (steps.whole (map.get l.table) l.lines l.level)
-      ≡ work.outcome (spec.expansion (map.get l.table) l.lines) l.fn.machine;
+  grows : Grows l.fn.sets l.sets;
+  same : (f : Names → Names) → Stands f l.sets
+      → work.resume f (spec.expansion (map.get l.table) l.lines) l.frames.items
+      (steps.whole f (map.get l.table) l.lines l.level)
+      ≡ work.outcome f (spec.expansion (map.get l.table) l.lines) l.fn.machine;
   fewer : l.level.progress.left ≤ l.fn.machine.level.progress.left;
 }
 

@@ -12,11 +12,19 @@ use Rattle.macro_expand.proofs.WalkLemmas.{whole_done}
 use Rattle.macro_expand.proofs.machine.expansion.Goals as goal
 
 pub returns-then-is_empty-2-clause-value : goal.returns-then-is_empty-2-clause-value
-returns-then-is_empty-2-clause-value c =
+returns-then-is_empty-2-clause-value c = λ f h.
     let table = map.get c.args.table.now in
     let again : Expander = spec.expansion table c.args.lines.now in
     let short : length c.names.machine.frames.items ≡ 0 = grind (arith, common_steps) in
     let none : c.names.machine.frames.items ≡ [] = nil_from_length c.names.machine.frames.items short in
-    sym (whole_done table c.args.lines.now c.names.machine.level (c.is_empty.ensures.0 c.if-is_empty.true))
-    ∙ ap (λ (l : List Frame). work.resume again l (steps.whole table c.args.lines.now c.names.machine.level)) (sym none)
-    ∙ c.names.invariant.same
+    sym (whole_done f table c.args.lines.now c.names.machine.level (c.is_empty.ensures.0 c.if-is_empty.true))
+    ∙ ap (λ (l : List Frame). work.resume f again l (steps.whole f table c.args.lines.now c.names.machine.level))
+    (sym none)
+    ∙ c.names.invariant.same f h
+
+pub names-preserved : goal.names-preserved
+names-preserved c = record {
+  grows = λ f h. c.names.invariant.grows f (c.in_ok-next.ensures.grows f h);
+  same = λ f h. c.in_ok-next.ensures.value f h ∙ c.names.invariant.same f (c.in_ok-next.ensures.grows f h);
+  fewer = let next = c.in_ok-next.ensures.fewer in omega (arith, next, c.names.invariant.fewer);
+}

@@ -1,16 +1,22 @@
 -- Each turn makes a replacement, or ends.
 use Rattle.std.proofs.Common.{◌≡◌, ◌≤◌, ◌+◌, ◌*◌, length, min}
 use Rattle.std.specs.FinMap as map
+use Rattle.macro_expand.specs.Codes.{Names}
+use Rattle.macro_expand.specs.Stands.{Stands, Grows}
+use Rattle.macro_expand.specs.Numbers.{reals}
 use Rattle.macro_expand.specs.Expansion as spec
 use Rattle.macro_expand.specs.Machine as work
 use Rattle.macro_expand.proofs.machine.expansion.Given as goal
 
 abbrev pub invariant-names : goal.invariant-names
 invariant-names l = record {
-  same : work.outcome (spec.expansion (map.get l.table) l.lines) l.machine
-      ≡ spec.expansion (map.get l.table) l.lines l.fn.progress l.fn.tokens;
+  grows : Grows l.fn.sets l.sets;
+  same : (f : Names → Names) → Stands f l.sets
+      → work.outcome f (spec.expansion (map.get l.table) l.lines) l.machine
+      ≡ spec.expansion (map.get l.table) l.lines l.fn.progress (reals f l.fn.tokens);
   fewer : l.machine.level.progress.left ≤ l.fn.progress.left;
 }
 
 abbrev pub decreases-names : goal.decreases-names
-decreases-names l = 2 * l.machine.level.progress.left + min 1 (length l.machine.level.rest + length l.machine.frames.items)
+decreases-names l = 2 * l.machine.level.progress.left + min 1
+    (length l.machine.level.rest + length l.machine.frames.items)

@@ -1,12 +1,15 @@
 -- A walk goes by steps.
-use Rattle.std.proofs.Common.{List, ◌∷◌, ap, sym, ◌∙◌, subst, arith}
+use Rattle.std.proofs.Common.{List, [], ◌∷◌, ap, sym, ◌∙◌, subst, arith}
+use Rattle.std.specs.Prelude.{option_map}
 use Rattle.std.specs.FinMap as map
+use Rattle.std.proofs.lemmas.List.{map-append}
 use Rattle.macro_expand.specs.declared.types.Marked.{Marked}
 use Rattle.macro_expand.specs.declared.expanding.Taken.{Taken}
 use Rattle.macro_expand.specs.Substitution.{Expander}
 use Rattle.macro_expand.specs.Expansion as spec
 use Rattle.macro_expand.specs.Steps as steps
 use Rattle.macro_expand.specs.Machine as work
+use Rattle.macro_expand.specs.Numbers.{real, reals, real_args}
 use Rattle.macro_expand.proofs.WalkLemmas.{whole_kept, whole_put, whole_turns, kept_nearer}
 use Rattle.macro_expand.proofs.machine.walk.Goals as goal
 
@@ -15,35 +18,56 @@ tokens-preserved c =
     let table = map.get c.args.table.now in
     let again : Expander = spec.expansion table c.args.lines.now in
     let left = kept_nearer c.in-Settled.step c.tokens.progress.left c.from_items.result c.in-Some-kept.token
-    (subst (λ (s : Taken). work.IsTaken s c.tokens.progress.left c.from_items.result) c.in-Settled.is c.in_ok-taken.ensures.nearer) c.in-Some-kept.is in
+    (subst (λ (s : Taken). work.IsTaken s c.tokens.progress.left c.from_items.result) c.in-Settled.is
+    c.in_ok-taken.ensures.nearer) c.in-Some-kept.is in
     record {
-      same = whole_kept table c.args.lines.now c.tokens.progress c.tokens.done.items c.push.new.self.items c.in-Some.token c.from_items.result
-          c.tokens.rest.items c.into_items-rest-in-Settled.result.items c.in-Settled.step c.in-Some-kept.token (steps.whole table c.args.lines.now c.args.walked)
-          (c.in-Some.ensures.items ∙ ap (λ (l : List Marked). c.in-Some.token ∷ l) (sym c.from_items.ensures))
-          (ap (work.taken_outcome again) (sym c.in-Settled.is) ∙ c.in_ok-taken.ensures.value again)
-          c.in-Some-kept.is c.in_ok-push-in-Settled.ensures.items c.into_items-rest-in-Settled.ensures c.tokens.invariant.same;
+      grows = λ f h. c.tokens.invariant.grows f (c.in_ok-taken.ensures.grows f h);
+      same = λ f h.
+          whole_kept table c.args.lines.now c.tokens.progress (reals f c.tokens.done.items)
+          (reals f c.push.new.self.items) (real f c.in-Some.token) (reals f c.from_items.result)
+          (reals f c.tokens.rest.items) (reals f c.into_items-rest-in-Settled.result.items)
+          (steps.real_step f c.in-Settled.step) (real f c.in-Some-kept.token)
+          (steps.whole f table c.args.lines.now c.args.walked)
+          (ap (reals f) (c.in-Some.ensures.items
+          ∙ ap (λ (l : List Marked). c.in-Some.token ∷ l) (sym c.from_items.ensures)))
+          (ap (work.taken_outcome f again) (sym c.in-Settled.is) ∙ c.in_ok-taken.ensures.value f h again)
+          (ap (option_map (real f)) c.in-Some-kept.is)
+          (ap (reals f) c.in_ok-push-in-Settled.ensures.items
+          ∙ map-append (real f) c.tokens.done.items (c.in-Some-kept.token ∷ []))
+          (ap (reals f) c.into_items-rest-in-Settled.ensures)
+          (c.tokens.invariant.same f (c.in_ok-taken.ensures.grows f h));
       fewer = omega (arith, left, c.tokens.invariant.fewer);
     }
 
+pub returns-in_default-kept-clause-grows : goal.returns-in_default-kept-clause-grows
+returns-in_default-kept-clause-grows c = λ f h. c.tokens.invariant.grows f (c.in_ok-taken.ensures.grows f h)
+
 pub returns-in_default-kept-clause-value : goal.returns-in_default-kept-clause-value
-returns-in_default-kept-clause-value c =
+returns-in_default-kept-clause-value c = λ f h.
     let table = map.get c.args.table.now in
     let again : Expander = spec.expansion table c.args.lines.now in
-    whole_put table c.args.lines.now c.tokens.progress c.tokens.done.items c.from_vec.result c.in-Some.token
-    c.from_items.result c.tokens.rest.items c.in-Settled.step (steps.whole table c.args.lines.now c.args.walked)
-    (c.in-Some.ensures.items ∙ ap (λ (l : List Marked). c.in-Some.token ∷ l) (sym c.from_items.ensures))
-    (ap (work.taken_outcome again) (sym c.in-Settled.is) ∙ c.in_ok-taken.ensures.value again)
-    c.in_default-kept.is c.from_vec.ensures c.tokens.invariant.same
+    whole_put table c.args.lines.now c.tokens.progress (reals f c.tokens.done.items) (reals f c.from_vec.result)
+    (real f c.in-Some.token) (reals f c.from_items.result) (reals f c.tokens.rest.items)
+    (steps.real_step f c.in-Settled.step) (steps.whole f table c.args.lines.now c.args.walked)
+    (ap (reals f) (c.in-Some.ensures.items
+    ∙ ap (λ (l : List Marked). c.in-Some.token ∷ l) (sym c.from_items.ensures)))
+    (ap (work.taken_outcome f again) (sym c.in-Settled.is) ∙ c.in_ok-taken.ensures.value f h again)
+    (ap (option_map (real f)) c.in_default-kept.is) (ap (reals f) c.from_vec.ensures)
+    (c.tokens.invariant.same f (c.in_ok-taken.ensures.grows f h))
+
+pub returns-in-Called-clause-grows : goal.returns-in-Called-clause-grows
+returns-in-Called-clause-grows c = λ f h. c.tokens.invariant.grows f (c.in_ok-taken.ensures.grows f h)
 
 pub returns-in-Called-clause-value : goal.returns-in-Called-clause-value
-returns-in-Called-clause-value c =
+returns-in-Called-clause-value c = λ f h.
     let table = map.get c.args.table.now in
     let again : Expander = spec.expansion table c.args.lines.now in
-    whole_turns table c.args.lines.now c.tokens.progress c.tokens.done.items c.from_vec-done.result c.in-Some.token
-    c.from_items.result c.tokens.rest.items
-    (spec.again_with again c.in-Called.token c.in-Called.names c.in-Called.behind
-    (spec.built again c.in-Called.after c.in-Called.token c.in-Called.def.now c.in-Called.args))
-    (steps.whole table c.args.lines.now c.args.walked)
-    (c.in-Some.ensures.items ∙ ap (λ (l : List Marked). c.in-Some.token ∷ l) (sym c.from_items.ensures))
-    (ap (work.taken_outcome again) (sym c.in-Called.is) ∙ c.in_ok-taken.ensures.value again)
-    c.from_vec-done.ensures c.tokens.invariant.same
+    whole_turns table c.args.lines.now c.tokens.progress (reals f c.tokens.done.items) (reals f c.from_vec-done.result)
+    (real f c.in-Some.token) (reals f c.from_items.result) (reals f c.tokens.rest.items)
+    (spec.again_with again (real f c.in-Called.token) (f c.in-Called.names) (reals f c.in-Called.behind)
+    (spec.built again c.in-Called.after (real f c.in-Called.token) c.in-Called.def.now (real_args f c.in-Called.args)))
+    (steps.whole f table c.args.lines.now c.args.walked)
+    (ap (reals f) (c.in-Some.ensures.items
+    ∙ ap (λ (l : List Marked). c.in-Some.token ∷ l) (sym c.from_items.ensures)))
+    (ap (work.taken_outcome f again) (sym c.in-Called.is) ∙ c.in_ok-taken.ensures.value f h again)
+    (ap (reals f) c.from_vec-done.ensures) (c.tokens.invariant.same f (c.in_ok-taken.ensures.grows f h))

@@ -1,10 +1,17 @@
 use Rattle.std.proofs.Common.{◌≡◌, ◌++◌, vec_len}
+use Rattle.macro_expand.specs.Codes.{Names}
+use Rattle.macro_expand.specs.Stands.{Stands, Grows}
+use Rattle.macro_expand.specs.Numbers.{reals}
 use Rattle.macro_expand.specs.Substitution.{all_marked}
 use Rattle.macro_expand.proofs.splicing.marked_before.Given as goal
 
 abbrev pub invariant-loop-token : goal.invariant-loop-token
-invariant-loop-token l = all_marked l.site l.names l.front.items ++ l.items.items ≡ all_marked l.site l.names
-    l.initial.front.items ++ l.initial.items.items
+invariant-loop-token l = record {
+  grows : Grows l.fn.sets l.sets;
+  goes : (f : Names → Names) → Stands f l.sets
+      → all_marked l.site (f l.names) (reals f l.front.items) ++ reals f l.items.items
+      ≡ all_marked l.site (f l.names) (reals f l.initial.front.items) ++ reals f l.initial.items.items;
+}
 
 abbrev pub decreases-loop-token : goal.decreases-loop-token
 decreases-loop-token l = vec_len l.front

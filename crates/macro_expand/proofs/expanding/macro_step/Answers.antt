@@ -1,0 +1,10 @@
+use Rattle.std.proofs.Common.{ap, sym, ◌∙◌}
+use Rattle.macro_expand.specs.Steps.{found_of}
+use Rattle.macro_expand.proofs.MachineLemmas.{replaced_is}
+use Rattle.macro_expand.proofs.expanding.macro_step.Goals as goal
+
+pub returns-in-Replaced-clause-value : goal.returns-in-Replaced-clause-value
+returns-in-Replaced-clause-value c = λ f h again.
+    replaced_is f again c.in-Replaced.progress c.args.token c.args.rest c.dropped.result c.args.def.now
+    c.in-Replaced.args (f c.in-Replaced.names) c.in-Replaced.width _ c.dropped.ensures
+    (ap (found_of f c.args.def.now) (sym c.in-Replaced.is) ∙ c.in_ok-found.ensures.value f h)
