@@ -1,8 +1,8 @@
 // A replacement list up to a parameter whose argument is to be expanded (ISO C11 6.10.3.1), or to its end.
-ghost use Rattle.std.specs.Prelude.{◌≡◌, ℕ, ◌<◌, ◌≤◌, length, not, ◌&&◌, IfOk, OnOk};
+ghost use Rattle.std.specs.Prelude.{◌≡◌, ◌<◌, length, not, ◌&&◌, IfOk, OnOk};
 ghost use Rattle.macro_expand.specs.Codes.{Names};
 ghost use Rattle.macro_expand.specs.Stands.{Stands, Grows};
-ghost use Rattle.macro_expand.specs.Numbers.{reals, real_args, real_building, real_operand, real_part};
+ghost use Rattle.macro_expand.specs.Numbers.{real_args, real_building, real_operand, real_part};
 ghost use Rattle.macro_expand.specs.Machine as spec;
 ghost use Rattle.macro_expand.specs.Substitution as subst;
 ghost use Rattle.macro_expand.specs.Substitution.{Expander};

@@ -1,5 +1,5 @@
 // The arguments of a function-like macro (ISO C11 6.10.3p4, p10 to p12).
-ghost use Rattle.std.specs.Prelude.{◌≡◌, ℕ, [], ◌++◌, ◌∷◌, ◌≤◌, ◌<◌};
+ghost use Rattle.std.specs.Prelude.{◌≡◌, [], ◌++◌, ◌∷◌, ◌≤◌, ◌<◌};
 ghost use Rattle.std.specs.Prelude.{◌^◌, ◌+◌, length, drop, IfOk, IsTrue, ◌↔◌, option_copied};
 ghost use Rattle.macro_expand.specs.Arguments as spec;
 

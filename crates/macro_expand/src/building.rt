@@ -1,5 +1,5 @@
 // The substitution of arguments into a replacement list (ISO C11 6.10.3.1 to 6.10.3.3), but for their expansion.
-ghost use Rattle.std.specs.Prelude.{◌≡◌, ℕ, [], ◌++◌, ◌∷◌, ◌≤◌, ◌||◌, ◌&&◌, not, IfOk, OnOk};
+ghost use Rattle.std.specs.Prelude.{◌≡◌, ◌++◌, ◌&&◌, IfOk, OnOk};
 ghost use Rattle.macro_expand.specs.Codes.{Names};
 ghost use Rattle.macro_expand.specs.Stands.{Stands, Grows};
 ghost use Rattle.macro_expand.specs.Numbers.{real, reals, real_operand, real_building};

@@ -1,5 +1,5 @@
 // Macro expansion (ISO C11 6.10.3).
-ghost use Rattle.std.specs.Prelude.{◌≡◌, ℕ, [], ◌++◌, ◌≤◌, ◌<◌, ◌⊎◌, map as list_map, IfOk, OnOk, decimal};
+ghost use Rattle.std.specs.Prelude.{◌≡◌, ◌≤◌, ◌<◌, map as list_map, IfOk, OnOk, decimal};
 ghost use Rattle.macro_expand.specs.Codes.{Names};
 ghost use Rattle.macro_expand.specs.Stands.{Stands, Grows};
 ghost use Rattle.macro_expand.specs.Numbers.{real, reals};

@@ -1,5 +1,5 @@
 // What `##` makes of two tokens (ISO C11 6.10.3.3).
-ghost use Rattle.std.specs.Prelude.{◌≡◌, ℕ, ◌++◌, IfOk, OnOk, option_map};
+ghost use Rattle.std.specs.Prelude.{◌≡◌, ◌++◌, IfOk, OnOk, option_map};
 ghost use Rattle.macro_expand.specs.Codes.{Names};
 ghost use Rattle.macro_expand.specs.Stands.{Stands, Grows};
 ghost use Rattle.macro_expand.specs.Numbers.{real};

@@ -1,5 +1,5 @@
 // What stands at the front of a replacement list, and what `#` spells (ISO C11 6.10.3.2).
-ghost use Rattle.std.specs.Prelude.{◌≡◌, ℕ, [], ◌++◌, ◌∷◌, ◌≤◌, IfOk, OnOk, option_copied, string_bytes, true};
+ghost use Rattle.std.specs.Prelude.{◌≡◌, ◌++◌, ◌≤◌, IfOk, OnOk, option_copied, string_bytes, true};
 ghost use Rattle.macro_expand.specs.Spelling as spelling;
 ghost use Rattle.macro_expand.specs.Substitution as spec;
 

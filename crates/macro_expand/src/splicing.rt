@@ -1,5 +1,5 @@
 // What replaced a name, in front of the rest of the list.
-ghost use Rattle.std.specs.Prelude.{◌≡◌, ◌++◌, ◌∷◌, drop, IfOk, OnOk};
+ghost use Rattle.std.specs.Prelude.{◌≡◌, ◌++◌, drop, IfOk, OnOk};
 ghost use Rattle.macro_expand.specs.Codes.{Names};
 ghost use Rattle.macro_expand.specs.Stands.{Stands, Grows};
 ghost use Rattle.macro_expand.specs.Numbers.{real, reals};

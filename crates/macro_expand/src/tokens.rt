@@ -1,5 +1,5 @@
 // What a token is.
-ghost use Rattle.std.specs.Prelude.{◌≡◌, codes};
+ghost use Rattle.std.specs.Prelude.{◌≡◌};
 ghost use Rattle.macro_expand.specs.Tokens as spec;
 
 use tok_data::{OutToken, PpKind};

@@ -1,5 +1,5 @@
 // Tokens with their hide sets, what was done so far, and what expansion gives.
-ghost use Rattle.std.specs.Prelude.{◌≡◌, ℕ, [], ◌++◌, ◌∷◌, ◌<◌, IfOk};
+ghost use Rattle.std.specs.Prelude.{◌≡◌, [], ◌++◌, ◌∷◌, ◌<◌, IfOk};
 ghost use Rattle.macro_expand.specs.Tokens as spec;
 ghost use Rattle.macro_expand.specs.Progress as made;
 ghost use Rattle.macro_expand.specs.Tokens.{last_of};
