@@ -1,5 +1,5 @@
 -- The text of a notification is what is written piece by piece.
-use Rattle.std.proofs.Common.{◌≡◌, ◌≤◌, ℕ, ℤ, List, [], ◌∷◌, ◌++◌, Option, None, Some, false, map, refl, sym, ap, ◌∙◌, append_assoc, arith, codes}
+use Rattle.std.proofs.Common.{◌≡◌, ◌≤◌, ℕ, ℤ, List, [], ◌∷◌, ◌++◌, Option, None, Some, false, map, refl, sym, ap, ◌∙◌, append_assoc, arith, codes, length}
 use Rattle.serde_json.specs.Data.{Data, string}
 use Rattle.serde_json.specs.View.{items_of}
 use Rattle.serde_json.specs.Written.{compact_text, items_text}
@@ -9,7 +9,7 @@ use Rattle.c_tokens.specs.Laws.{InOrder, ranges}
 use Rattle.text_lines.specs.declared.encoding.Encoding.{Encoding}
 use Rattle.c_session.specs.Faults.{AreWithin}
 use Rattle.c_session.specs.Published.{number_data, publish_start, publish_end, version_part}
-use Rattle.c_session.specs.Replies.{framed, diagnostic, publish, publish_data}
+use Rattle.c_session.specs.Replies.{header, framed, diagnostic, publish, publish_data}
 
 -- what stands in order lies within the limit
 pub order_limit : (from limit : ℕ) (faults : List LexFault) → InOrder from limit (ranges faults) → from ≤ limit
@@ -55,3 +55,13 @@ published encoding uri version faults text content is =
 pub versioned : (body text : List ℕ) (z : ℤ) (version : Option ℤ) → {new : List ℕ} → version ≡ Some z → text ≡ compact_text (number_data z) →
     new ≡ (body ++ codes ",\"version\":") ++ text → new ≡ body ++ version_part version
 versioned body text z version is written made = made ∙ rw (is, written) (append_assoc body (codes ",\"version\":") (compact_text (number_data z)))
+
+-- ---- a content behind its header
+
+framed_is : (content : List ℕ) → header (length content) ++ content ≡ framed content
+unfolding framed
+framed_is content = refl
+
+pub framed_behind : (old mid new content : List ℕ) → mid ≡ old ++ header (length content) → new ≡ mid ++ content → new ≡ old ++ framed content
+framed_behind old mid new content first then =
+    then ∙ ap (λ m. m ++ content) first ∙ append_assoc old (header (length content)) content ∙ ap (λ f. old ++ f) (framed_is content)

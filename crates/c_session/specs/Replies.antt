@@ -12,6 +12,10 @@ use Rattle.text_lines.specs.declared.pos.Pos.{Pos}
 use Rattle.json_view.specs.declared.id.Id.{Id}
 use Rattle.json_view.specs.declared.id.Id.TheVariants.{Text, Int, Big}
 
+-- the header of a content of so many bytes
+abbrev pub header : ℕ → List ℕ
+header n = codes "Content-Length: " ++ decimal n ++ 13 ∷ 10 ∷ 13 ∷ 10 ∷ []
+
 -- a content behind its header
 unfoldable pub framed : List ℕ → List ℕ
 framed content = codes "Content-Length: " ++ decimal (length content) ++ 13 ∷ 10 ∷ 13 ∷ 10 ∷ [] ++ content

@@ -7,7 +7,7 @@ ghost use Rattle.c_session.specs.Replies.{message_of, pos_data, fault_data, diag
 ghost use Rattle.c_session.specs.Published.{number_data, publish_start, publish_end, version_part};
 ghost use Rattle.serde_json.specs.Data.{string};
 
-use crate::replies::framed;
+use crate::replies::push_framed;
 use c_tokens::LexFault;
 use serde_json::{Value, json};
 use std::alloc::{AllocError, Global};
@@ -203,7 +203,6 @@ pub(crate) fn push_diagnostics_of(
     ensures { OnOk result (out.new.items ≡ out.old.items ++ publish encoding showing.entry.uri.now showing.entry.version showing.entry.faults.now showing.entry.text.now) }
 {
     let text = publish_text(alloc, encoding, showing)?;
-    let message = framed(alloc, text.as_str())?;
-    out.extend_from_slice(message.as_slice())?;
+    push_framed(alloc, out, text.as_str())?;
     Ok(())
 }

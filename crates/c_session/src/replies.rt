@@ -2,7 +2,7 @@
 ghost use Rattle.std.specs.Prelude.{◌≡◌, ◌++◌, false, option_map, IfOk, OnOk};
 ghost use Rattle.serde_json.specs.View.{view};
 ghost use Rattle.serde_json.specs.Written.{has_float, compact_text};
-ghost use Rattle.c_session.specs.Replies.{framed, id_data, id_or_null, response_data, error_data, log_data, response, error, log, encoding_name, initialize_result};
+ghost use Rattle.c_session.specs.Replies.{header, framed, id_data, id_or_null, response_data, error_data, log_data, response, error, log, encoding_name, initialize_result};
 ghost use Rattle.c_session.specs.Seen.{seen_id};
 
 use crate::message::Id;
@@ -19,6 +19,24 @@ pub(crate) fn framed(alloc: Global, content: &str) -> Result<Vec<u8>, AllocError
     let mut text = format!(in alloc; "Content-Length: {length}\r\n\r\n")?;
     text.push_str(content)?;
     Ok(text.into_bytes())
+}
+
+/// Writes the header of a content of so many bytes behind what is written.
+fn push_header(alloc: Global, out: &mut Vec<u8>, length: usize) -> Result<(), AllocError>
+    ensures { OnOk result (out.new.items ≡ out.old.items ++ header length) }
+{
+    let header = format!(in alloc; "Content-Length: {length}\r\n\r\n")?;
+    out.extend_from_slice(header.as_bytes())?;
+    Ok(())
+}
+
+/// Writes a content behind its header, behind what is written.
+pub(crate) fn push_framed(alloc: Global, out: &mut Vec<u8>, content: &str) -> Result<(), AllocError>
+    ensures { OnOk result (out.new.items ≡ out.old.items ++ framed content.now) }
+{
+    push_header(alloc, out, content.len())?;
+    out.extend_from_slice(content.as_bytes())?;
+    Ok(())
 }
 
 fn id_value(alloc: Global, id: Id<'_>) -> Result<Value, AllocError>
