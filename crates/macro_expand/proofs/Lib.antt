@@ -10,3 +10,4 @@ pub mod NumberLemmas
 pub mod BuildingLemmas
 pub mod FindingLemmas
 pub mod MachineLemmas
+pub mod UnmentionedLemmas

@@ -1,6 +1,7 @@
 -- What a state of the expansion stands for: the list that is expanded, in the replacements that wait for it.
-use Rattle.std.specs.Prelude.{◌≡◌, ℕ, ◌+◌, ◌<◌, ◌≤◌, ◌⊎◌, Bool, List, [], ◌∷◌, length}
+use Rattle.std.specs.Prelude.{◌≡◌, ℕ, ◌+◌, ◌<◌, ◌≤◌, ◌⊎◌, Bool, List, [], ◌∷◌, length, None}
 use Rattle.tok_data.specs.declared.sources.TokId.{TokId}
+use Rattle.tok_data.specs.declared.tokens.OutToken.{OutToken}
 use Rattle.macro_table.specs.declared.definition.MacroDef.{MacroDef}
 use Rattle.macro_expand.specs.declared.types.Marked.{Marked}
 use Rattle.macro_expand.specs.declared.types.Progress.{Progress}
@@ -18,6 +19,7 @@ use Rattle.macro_expand.specs.declared.machine.Frame.{Frame}
 use Rattle.macro_expand.specs.declared.machine.Machine.{Machine}
 use Rattle.macro_expand.specs.declared.machine.Stop.{Stop}
 use Rattle.macro_expand.specs.declared.machine.Stop.TheVariants as stop
+use Rattle.macro_expand.specs.Arguments.{arg_of}
 use Rattle.macro_expand.specs.Codes.{Names}
 use Rattle.macro_expand.specs.Numbers.{real, reals, real_args, real_building}
 use Rattle.macro_expand.specs.declared.operands.Operand.{Operand}
@@ -64,6 +66,35 @@ advanced f again c a = building_of f again c.def.now (real_args f c.args) c.toke
 -- the whole replacement list
 abbrev pub built : (Names → Names) → Expander → Progress → Call → Building
 built f again p c = spec.built again p (real f c.token) c.def.now (real_args f c.args)
+
+-- what a replacement list makes that waits for an argument
+abbrev pub paused : (Names → Names) → Expander → Call → Building → Bool → List Marked → ℕ → List OutToken → Building
+paused f again c b space arg skip behind =
+    substituted again c.def.now (real_args f c.args) c.token.token.site skip
+    (puts_outcome space (real_building f b) (again b.progress (reals f arg))) behind
+
+-- no parameter stands in a list
+abbrev pub Unmentioned : MacroDef → List (List Marked) → List OutToken → Type 0
+Unmentioned def args [] = Unit {0}
+Unmentioned def args (t ∷ ts) = (arg_of def args t ≡ None) × Unmentioned def args ts
+
+-- the same call with other arguments
+abbrev pub with_args : Call → List (List Marked) → Call
+with_args c args = record {
+  token = c.token;
+  names = c.names;
+  def = c.def;
+  args = args;
+  done = c.done;
+  rest = c.rest;
+}
+
+-- arguments that do for the rest of a replacement list
+abbrev pub AreEnough : Call → List (List Marked) → List OutToken → Type 0
+AreEnough c args list =
+    (f : Names → Names) (again : Expander) (skip : ℕ) (b : Building)
+    → substituted again c.def.now (real_args f args) c.token.token.site skip b list
+    ≡ substituted again c.def.now (real_args f c.args) c.token.token.site skip b list
 
 -- what a list becomes, of which a name is replaced
 abbrev pub ended : (Names → Names) → Expander → Call → Building → Outcome

@@ -1,5 +1,5 @@
 // A replacement list up to a parameter whose argument is to be expanded (ISO C11 6.10.3.1), or to its end.
-ghost use Rattle.std.specs.Prelude.{◌≡◌, ◌<◌, length, not, ◌&&◌, IfOk, OnOk};
+ghost use Rattle.std.specs.Prelude.{◌≡◌, ◌<◌, length, not, false, ◌&&◌, IfOk, OnOk};
 ghost use Rattle.macro_expand.specs.Codes.{Names};
 ghost use Rattle.macro_expand.specs.Stands.{Stands, Grows};
 ghost use Rattle.macro_expand.specs.Numbers.{real_args, real_building, real_operand, real_part};
@@ -7,6 +7,7 @@ ghost use Rattle.macro_expand.specs.Machine as spec;
 ghost use Rattle.macro_expand.specs.Substitution as subst;
 ghost use Rattle.macro_expand.specs.Substitution.{Expander};
 
+use crate::arguments::arg_of;
 use crate::building::{Building, Part};
 use crate::operands::{Operand, read_operand};
 use crate::sets::Sets;
@@ -158,4 +159,20 @@ pub(crate) fn read_list<'a>(
         }
     }
     Ok(Advance::Done(building))
+}
+
+// A parameter stands in the rest of a replacement list.
+pub(crate) fn mentions(def: &MacroDef, args: &[MarkedList], list: &[OutToken]) -> bool
+    ensures { result ≡ false → spec.Unmentioned def.now args.now list.now }
+{
+    let mut rest = list;
+    'tokens: loop {
+        let Some((token, behind)) = rest.split_first() else {
+            return false;
+        };
+        let None = arg_of(def, args, token) else {
+            return true;
+        };
+        rest = behind;
+    }
 }

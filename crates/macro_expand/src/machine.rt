@@ -1,5 +1,5 @@
 // Macro expansion over a list of replacements that are under way, in place of a recursion.
-ghost use Rattle.std.specs.Prelude.{◌≡◌, ◌≤◌, ◌<◌, ◌+◌, ◌∷◌, IfOk, OnOk};
+ghost use Rattle.std.specs.Prelude.{◌≡◌, ◌≤◌, ◌<◌, ◌+◌, ◌∷◌, length, IfOk, OnOk};
 ghost use Rattle.macro_expand.specs.Codes.{Names};
 ghost use Rattle.macro_expand.specs.Stands.{Stands, Grows};
 ghost use Rattle.macro_expand.specs.Numbers.{reals, real_outcome};
@@ -9,7 +9,7 @@ ghost use Rattle.macro_expand.specs.Steps as steps;
 ghost use Rattle.macro_expand.specs.Machine as work;
 ghost use Rattle.macro_expand.specs.Substitution.{Expander};
 
-use crate::advancing::{Advance, read_list};
+use crate::advancing::{Advance, mentions, read_list};
 use crate::arguments::{ArgumentList, Rest};
 use crate::building::Building;
 use crate::expanding::{Step, Taken, take_step};
@@ -143,6 +143,76 @@ fn walk<'a>(
     }))
 }
 
+// A call without its arguments where none is needed for what is left of the replacement list.
+fn relieved<'a>(alloc: Global, call: Call<'a>, behind: &[OutToken]) -> Call<'a>
+    ensures same { result ≡ work.with_args call.entry result.args }
+    ensures enough { work.AreEnough call.entry result.args behind.now }
+{
+    if mentions(call.def, call.args.as_slice(), behind) {
+        return call;
+    }
+    let Call {
+        token,
+        names,
+        def,
+        args: _,
+        done,
+        rest,
+    } = call;
+    Call {
+        token,
+        names,
+        def,
+        args: ArgumentList::new(alloc),
+        done,
+        rest,
+    }
+}
+
+// A replacement waits for an argument.
+fn wait<'a>(
+    alloc: Global,
+    call: Call<'a>,
+    built: Building,
+    space: bool,
+    argument: MarkedList,
+    skip: usize,
+    behind: &'a [OutToken],
+    frames: VecDeque<Frame<'a>>,
+) -> Result<Machine<'a>, AllocError>
+    ensures value { IfOk result (λ m. (f : Names → Names) (again : Expander) → work.outcome f again m
+        ≡ work.resume f again frames.entry.items
+        (work.ended f again call.entry (work.paused f again call.entry built space argument skip behind.now))) }
+    ensures same { IfOk result (λ m. m.level.progress.left ≡ built.progress.left) }
+    ensures waiting { IfOk result (λ m. work.waiting m.frames.items
+        ≡ (length behind.now + 1) + work.waiting frames.entry.items) }
+{
+    let mut frames = frames;
+    let Building {
+        progress,
+        tokens,
+        space: before,
+        empty,
+        first,
+    } = built;
+    frames.push_front(Frame {
+        call,
+        tokens,
+        before,
+        empty,
+        first,
+        space,
+        skip,
+        behind,
+    })?;
+    let level = Walked {
+        progress,
+        done: MarkedList::new(alloc),
+        rest: Rest::from_list(argument),
+    };
+    Ok(Machine { level, frames })
+}
+
 // A replacement list is built, or waits for an argument.
 fn settle<'a>(
     alloc: Global,
@@ -160,7 +230,6 @@ fn settle<'a>(
     ensures waiting { IfOk result (λ m. work.waiting m.frames.items
         ≡ work.advance_waiting advance.entry + work.waiting frames.entry.items) }
 {
-    let mut frames = frames;
     match advance {
         Advance::Done(built) => {
             let Call {
@@ -189,29 +258,9 @@ fn settle<'a>(
             })
         }
         Advance::Paused(built, space, argument, skip, behind) => {
-            let Building {
-                progress,
-                tokens,
-                space: before,
-                empty,
-                first,
-            } = built;
-            frames.push_front(Frame {
-                call,
-                tokens,
-                before,
-                empty,
-                first,
-                space,
-                skip,
-                behind,
-            })?;
-            let level = Walked {
-                progress,
-                done: MarkedList::new(alloc),
-                rest: Rest::from_list(argument),
-            };
-            Ok(Machine { level, frames })
+            let call = relieved(alloc, call, behind);
+            let machine = wait(alloc, call, built, space, argument, skip, behind, frames)?;
+            Ok(machine)
         }
     }
 }
