@@ -1,5 +1,5 @@
 -- A bound beyond the budget is never met, so expansion is the same under each.
-use Rattle.std.proofs.Common.{◌≡◌, ℕ, zero, suc, ◌<◌, ◌≤◌, Bool, List, [], ◌∷◌, drop, refl, ap, ◌∙◌, arith, ◌&&◌, not}
+use Rattle.std.proofs.Common.{◌≡◌, ℕ, zero, suc, ◌<◌, ◌≤◌, Bool, List, [], ◌∷◌, drop, refl, ap, sym, ◌∙◌, arith, ◌&&◌, not}
 use Rattle.tok_data.specs.declared.sources.TokId.{TokId}
 use Rattle.tok_data.specs.declared.tokens.OutToken.{OutToken}
 use Rattle.macro_expand.specs.declared.types.Marked.{Marked}
@@ -10,13 +10,14 @@ use Rattle.macro_expand.specs.declared.operands.Operand.{Operand}
 use Rattle.macro_expand.specs.declared.building.Building.{Building}
 use Rattle.macro_expand.specs.declared.building.Part.{Part}
 use Rattle.macro_expand.specs.Tokens.{is_paste, begins_paste}
-use Rattle.macro_expand.specs.Substitution as subst
+use Rattle.macro_expand.specs.Building as build
 use Rattle.macro_expand.specs.Substitution.{Expander}
 use Rattle.macro_expand.specs.Expansion as spec
 use Rattle.macro_expand.specs.Steps as steps
 use Rattle.macro_expand.specs.Steps.{after}
 use Rattle.macro_expand.specs.Expansion.{Found, Stays, Put, Replaced}
 use Rattle.macro_expand.proofs.Cases.{if_both}
+use Rattle.macro_expand.proofs.SubstitutionLemmas.{replaced_as}
 use Rattle.macro_expand.proofs.Spending.{Keeps, Spends, found_spends, part_keeps, substituted_keeps}
 
 -- two ways to expand give the same where fewer replacements are left
@@ -24,46 +25,46 @@ abbrev pub Agrees : (Expander) → (Expander) → ℕ → Type 0
 Agrees f g most = (p : Progress) (ts : List Marked) → p.left < most → f p ts ≡ g p ts
 
 pub operand_agrees : (f g : Expander) (most : ℕ) → Agrees f g most → (b : Building) (o : Operand) (raw : Bool)
-    → b.progress.left < most → subst.puts_operand f b o raw ≡ subst.puts_operand g b o raw
+    → b.progress.left < most → build.puts_operand f b o raw ≡ build.puts_operand g b o raw
 operand_agrees f g most agree b o raw below =
     if_both (λ (x y : Building). x ≡ y) (o.given && not raw) _ _ _ _
-    (λ _. ap (subst.puts_outcome (subst.space_of b o.space) b) (agree b.progress o.tokens below))
+    (λ _. ap (build.puts_outcome (build.space_of b o.space) b) (agree b.progress o.tokens below))
     (λ _. refl)
 
 pub part_agrees : (f g : Expander) (most : ℕ) → Agrees f g most → (def : MacroDef) (args : List (List Marked))
-    (site : TokId) (b : Building) (t : OutToken) (ts : List OutToken) → b.progress.left < most → subst.part f def args
-    site b t ts ≡ subst.part g def args site b t ts
-unfolding subst.part
+    (site : TokId) (b : Building) (t : OutToken) (ts : List OutToken) → b.progress.left < most → build.part f def args
+    site b t ts ≡ build.part g def args site b t ts
+unfolding build.part
 part_agrees f g most agree def args site b t ts below =
     if_both (λ (x y : Part). x ≡ y) (is_paste t) _ _ _ _
     (λ _. refl)
-    (λ _. let o : Operand = subst.operand def args t ts in
+    (λ _. let o : Operand = build.operand def args t ts in
     ap (λ (x : Building). (let p : Part = record { built = x; more = o.more } in p))
     (operand_agrees f g most agree b o (begins_paste ts) below))
 
 pub substituted_agrees : (f g : Expander) (most : ℕ) → Agrees f g most → Keeps f → (def : MacroDef)
     (args : List (List Marked)) (site : TokId) (skip : ℕ) (b : Building) (ts : List OutToken) → b.progress.left < most
-    → subst.substituted f def args site skip b ts ≡ subst.substituted g def args site skip b ts
+    → build.substituted f def args site skip b ts ≡ build.substituted g def args site skip b ts
 substituted_agrees f g most agree keeps def args site skip b [] below = refl
 substituted_agrees f g most agree keeps def args site zero b (t ∷ ts) below =
     let first = part_agrees f g most agree def args site b t ts below in
     let fewer = part_keeps f keeps def args site b t ts in
-    let part = subst.part f def args site b t ts in
+    let part = build.part f def args site b t ts in
     substituted_agrees f g most agree keeps def args site part.more part.built ts (omega (arith, fewer, below))
-    ∙ ap (λ (x : Part). subst.substituted g def args site x.more x.built ts) first
+    ∙ ap (λ (x : Part). build.substituted g def args site x.more x.built ts) first
 substituted_agrees f g most agree keeps def args site (suc skip) b (t ∷ ts) below =
     substituted_agrees f g most agree keeps def args site skip b ts below
 
 pub replaced_agrees : (f g : Expander) (most : ℕ) → Agrees f g most → Keeps f → (q : Progress) (t : Marked)
     (def : MacroDef) (args : List (List Marked)) (names : List (List ℕ)) (ts : List Marked) → q.left < most
-    → spec.again_with f t names ts (spec.built f q t def args) ≡ spec.again_with g t names ts
-    (spec.built g q t def args)
+    → steps.again_with f t names ts (steps.built f q t def args) ≡ steps.again_with g t names ts
+    (steps.built g q t def args)
 replaced_agrees f g most agree keeps q t def args names ts below =
-    let built = spec.built f q t def args in
-    let fewer = substituted_keeps f keeps def args t.token.site 0 (subst.begun q t.token.space_before) def.body in
+    let built = steps.built f q t def args in
+    let fewer = substituted_keeps f keeps def args t.token.site 0 (build.begun q t.token.space_before) def.body in
     agree built.progress (spec.spliced t names built.tokens built.space ts) (omega (arith, fewer, below))
-    ∙ ap (spec.again_with g t names ts)
-    (substituted_agrees f g most agree keeps def args t.token.site 0 (subst.begun q t.token.space_before) def.body
+    ∙ ap (steps.again_with g t names ts)
+    (substituted_agrees f g most agree keeps def args t.token.site 0 (build.begun q t.token.space_before) def.body
     below)
 
 pub goes_on_agrees : (f g : Expander) (most : ℕ) → Agrees f g most → Keeps f → (more more' : Progress → Outcome)
@@ -72,7 +73,9 @@ pub goes_on_agrees : (f g : Expander) (most : ℕ) → Agrees f g most → Keeps
 goes_on_agrees f g most agree keeps more more' same t ts (Stays q) spent = ap (spec.with_front (t ∷ [])) (same q spent)
 goes_on_agrees f g most agree keeps more more' same t ts (Put q u) spent = agree q (u ∷ ts) spent
 goes_on_agrees f g most agree keeps more more' same t ts (Replaced q def args names width) spent =
-    replaced_agrees f g most agree keeps q t def args names (drop width ts) spent
+    replaced_as f q t def args names (drop width ts)
+    ∙ replaced_agrees f g most agree keeps q t def args names (drop width ts) spent
+    ∙ sym (replaced_as g q t def args names (drop width ts))
 
 -- what holds where so many are left holds where fewer are
 pub spends_more : (left most : ℕ) → left ≤ most → (found : Found) → Spends left found → Spends most found
@@ -96,10 +99,10 @@ pub goes_on_keeps : (f : Expander) → Keeps f → (left : ℕ) (more : Progress
 goes_on_keeps f keeps left more fewer t ts (Stays q) spent = omega (arith, fewer q, spent)
 goes_on_keeps f keeps left more fewer t ts (Put q u) spent = omega (arith, keeps q (u ∷ ts), spent)
 goes_on_keeps f keeps left more fewer t ts (Replaced q def args names width) spent =
-    let built = spec.built f q t def args in
-    let first = substituted_keeps f keeps def args t.token.site 0 (subst.begun q t.token.space_before) def.body in
+    let built = steps.built f q t def args in
+    let first = substituted_keeps f keeps def args t.token.site 0 (build.begun q t.token.space_before) def.body in
     let last = keeps built.progress (spec.spliced t names built.tokens built.space (drop width ts)) in
-    omega (arith, first, last, spent)
+    rw (replaced_as f q t def args names (drop width ts)) (omega (arith, first, last, spent))
 
 pub walked_keeps : (table : spec.Definitions) (lines : List (TokId × ℕ)) (f : Expander) → Keeps f → (ts : List Marked)
     (p : Progress) → (spec.walked table lines f p ts).progress.left ≤ p.left
@@ -138,7 +141,8 @@ pub step_after : (f g : Expander) (most : ℕ) → Agrees f g most → Keeps f �
 step_after f g most agree keeps more t ts same (Stays q) spent = ap (spec.with_front (t ∷ [])) (same q spent)
 step_after f g most agree keeps more t ts same (Put q u) spent = agree q (u ∷ ts) spent
 step_after f g most agree keeps more t ts same (Replaced q def args names width) spent =
-    replaced_agrees f g most agree keeps q t def args names (drop width ts) spent
+    replaced_as f q t def args names (drop width ts)
+    ∙ replaced_agrees f g most agree keeps q t def args names (drop width ts) spent
 
 -- expansion is by steps
 pub expansion_steps : (table : spec.Definitions) (lines : List (TokId × ℕ)) (p : Progress) (t : Marked)

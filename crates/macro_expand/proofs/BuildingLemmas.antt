@@ -18,8 +18,9 @@ use Rattle.macro_expand.specs.Tokens.{is_paste, begins_paste, plain, last_of}
 use Rattle.macro_expand.specs.Pasting.{pasted}
 use Rattle.macro_expand.specs.Progress.{faulty}
 use Rattle.macro_expand.specs.Machine as work
-use Rattle.macro_expand.specs.Substitution as subst
-use Rattle.macro_expand.specs.Substitution.{Expander, all_marked, marked_by, joins, operand, part}
+use Rattle.macro_expand.specs.Building as build
+use Rattle.macro_expand.specs.Building.{joins, operand, part}
+use Rattle.macro_expand.specs.Substitution.{Expander, all_marked, marked_by}
 use Rattle.macro_expand.proofs.ListLemmas.{map_snoc}
 use Rattle.macro_expand.proofs.NumberLemmas.{last_real, puts_real, plain_real, operand_real, first_spaced_real}
 use Rattle.macro_expand.proofs.NumberLemmas.{passed_real}
@@ -75,19 +76,19 @@ with_tokens b ts = record {
 pub pasted_alone : (f : Names → Names) (site : TokId) (r : Marked) (rs tokens : List Marked) (b : Building)
     → last_of b.tokens ≡ None → tokens ≡ r ∷ rs
     → real_building f (with_tokens b tokens)
-    ≡ subst.pasted_to site (real f r) (reals f rs) (last_of (reals f b.tokens)) (real_building f b)
+    ≡ build.pasted_to site (real f r) (reals f rs) (last_of (reals f b.tokens)) (real_building f b)
 pasted_alone f site r rs tokens b none tokens_is =
     let last : last_of (reals f b.tokens) ≡ None =
     last_real f b.tokens ∙ ap (option_map (λ (p : List Marked × Marked). (reals f p.0, real f p.1))) none in
     ap (λ (ts : List Marked). real_building f (with_tokens b ts)) tokens_is
-    ∙ ap (λ (o : Option (List Marked × Marked)). subst.pasted_to site (real f r) (reals f rs) o (real_building f b))
+    ∙ ap (λ (o : Option (List Marked × Marked)). build.pasted_to site (real f r) (reals f rs) o (real_building f b))
     (sym last)
 
 pub pasted_one : (f : Names → Names) (site : TokId) (front : List Marked) (l r t : Marked) (rs tokens : List Marked)
     (b : Building) (made : Option Marked) → last_of b.tokens ≡ Some (front, l)
     → option_map (real f) made ≡ pasted (real f l) (real f r) → made ≡ Some t → tokens ≡ front ++ t ∷ rs
     → real_building f (with_tokens b tokens)
-    ≡ subst.pasted_to site (real f r) (reals f rs) (last_of (reals f b.tokens)) (real_building f b)
+    ≡ build.pasted_to site (real f r) (reals f rs) (last_of (reals f b.tokens)) (real_building f b)
 pasted_one f site front l r t rs tokens b made some pasted_is made_is tokens_is =
     let last : last_of (reals f b.tokens) ≡ Some (reals f front, real f l) =
     last_real f b.tokens ∙ ap (option_map (λ (p : List Marked × Marked). (reals f p.0, real f p.1))) some in
@@ -95,8 +96,8 @@ pasted_one f site front l r t rs tokens b made some pasted_is made_is tokens_is 
     ap (λ (ts : List Marked). real_building f (with_tokens b ts)) tokens_is
     ∙ ap (λ (ts : List Marked). with_tokens b ts) (map-append (real f) front (t ∷ rs))
     ∙ ap (λ (o : Option Marked).
-    subst.pasted_by site (reals f front) (real f l) (real f r) (reals f rs) o (real_building f b)) one
-    ∙ ap (λ (o : Option (List Marked × Marked)). subst.pasted_to site (real f r) (reals f rs) o (real_building f b))
+    build.pasted_by site (reals f front) (real f l) (real f r) (reals f rs) o (real_building f b)) one
+    ∙ ap (λ (o : Option (List Marked × Marked)). build.pasted_to site (real f r) (reals f rs) o (real_building f b))
     (sym last)
 
 pub pasted_two : (f : Names → Names) (site : TokId) (front : List Marked) (l r : Marked) (rs tokens : List Marked)
@@ -104,7 +105,7 @@ pub pasted_two : (f : Names → Names) (site : TokId) (front : List Marked) (l r
     → option_map (real f) made ≡ pasted (real f l) (real f r) → made ≡ None → tokens ≡ front ++ l ∷ r ∷ rs
     → progress ≡ faulty 206 site [] b.progress
     → real_building f (record b { progress = progress; tokens = tokens })
-    ≡ subst.pasted_to site (real f r) (reals f rs) (last_of (reals f b.tokens)) (real_building f b)
+    ≡ build.pasted_to site (real f r) (reals f rs) (last_of (reals f b.tokens)) (real_building f b)
 pasted_two f site front l r rs tokens b progress made some pasted_is made_is tokens_is progress_is =
     let last : last_of (reals f b.tokens) ≡ Some (reals f front, real f l) =
     last_real f b.tokens ∙ ap (option_map (λ (p : List Marked × Marked). (reals f p.0, real f p.1))) some in
@@ -115,86 +116,86 @@ pasted_two f site front l r rs tokens b progress made some pasted_is made_is tok
     ∙ ap (λ (p : Progress). with_tokens (record b { progress = p }) (reals f front ++ real f l ∷ real f r ∷ reals f rs))
     progress_is
     ∙ ap (λ (o : Option Marked).
-    subst.pasted_by site (reals f front) (real f l) (real f r) (reals f rs) o (real_building f b)) none
-    ∙ ap (λ (o : Option (List Marked × Marked)). subst.pasted_to site (real f r) (reals f rs) o (real_building f b))
+    build.pasted_by site (reals f front) (real f l) (real f r) (reals f rs) o (real_building f b)) none
+    ∙ ap (λ (o : Option (List Marked × Marked)). build.pasted_to site (real f r) (reals f rs) o (real_building f b))
     (sym last)
 
 pub glued_is : (f : Names → Names) (site : TokId) (r : Marked) (rs more : List Marked) (b made : Building)
     → more ≡ r ∷ rs
-    → made ≡ subst.pasted_to site (real f r) (reals f rs) (last_of (reals f b.tokens)) (real_building f b)
-    → made ≡ subst.glued site (reals f more) (real_building f b)
+    → made ≡ build.pasted_to site (real f r) (reals f rs) (last_of (reals f b.tokens)) (real_building f b)
+    → made ≡ build.glued site (reals f more) (real_building f b)
 glued_is f site r rs more b made more_is is =
-    is ∙ ap (λ (ts : List Marked). subst.glued site (reals f ts) (real_building f b)) (sym more_is)
+    is ∙ ap (λ (ts : List Marked). build.glued site (reals f ts) (real_building f b)) (sym more_is)
 
 pub glued_nothing : (f : Names → Names) (site : TokId) (more : List Marked) (b : Building) → more ≡ []
-    → real_building f b ≡ subst.glued site (reals f more) (real_building f b)
+    → real_building f b ≡ build.glued site (reals f more) (real_building f b)
 glued_nothing f site more b none =
-    ap (λ (ts : List Marked). subst.glued site (reals f ts) (real_building f b)) (sym none)
+    ap (λ (ts : List Marked). build.glued site (reals f ts) (real_building f b)) (sym none)
 
 pub joins_put : (f : Names → Names) (site : TokId) (more : List Marked) (b made : Building) → b.empty ≡ true
-    → made ≡ subst.puts b.space more b
+    → made ≡ build.puts b.space more b
     → real_building f made ≡ joins site (reals f more) (real_building f b)
 unfolding joins
 joins_put f site more b made empty is =
     ap (real_building f) is ∙ sym (puts_real f b.space more b)
-    ∙ ap (λ (e : Bool). if e then subst.puts b.space (reals f more) (real_building f b)
-    else subst.glued site (reals f more) (real_building f b)) (sym empty)
+    ∙ ap (λ (e : Bool). if e then build.puts b.space (reals f more) (real_building f b)
+    else build.glued site (reals f more) (real_building f b)) (sym empty)
 
 pub joins_glued : (f : Names → Names) (site : TokId) (more : List Marked) (b made : Building) → b.empty ≡ false
-    → made ≡ subst.glued site (reals f more) (real_building f b)
+    → made ≡ build.glued site (reals f more) (real_building f b)
     → made ≡ joins site (reals f more) (real_building f b)
 unfolding joins
 joins_glued f site more b made full is =
     is
-    ∙ ap (λ (e : Bool). if e then subst.puts b.space (reals f more) (real_building f b)
-    else subst.glued site (reals f more) (real_building f b)) (sym full)
+    ∙ ap (λ (e : Bool). if e then build.puts b.space (reals f more) (real_building f b)
+    else build.glued site (reals f more) (real_building f b)) (sym full)
 
 -- an operand
 pub operand_put : (f : Names → Names) (again : Expander) (b made : Building) (o : Operand) (raw : Bool)
     → (o.given && not raw) ≡ false
-    → made ≡ subst.puts (subst.space_of b o.space) o.tokens (subst.with_noted o.spelled b)
+    → made ≡ build.puts (build.space_of b o.space) o.tokens (build.with_noted o.spelled b)
     → (let p : Part = record { built = real_building f made; more = o.more } in p)
     ≡ work.operand_part again (real_building f b) (real_operand f o) raw
 operand_put f again b made o raw plainly is =
     ap (λ (x : Building). (let p : Part = record { built = real_building f x; more = o.more } in p)) is
     ∙ ap (λ (x : Building). (let p : Part = record { built = x; more = o.more } in p))
-    (sym (puts_real f (subst.space_of b o.space) o.tokens (subst.with_noted o.spelled b)))
+    (sym (puts_real f (build.space_of b o.space) o.tokens (build.with_noted o.spelled b)))
     ∙ ap (λ (e : Bool). (let p : Part = record {
       built = if e
-          then subst.puts_outcome (subst.space_of b o.space) (real_building f b) (again b.progress (reals f o.tokens))
-          else subst.puts (subst.space_of b o.space) (reals f o.tokens)
-          (subst.with_noted o.spelled (real_building f b));
+          then build.puts_outcome (build.space_of b o.space) (real_building f b) (again b.progress (reals f o.tokens))
+          else build.puts (build.space_of b o.space) (reals f o.tokens)
+          (build.with_noted o.spelled (real_building f b));
       more = o.more;
     } in p)) (sym plainly)
 
 pub paste_ends : (f : Names → Names) → f [] ≡ [] → (space : Bool) (t : OutToken) (one : List Marked) (b made : Building)
-    → one ≡ plain t ∷ [] → made ≡ subst.puts space one b
+    → one ≡ plain t ∷ [] → made ≡ build.puts space one b
     → (let p : Part = record { built = real_building f made; more = 0 } in p)
-    ≡ (let p : Part = record { built = subst.puts space (plain t ∷ []) (real_building f b); more = 0 } in p)
+    ≡ (let p : Part = record { built = build.puts space (plain t ∷ []) (real_building f b); more = 0 } in p)
 paste_ends f none space t one b made one_is is =
     ap (λ (x : Building). (let p : Part = record { built = x; more = 0 } in p))
     (ap (real_building f) is ∙ sym (puts_real f space one b)
-    ∙ ap (λ (ts : List Marked). subst.puts space (reals f ts) (real_building f b)) one_is
-    ∙ ap (λ (x : Marked). subst.puts space (x ∷ []) (real_building f b)) (plain_real f none t))
+    ∙ ap (λ (ts : List Marked). build.puts space (reals f ts) (real_building f b)) one_is
+    ∙ ap (λ (x : Marked). build.puts space (x ∷ []) (real_building f b)) (plain_real f none t))
 
 pub paste_joins : (f : Names → Names) → f [] ≡ [] → (def : MacroDef) (args : List (List Marked)) (site : TokId)
     (b made : Building) (o : Operand) (u : OutToken) (us : List OutToken) → o ≡ operand def args u us
-    → real_building f made ≡ subst.joins_operand site (real_building f b) (real_operand f o)
+    → real_building f made ≡ build.joins_operand site (real_building f b) (real_operand f o)
     → (let p : Part = record { built = real_building f made; more = o.more + 1 } in p)
-    ≡ subst.joins_part site (real_building f b) (operand def (real_args f args) u us)
+    ≡ build.joins_part site (real_building f b) (operand def (real_args f args) u us)
 paste_joins f none def args site b made o u us is joined =
     ap (λ (x : Building). (let p : Part = record { built = x; more = o.more + 1 } in p)) joined
-    ∙ ap (λ (x : Operand). subst.joins_part site (real_building f b) (real_operand f x)) is
-    ∙ ap (subst.joins_part site (real_building f b)) (sym (operand_real f none def args u us))
+    ∙ ap (λ (x : Operand). build.joins_part site (real_building f b) (real_operand f x)) is
+    ∙ ap (build.joins_part site (real_building f b)) (sym (operand_real f none def args u us))
 
 -- the front of a replacement list
 pub part_pastes : (again : Expander) (def : MacroDef) (args : List (List Marked)) (site : TokId) (b : Building)
     (t : OutToken) (ts : List OutToken) (made : Part) → is_paste t ≡ true
-    → made ≡ subst.pastes def args site b t ts → made ≡ part again def args site b t ts
+    → made ≡ build.pastes def args site b t ts → made ≡ part again def args site b t ts
 unfolding part
 part_pastes again def args site b t ts made paste is =
-    is ∙ ap (λ (e : Bool). if e then subst.pastes def args site b t ts
-    else subst.puts_part again b ts (operand def args t ts)) (sym paste)
+    is ∙ ap (λ (e : Bool). if e then build.pastes def args site b t ts
+    else build.puts_part again b ts (operand def args t ts)) (sym paste)
 
 pub part_puts : (f : Names → Names) → f [] ≡ [] → (again : Expander) (def : MacroDef) (args : List (List Marked))
     (site : TokId) (b : Building) (t : OutToken) (ts : List OutToken) (o : Operand) (made : Part)
@@ -205,29 +206,29 @@ unfolding part
 part_puts f none again def args site b t ts o made plainly o_is is =
     is ∙ ap (λ (x : Operand). work.operand_part again b (real_operand f x) (begins_paste ts)) o_is
     ∙ ap (λ (x : Operand). work.operand_part again b x (begins_paste ts)) (sym (operand_real f none def args t ts))
-    ∙ ap (λ (e : Bool). if e then subst.pastes def (real_args f args) site b t ts
-    else subst.puts_part again b ts (operand def (real_args f args) t ts)) (sym plainly)
+    ∙ ap (λ (e : Bool). if e then build.pastes def (real_args f args) site b t ts
+    else build.puts_part again b ts (operand def (real_args f args) t ts)) (sym plainly)
 
 pub pastes_right : (def : MacroDef) (args : List (List Marked)) (site : TokId) (b : Building) (t u : OutToken)
     (us behind : List OutToken) (made : Part) → behind ≡ u ∷ us
-    → made ≡ subst.joins_part site b (operand def args u us) → made ≡ subst.pastes def args site b t behind
+    → made ≡ build.joins_part site b (operand def args u us) → made ≡ build.pastes def args site b t behind
 pastes_right def args site b t u us behind made begins is =
-    is ∙ ap (subst.pastes def args site b t) (sym begins)
+    is ∙ ap (build.pastes def args site b t) (sym begins)
 
 -- the rest of a replacement list
 pub parts_on : (again : Expander) (def : MacroDef) (args : List (List Marked)) (site : TokId) (skip more : ℕ)
     (b b' made : Building) (t : OutToken) (ts rest : List OutToken) → skip ≡ 0 → rest ≡ t ∷ ts
     → (let p : Part = record { built = b'; more = more } in p) ≡ part again def args site b t ts
-    → subst.substituted again def args site skip b rest ≡ made
-    → subst.substituted again def args site more b' ts ≡ made
+    → build.substituted again def args site skip b rest ≡ made
+    → build.substituted again def args site more b' ts ≡ made
 parts_on again def args site skip more b b' made t ts rest none begins is same =
-    ap (λ (p : Part). subst.substituted again def args site p.more p.built ts) is
-    ∙ ap (λ (r : List OutToken). subst.substituted again def args site 0 b r) (sym begins)
-    ∙ ap (λ (n : ℕ). subst.substituted again def args site n b rest) (sym none)
+    ap (λ (p : Part). build.substituted again def args site p.more p.built ts) is
+    ∙ ap (λ (r : List OutToken). build.substituted again def args site 0 b r) (sym begins)
+    ∙ ap (λ (n : ℕ). build.substituted again def args site n b rest) (sym none)
     ∙ same
 
 pub parts_end : (again : Expander) (def : MacroDef) (args : List (List Marked)) (site : TokId) (skip : ℕ)
     (b made : Building) (rest : List OutToken) → rest ≡ []
-    → subst.substituted again def args site skip b rest ≡ made → b ≡ made
+    → build.substituted again def args site skip b rest ≡ made → b ≡ made
 parts_end again def args site skip b made rest none same =
-    ap (subst.substituted again def args site skip b) (sym none) ∙ same
+    ap (build.substituted again def args site skip b) (sym none) ∙ same

@@ -10,8 +10,7 @@ use Rattle.macro_table.specs.declared.definition.MacroDef.{MacroDef}
 use Rattle.macro_expand.specs.declared.types.Marked.{Marked}
 use Rattle.macro_expand.specs.HideSets.{hides, united, common}
 use Rattle.macro_expand.specs.Tokens.{is_mark, is_hash, is_paste, plain}
-use Rattle.macro_expand.specs.Arguments.{parts, turn, fitted, lacks_variable, arg_of}
-use Rattle.macro_expand.specs.Substitution.{operand, joins, part}
+use Rattle.macro_expand.specs.Arguments.{balanced, divides, fitted, lacks_variable, arg_of}
 use Rattle.macro_expand.specs.Expansion.{Definitions, meaning, found, expansion, at_first}
 
 abbrev token : List ℕ → ℕ → PpKind → List ℕ → OutToken
@@ -58,13 +57,13 @@ outcome = (expansion table [] (at_first 10) (map plain text)).tokens
 
 pub spelled : map (λ (t : Marked). t.token.spelling) outcome ≡ codes "2" ∷ codes "*" ∷ codes "9" ∷ codes "*" ∷ codes
     "g" ∷ []
-unfolding hides united common is_mark is_hash is_paste parts turn fitted lacks_variable arg_of operand joins part
-    meaning found expansion
+unfolding hides united common is_mark is_hash is_paste balanced divides fitted lacks_variable arg_of meaning found
+    expansion
 spelled = refl
 
 pub both_hidden : map (λ (t : Marked). t.hides) outcome ≡ (codes "f" ∷ []) ∷ (codes "f" ∷ [])
     ∷ (codes "f" ∷ codes "g" ∷ [])
     ∷ (codes "f" ∷ codes "g" ∷ []) ∷ (codes "f" ∷ codes "g" ∷ []) ∷ []
-unfolding hides united common is_mark is_hash is_paste parts turn fitted lacks_variable arg_of operand joins part
-    meaning found expansion
+unfolding hides united common is_mark is_hash is_paste balanced divides fitted lacks_variable arg_of meaning found
+    expansion
 both_hidden = refl

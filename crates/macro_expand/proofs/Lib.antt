@@ -3,6 +3,9 @@ pub mod Spending
 pub mod Bounds
 pub mod WalkLemmas
 pub mod ListLemmas
+pub mod ItemLemmas
+pub mod ElementLemmas
+pub mod SubstitutionLemmas
 pub mod ReadingLemmas
 pub mod Examples
 pub mod SetLemmas

@@ -9,7 +9,8 @@ use Rattle.macro_expand.specs.declared.building.Building.{Building}
 use Rattle.macro_expand.specs.declared.advancing.Advance.{Advance}
 use Rattle.macro_expand.specs.Codes.{Names}
 use Rattle.macro_expand.specs.Numbers.{real, reals, real_args, real_building}
-use Rattle.macro_expand.specs.Substitution.{Expander, begun, puts, substituted}
+use Rattle.macro_expand.specs.Substitution.{Expander}
+use Rattle.macro_expand.specs.Building.{begun, puts, substituted}
 use Rattle.macro_expand.specs.Expansion as spec
 use Rattle.macro_expand.specs.Expansion.{Definitions, Stays, Macro, meaning, found}
 use Rattle.macro_expand.specs.Machine as work
@@ -27,11 +28,11 @@ found_macro table lines p t ts def going is =
 pub replaced_is : (f : Names → Names) (again : Expander) (p : Progress) (t : Marked) (rest behind : List Marked)
     (def : MacroDef) (args : List (List Marked)) (names : Names) (width : ℕ) (r : spec.Found) → behind ≡ drop width rest
     → spec.Replaced p def (real_args f args) names width ≡ r
-    → spec.again_with again (real f t) names (reals f behind) (spec.built again p (real f t) def (real_args f args))
+    → steps.again_with again (real f t) names (reals f behind) (steps.built again p (real f t) def (real_args f args))
     ≡ steps.after again (steps.step_by again (real f t) (reals f rest) r)
 replaced_is f again p t rest behind def args names width r behind_is is =
-    ap (λ (ts : List Marked). spec.again_with again (real f t) names ts
-    (spec.built again p (real f t) def (real_args f args)))
+    ap (λ (ts : List Marked). steps.again_with again (real f t) names ts
+    (steps.built again p (real f t) def (real_args f args)))
     (ap (reals f) behind_is ∙ drop_real f width rest)
     ∙ ap (λ (x : spec.Found). steps.after again (steps.step_by again (real f t) (reals f rest) x)) is
 

@@ -20,12 +20,15 @@ use Rattle.macro_expand.specs.Numbers.{real, reals, real_args, real_called, real
 use Rattle.macro_expand.specs.Tokens as token
 use Rattle.macro_expand.specs.Tokens.{is_mark, is_ident, is_hash, plain, spaced, last_of, with_first}
 use Rattle.macro_expand.specs.Arguments as arguments
-use Rattle.macro_expand.specs.Arguments.{names_of, parts, turn, fitted, lacks_variable, arg_of}
+use Rattle.macro_expand.specs.Reading as reads
+use Rattle.macro_expand.specs.Reading.{parts, turn}
+use Rattle.macro_expand.specs.Arguments.{names_of, fitted, lacks_variable, arg_of}
 use Rattle.macro_expand.specs.Spelling as spelling
 use Rattle.macro_expand.specs.Spelling.{string_of}
-use Rattle.macro_expand.specs.Substitution as subst
-use Rattle.macro_expand.specs.Substitution.{operand}
+use Rattle.macro_expand.specs.Building as build
+use Rattle.macro_expand.specs.Building.{operand}
 use Rattle.macro_expand.proofs.Cases.{if_both}
+use Rattle.macro_expand.proofs.ReadingLemmas.{reading_is}
 
 abbrev pub real_reading : (Names → Names) → Reading → Reading
 real_reading f r = record { depth = r.depth; done = real_args f r.done; current = reals f r.current }
@@ -39,23 +42,23 @@ reading depth done current = record { depth = depth; done = done; current = curr
 
 -- a call that is read
 pub taken_real : (f : Names → Names) (t : Marked) (r : Reading)
-    → arguments.taken (real f t) (real_reading f r) ≡ real_reading f (arguments.taken t r)
+    → reads.taken (real f t) (real_reading f r) ≡ real_reading f (reads.taken t r)
 taken_real f t r =
     ap (reading r.depth (real_args f r.done)) (sym (map-append (real f) r.current (t ∷ [])))
 
 pub parted_real : (f : Names → Names) (r : Reading)
-    → arguments.parted (real_reading f r) ≡ real_reading f (arguments.parted r)
+    → reads.parted (real_reading f r) ≡ real_reading f (reads.parted r)
 parted_real f r =
     ap (λ (args : List (List Marked)). reading r.depth args []) (sym (map-append (reals f) r.done (r.current ∷ [])))
 
 pub opened_real : (f : Names → Names) (t : Marked) (r : Reading)
-    → arguments.opened (real f t) (real_reading f r) ≡ real_reading f (arguments.opened t r)
+    → reads.opened (real f t) (real_reading f r) ≡ real_reading f (reads.opened t r)
 opened_real f t r =
     if_both (λ (x y : Reading). x ≡ real_reading f y) (r.depth == 0) _ _ _ _ (λ _. refl)
     (λ _. ap (λ (x : Reading). (let deeper : Reading = record x { depth = r.depth + 1 } in deeper)) (taken_real f t r))
 
 pub closed_real : (f : Names → Names) (t : Marked) (r : Reading) (at : ℕ)
-    → arguments.closed (real f t) (real_reading f r) at ≡ real_turn f (arguments.closed t r at)
+    → reads.closed (real f t) (real_reading f r) at ≡ real_turn f (reads.closed t r at)
 closed_real f t r at =
     if_both (λ (x y : Turn). x ≡ real_turn f y) (r.depth == 1) _ _ _ _
     (λ _. ap (λ (args : List (List Marked)). Ends (Closed args (f t.hides) (at + 1)))
@@ -79,29 +82,30 @@ turn_real f def at r t =
     (λ _. if_both (λ (x y : Turn). x ≡ real_turn f y) (r.depth == 0) _ _ _ _ (λ _. refl)
     (λ _. if_both (λ (x y : Turn). x ≡ real_turn f y) (is_mark (codes ")") t.token) _ _ _ _
     (λ _. closed_real f t r at)
-    (λ _. ap (λ (b : Bool). if b then Goes (arguments.parted (real_reading f r))
-    else Goes (arguments.taken (real f t) (real_reading f r))) (parts_real f def r t.token)
+    (λ _. ap (λ (b : Bool). if b then Goes (reads.parted (real_reading f r))
+    else Goes (reads.taken (real f t) (real_reading f r))) (parts_real f def r t.token)
     ∙ if_both (λ (x y : Turn). x ≡ real_turn f y) (parts def r t.token) _ _ _ _
     (λ _. ap Goes (parted_real f r)) (λ _. ap Goes (taken_real f t r)))))
 
 pub turned_real : (f : Names → Names) (more more' : Reading → Called)
     → ((r : Reading) → more (real_reading f r) ≡ real_called f (more' r)) → (tn : Turn)
-    → arguments.turned more (real_turn f tn) ≡ real_called f (arguments.turned more' tn)
+    → reads.turned more (real_turn f tn) ≡ real_called f (reads.turned more' tn)
 turned_real f more more' same (Goes r) = same r
 turned_real f more more' same (Ends c) = refl
 
 pub reads_real : (f : Names → Names) (def : MacroDef) (at : ℕ) (r : Reading) (ts : List Marked)
-    → arguments.reads def at (real_reading f r) (reals f ts) ≡ real_called f (arguments.reads def at r ts)
+    → reads.reads def at (real_reading f r) (reals f ts) ≡ real_called f (reads.reads def at r ts)
 reads_real f def at r [] =
     if_both (λ (x y : Called). x ≡ real_called f y) (r.depth == 0) _ _ _ _ (λ _. refl) (λ _. refl)
 reads_real f def at r (t ∷ ts) =
-    ap (arguments.turned (λ r'. arguments.reads def (at + 1) r' (reals f ts))) (turn_real f def at r t)
-    ∙ turned_real f (λ r'. arguments.reads def (at + 1) r' (reals f ts)) (λ r'. arguments.reads def (at + 1) r' ts)
+    ap (reads.turned (λ r'. reads.reads def (at + 1) r' (reals f ts))) (turn_real f def at r t)
+    ∙ turned_real f (λ r'. reads.reads def (at + 1) r' (reals f ts)) (λ r'. reads.reads def (at + 1) r' ts)
     (λ r'. reads_real f def (at + 1) r' ts) (turn def at r t)
 
 pub called_real : (f : Names → Names) (def : MacroDef) (ts : List Marked)
     → arguments.called def (reals f ts) ≡ real_called f (arguments.called def ts)
-called_real f def ts = reads_real f def 0 arguments.nothing_read ts
+called_real f def ts =
+    sym (reading_is def (reals f ts)) ∙ reads_real f def 0 reads.nothing_read ts ∙ ap (real_called f) (reading_is def ts)
 
 -- arguments as the parameters take them
 pub nothing_real : (f : Names → Names) (args : List (List Marked))
@@ -200,7 +204,7 @@ string_real f none hash arg =
 
 -- what stands at the front of a replacement list
 pub first_arg_real : (f : Names → Names) (def : MacroDef) (args : List (List Marked)) (ts : List OutToken)
-    → subst.first_arg def (real_args f args) ts ≡ option_map (reals f) (subst.first_arg def args ts)
+    → build.first_arg def (real_args f args) ts ≡ option_map (reals f) (build.first_arg def args ts)
 first_arg_real f def args [] = refl
 first_arg_real f def args (t ∷ ts) = arg_of_real f def args t
 
@@ -214,19 +218,19 @@ operand_of spelled space more t = record {
 }
 
 pub plain_operand_real : (f : Names → Names) → f [] ≡ [] → (t : OutToken)
-    → subst.plain_operand t ≡ real_operand f (subst.plain_operand t)
+    → build.plain_operand t ≡ real_operand f (build.plain_operand t)
 plain_operand_real f none t =
     ap (operand_of [] t.space_before 0) (sym (plain_real f none t))
 
 pub string_operand_real : (f : Names → Names) → f [] ≡ [] → (t : OutToken) (arg : List Marked)
-    → subst.string_operand t (reals f arg) ≡ real_operand f (subst.string_operand t arg)
+    → build.string_operand t (reals f arg) ≡ real_operand f (build.string_operand t arg)
 string_operand_real f none t arg =
     ap (operand_of (spelling.sources (reals f arg)) t.space_before 1) (string_real f none t arg)
     ∙ ap (λ (toks : List TokId). operand_of toks t.space_before 1 (real f (string_of t arg))) (sources_real f arg)
 
 pub operand_by_real : (f : Names → Names) → f [] ≡ [] → (g : OutToken → List Marked → Operand) (t : OutToken)
     → ((arg : List Marked) → g t (reals f arg) ≡ real_operand f (g t arg)) → (o : Option (List Marked))
-    → subst.operand_by g t (option_map (reals f) o) ≡ real_operand f (subst.operand_by g t o)
+    → build.operand_by g t (option_map (reals f) o) ≡ real_operand f (build.operand_by g t o)
 operand_by_real f none g t same None = plain_operand_real f none t
 operand_by_real f none g t same (Some arg) = same arg
 
@@ -235,17 +239,17 @@ pub operand_real : (f : Names → Names) → f [] ≡ [] → (def : MacroDef) (a
 unfolding operand
 operand_real f none def args t ts =
     if_both (λ (x y : Operand). x ≡ real_operand f y) (is_hash t) _ _ _ _
-    (λ _. ap (subst.operand_by subst.string_operand t) (first_arg_real f def args ts)
-    ∙ operand_by_real f none subst.string_operand t (string_operand_real f none t) (subst.first_arg def args ts))
-    (λ _. ap (subst.operand_by subst.argument_operand t) (arg_of_real f def args t)
-    ∙ operand_by_real f none subst.argument_operand t (λ arg. refl) (arg_of def args t))
+    (λ _. ap (build.operand_by build.string_operand t) (first_arg_real f def args ts)
+    ∙ operand_by_real f none build.string_operand t (string_operand_real f none t) (build.first_arg def args ts))
+    (λ _. ap (build.operand_by build.argument_operand t) (arg_of_real f def args t)
+    ∙ operand_by_real f none build.argument_operand t (λ arg. refl) (arg_of def args t))
 
 -- what is built
 abbrev building_of : Progress → List Marked → Building
 building_of p ts = record { progress = p; tokens = ts; space = false; empty = false; first = false }
 
 pub puts_real : (f : Names → Names) (space : Bool) (ts : List Marked) (b : Building)
-    → subst.puts space (reals f ts) (real_building f b) ≡ real_building f (subst.puts space ts b)
+    → build.puts space (reals f ts) (real_building f b) ≡ real_building f (build.puts space ts b)
 puts_real f space [] b = refl
 puts_real f space (t ∷ ts) b =
     ap (building_of b.progress) (sym (map-append (real f) b.tokens (spaced space t ∷ ts)))

@@ -16,7 +16,7 @@ use Rattle.macro_expand.specs.declared.arguments.Called.TheVariants.{Absent, Unc
 use Rattle.macro_expand.specs.Tokens.{is_paste, last_of}
 use Rattle.macro_expand.specs.Arguments.{called, fitted, lacks_variable}
 use Rattle.macro_expand.specs.Pasting.{pasted}
-use Rattle.macro_expand.specs.Substitution as subst
+use Rattle.macro_expand.specs.Building as build
 use Rattle.macro_expand.specs.Substitution.{Expander}
 use Rattle.macro_expand.specs.Expansion as spec
 use Rattle.macro_expand.specs.Expansion.{Found, Stays, Put, Replaced, Sense, Ordinary, Line, File, Macro}
@@ -92,41 +92,41 @@ found_spends table lines p t ts =
     (λ _. omega arith) (λ _. sense_spends lines p t ts (spec.meaning table t))
 
 -- what stands at the front of a replacement list
-pub puts_keeps : (space : Bool) (ts : List Marked) (b : Building) → (subst.puts space ts b).progress.left
+pub puts_keeps : (space : Bool) (ts : List Marked) (b : Building) → (build.puts space ts b).progress.left
     ≡ b.progress.left
 puts_keeps space [] b = refl
 puts_keeps space (t ∷ ts) b = refl
 
 pub pasted_by_keeps : (site : TokId) (front : List Marked) (l r : Marked) (rs : List Marked) (o : Option Marked)
-    (b : Building) → (subst.pasted_by site front l r rs o b).progress.left ≡ b.progress.left
+    (b : Building) → (build.pasted_by site front l r rs o b).progress.left ≡ b.progress.left
 pasted_by_keeps site front l r rs None b = refl
 pasted_by_keeps site front l r rs (Some t) b = refl
 
 pub pasted_to_keeps : (site : TokId) (r : Marked) (rs : List Marked) (o : Option (List Marked × Marked))
-    (b : Building) → (subst.pasted_to site r rs o b).progress.left ≡ b.progress.left
+    (b : Building) → (build.pasted_to site r rs o b).progress.left ≡ b.progress.left
 pasted_to_keeps site r rs None b = refl
 pasted_to_keeps site r rs (Some q) b = pasted_by_keeps site q.0 q.1 r rs (pasted q.1 r) b
 
-pub glued_keeps : (site : TokId) (ts : List Marked) (b : Building) → (subst.glued site ts b).progress.left
+pub glued_keeps : (site : TokId) (ts : List Marked) (b : Building) → (build.glued site ts b).progress.left
     ≡ b.progress.left
 glued_keeps site [] b = refl
 glued_keeps site (r ∷ rs) b = pasted_to_keeps site r rs (last_of b.tokens) b
 
-pub joins_keeps : (site : TokId) (ts : List Marked) (b : Building) → (subst.joins site ts b).progress.left
+pub joins_keeps : (site : TokId) (ts : List Marked) (b : Building) → (build.joins site ts b).progress.left
     ≡ b.progress.left
-unfolding subst.joins
+unfolding build.joins
 joins_keeps site ts b =
     if_cases (λ (x : Building). x.progress.left ≡ b.progress.left) _ _ _ (λ _. puts_keeps b.space ts b)
     (λ _. glued_keeps site ts b)
 
 pub pastes_keeps : (def : MacroDef) (args : List (List Marked)) (site : TokId) (b : Building) (t : OutToken)
-    (ts : List OutToken) → (subst.pastes def args site b t ts).built.progress.left ≡ b.progress.left
+    (ts : List OutToken) → (build.pastes def args site b t ts).built.progress.left ≡ b.progress.left
 pastes_keeps def args site b t [] = refl
 pastes_keeps def args site b t (u ∷ us) =
-    joins_keeps site (subst.operand def args u us).tokens (subst.with_noted (subst.operand def args u us).spelled b)
+    joins_keeps site (build.operand def args u us).tokens (build.with_noted (build.operand def args u us).spelled b)
 
 pub outcome_keeps : (again : Expander) → Keeps again → (space : Bool) (b : Building) (ts : List Marked)
-    → (subst.puts_outcome space b (again b.progress ts)).progress.left ≤ b.progress.left
+    → (build.puts_outcome space b (again b.progress ts)).progress.left ≤ b.progress.left
 outcome_keeps again keeps space b ts =
     let o : Outcome = again b.progress ts in
     let same = puts_keeps space o.tokens (record b { progress = o.progress }) in
@@ -134,27 +134,27 @@ outcome_keeps again keeps space b ts =
     rw same fewer
 
 pub operand_keeps : (again : Expander) → Keeps again → (b : Building) (o : Operand) (raw : Bool)
-    → (subst.puts_operand again b o raw).progress.left ≤ b.progress.left
+    → (build.puts_operand again b o raw).progress.left ≤ b.progress.left
 operand_keeps again keeps b o raw =
     if_cases (λ (x : Building). x.progress.left ≤ b.progress.left) (o.given && not raw) _ _
-    (λ _. outcome_keeps again keeps (subst.space_of b o.space) b o.tokens)
-    (λ _. rw (puts_keeps (subst.space_of b o.space) o.tokens (subst.with_noted o.spelled b)) (omega arith))
+    (λ _. outcome_keeps again keeps (build.space_of b o.space) b o.tokens)
+    (λ _. rw (puts_keeps (build.space_of b o.space) o.tokens (build.with_noted o.spelled b)) (omega arith))
 
 pub part_keeps : (again : Expander) → Keeps again → (def : MacroDef) (args : List (List Marked)) (site : TokId)
-    (b : Building) (t : OutToken) (ts : List OutToken) → (subst.part again def args site b t ts).built.progress.left ≤
+    (b : Building) (t : OutToken) (ts : List OutToken) → (build.part again def args site b t ts).built.progress.left ≤
     b.progress.left
-unfolding subst.part
+unfolding build.part
 part_keeps again keeps def args site b t ts =
     if_cases (λ (x : Part). x.built.progress.left ≤ b.progress.left) (is_paste t) _ _
     (λ _. rw (pastes_keeps def args site b t ts) (omega arith))
-    (λ _. operand_keeps again keeps b (subst.operand def args t ts) _)
+    (λ _. operand_keeps again keeps b (build.operand def args t ts) _)
 
 pub substituted_keeps : (again : Expander) → Keeps again → (def : MacroDef) (args : List (List Marked)) (site : TokId)
-    (skip : ℕ) (b : Building) (ts : List OutToken) → (subst.substituted again def args site skip b ts).progress.left ≤
+    (skip : ℕ) (b : Building) (ts : List OutToken) → (build.substituted again def args site skip b ts).progress.left ≤
     b.progress.left
 substituted_keeps again keeps def args site skip b [] = omega arith
 substituted_keeps again keeps def args site zero b (t ∷ ts) =
-    let part = subst.part again def args site b t ts in
+    let part = build.part again def args site b t ts in
     let first = part_keeps again keeps def args site b t ts in
     let rest = substituted_keeps again keeps def args site part.more part.built ts in
     omega (arith, first, rest)

@@ -13,8 +13,9 @@ use Rattle.macro_expand.specs.Codes.{Names}
 use Rattle.macro_expand.specs.Numbers.{real_args}
 use Rattle.macro_expand.specs.Tokens.{is_ident, is_hash, is_paste}
 use Rattle.macro_expand.specs.Arguments.{arg_of}
-use Rattle.macro_expand.specs.Substitution as subst
-use Rattle.macro_expand.specs.Substitution.{Expander, operand, part, substituted}
+use Rattle.macro_expand.specs.Building as build
+use Rattle.macro_expand.specs.Building.{operand, part, substituted}
+use Rattle.macro_expand.specs.Substitution.{Expander}
 use Rattle.macro_expand.specs.Machine as work
 use Rattle.macro_expand.specs.Machine.{Unmentioned}
 use Rattle.macro_expand.proofs.Cases.{if_cases, if_both}
@@ -32,7 +33,7 @@ unmentioned_real f def args (t ∷ ts) none =
     (arg_of_real f def args t ∙ ap (option_map _) none.0, unmentioned_real f def args ts none.1)
 
 first_none : (def : MacroDef) (args : List (List Marked)) (ts : List OutToken) → Unmentioned def args ts
-    → subst.first_arg def args ts ≡ subst.first_arg def [] ts
+    → build.first_arg def args ts ≡ build.first_arg def [] ts
 first_none def args [] none = refl
 first_none def args (t ∷ ts) none = none.0 ∙ sym (no_args def t)
 
@@ -41,13 +42,13 @@ operand_none : (def : MacroDef) (args : List (List Marked)) (t : OutToken) (ts :
 unfolding operand
 operand_none def args t ts none =
     if_both (λ (x y : Operand). x ≡ y) (is_hash t) _ _ _ _
-    (λ _. ap (subst.operand_by subst.string_operand t) (first_none def args ts none.1))
-    (λ _. ap (subst.operand_by subst.argument_operand t) (none.0 ∙ sym (no_args def t)))
+    (λ _. ap (build.operand_by build.string_operand t) (first_none def args ts none.1))
+    (λ _. ap (build.operand_by build.argument_operand t) (none.0 ∙ sym (no_args def t)))
 
 pastes_none : (def : MacroDef) (args : List (List Marked)) (site : TokId) (b : Building) (t : OutToken)
-    (ts : List OutToken) → Unmentioned def args ts → subst.pastes def args site b t ts ≡ subst.pastes def [] site b t ts
+    (ts : List OutToken) → Unmentioned def args ts → build.pastes def args site b t ts ≡ build.pastes def [] site b t ts
 pastes_none def args site b t [] none = refl
-pastes_none def args site b t (u ∷ us) none = ap (subst.joins_part site b) (operand_none def args u us none)
+pastes_none def args site b t (u ∷ us) none = ap (build.joins_part site b) (operand_none def args u us none)
 
 part_none : (again : Expander) (def : MacroDef) (args : List (List Marked)) (site : TokId) (b : Building)
     (t : OutToken) (ts : List OutToken) → Unmentioned def args (t ∷ ts)
@@ -56,7 +57,7 @@ unfolding part
 part_none again def args site b t ts none =
     if_both (λ (x y : Part). x ≡ y) (is_paste t) _ _ _ _
     (λ _. pastes_none def args site b t ts none.1)
-    (λ _. ap (subst.puts_part again b ts) (operand_none def args t ts none))
+    (λ _. ap (build.puts_part again b ts) (operand_none def args t ts none))
 
 pub substituted_none : (again : Expander) (def : MacroDef) (args : List (List Marked)) (site : TokId) (skip : ℕ)
     (b : Building) (ts : List OutToken) → Unmentioned def args ts

@@ -1,14 +1,11 @@
 -- The arguments of a function-like macro (ISO C11 6.10.3p4, p10 to p12).
-use Rattle.std.specs.Prelude.{ℕ, ◌+◌, ◌-◌, ◌==◌, ◌≤◌, nat_lt, Bool, true, false, ◌&&◌, ◌||◌, not, List, [], ◌∷◌, ◌++◌}
-use Rattle.std.specs.Prelude.{length, Option, Some, None, if◌then◌else◌, bytes_eq, codes}
+use Rattle.std.specs.Prelude.{ℕ, ◌+◌, ◌==◌, nat_lt, Bool, true, false, ◌&&◌, ◌||◌, not, List, [], ◌∷◌, ◌++◌, length}
+use Rattle.std.specs.Prelude.{Option, Some, None, option_map, if◌then◌else◌, bytes_eq, codes}
 use Rattle.tok_data.specs.declared.tokens.OutToken.{OutToken}
-use Rattle.macro_expand.specs.declared.types.Marked.{Marked}
 use Rattle.macro_table.specs.declared.definition.MacroDef.{MacroDef}
-use Rattle.macro_expand.specs.declared.arguments.Reading.{Reading}
+use Rattle.macro_expand.specs.declared.types.Marked.{Marked}
 use Rattle.macro_expand.specs.declared.arguments.Called.{Called}
 use Rattle.macro_expand.specs.declared.arguments.Called.TheVariants.{Absent, Unclosed, Closed}
-use Rattle.macro_expand.specs.declared.arguments.Turn.{Turn}
-use Rattle.macro_expand.specs.declared.arguments.Turn.TheVariants.{Goes, Ends}
 use Rattle.macro_expand.specs.Tokens.{is_ident, is_mark}
 
 -- the named parameters; an object-like macro has none
@@ -16,57 +13,43 @@ abbrev pub names_of : Option (List (List ℕ)) → List (List ℕ)
 names_of None = []
 names_of (Some names) = names
 
-abbrev pub taken : Marked → Reading → Reading
-taken t r = record r { current = r.current ++ t ∷ [] }
+-- how often a punctuator stands in a list
+abbrev pub count : List ℕ → List Marked → ℕ
+count text [] = 0
+count text (t ∷ ts) = (if is_mark text t.token then 1 else 0) + count text ts
 
-abbrev pub parted : Reading → Reading
-parted r = record r { done = r.done ++ r.current ∷ []; current = [] }
+-- each parenthesis that is opened in a list is closed in it
+unfoldable pub balanced : List Marked → Bool
+balanced ts = count (codes "(") ts == count (codes ")") ts
 
--- a comma parts two arguments where no bracket is open, but for those of the variable argument
-unfoldable pub parts : MacroDef → Reading → OutToken → Bool
-parts def r t =
-    is_mark (codes ",") t && r.depth == 1
-    && (not def.variadic || nat_lt (length r.done) (length (names_of def.params)))
+-- the tokens up to the parenthesis that closes the call, and that parenthesis: the first one before which each one that
+-- was opened is closed (p10); some tokens stand before
+abbrev pub inside : List Marked → List Marked → Option (List Marked × Marked)
+inside front [] = None
+inside front (t ∷ ts) =
+    if is_mark (codes ")") t.token && balanced front then Some ([], t)
+    else option_map (λ p. (t ∷ p.0, p.1)) (inside (front ++ t ∷ []) ts)
 
-abbrev pub opened : Marked → Reading → Reading
-opened t r = if r.depth == 0 then record r { depth = 1 } else record (taken t r) { depth = r.depth + 1 }
+-- a comma divides arguments, but for those of the variable argument (p12); so many stand before
+unfoldable pub divides : MacroDef → ℕ → Bool
+divides def n = not def.variadic || nat_lt n (length (names_of def.params))
 
-abbrev pub closed : Marked → Reading → ℕ → Turn
-closed t r at =
-    if r.depth == 1 then Ends (Closed (r.done ++ r.current ∷ []) t.hides (at + 1))
-    else Goes (record (taken t r) { depth = r.depth - 1 })
+-- the arguments: they are parted by commas before which each parenthesis that was opened is closed (p11); of the first,
+-- some tokens stand before
+abbrev pub arguments : MacroDef → ℕ → List Marked → List Marked → List (List Marked)
+arguments def n front [] = front ∷ []
+arguments def n front (t ∷ ts) =
+    if is_mark (codes ",") t.token && balanced front && divides def n then front ∷ arguments def (n + 1) [] ts
+    else arguments def n (front ++ t ∷ []) ts
 
--- what is known after one more token, or the whole call
-unfoldable pub turn : MacroDef → ℕ → Reading → Marked → Turn
-turn def at r t =
-    if is_mark (codes "(") t.token then Goes (opened t r)
-    else (if r.depth == 0 then Ends Absent
-    else (if is_mark (codes ")") t.token then closed t r at
-    else (if parts def r t.token then Goes (parted r) else Goes (taken t r))))
+abbrev pub closed : MacroDef → Option (List Marked × Marked) → Called
+closed def None = Unclosed
+closed def (Some p) = Closed (arguments def 0 [] p.0) p.1.hides (length p.0 + 2)
 
--- so many brackets are open at most
-abbrev pub IsWithin : Turn → ℕ → Type 0
-IsWithin (Goes r) n = r.depth ≤ n
-IsWithin (Ends called) n = Unit {0}
-
-abbrev pub turned : (Reading → Called) → Turn → Called
-turned more (Goes r) = more r
-turned more (Ends called) = called
-
--- where the list ends
-abbrev pub at_end : Reading → Called
-at_end r = if r.depth == 0 then Absent else Unclosed
-
--- the tokens after the name, from a place on; brackets that are open are counted, the first among them
-abbrev pub reads : MacroDef → ℕ → Reading → List Marked → Called
-reads def at r [] = at_end r
-reads def at r (t ∷ ts) = turned (λ r'. reads def (at + 1) r' ts) (turn def at r t)
-
-abbrev pub nothing_read : Reading
-nothing_read = record { depth = 0; done = []; current = [] }
-
+-- what stands behind the name of a function-like macro
 abbrev pub called : MacroDef → List Marked → Called
-called def ts = reads def 0 nothing_read ts
+called def [] = Absent
+called def (t ∷ ts) = if is_mark (codes "(") t.token then closed def (inside [] ts) else Absent
 
 -- no argument at all, for a macro without parameters
 abbrev pub is_nothing : List (List Marked) → Bool

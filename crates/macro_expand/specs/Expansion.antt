@@ -11,7 +11,6 @@ use Rattle.macro_expand.specs.declared.types.Marked.{Marked}
 use Rattle.macro_table.specs.declared.definition.MacroDef.{MacroDef}
 use Rattle.macro_expand.specs.declared.types.Progress.{Progress}
 use Rattle.macro_expand.specs.declared.types.Outcome.{Outcome}
-use Rattle.macro_expand.specs.declared.building.Building.{Building}
 use Rattle.macro_expand.specs.declared.types.Expanded.{Expanded}
 use Rattle.macro_expand.specs.declared.arguments.Called.{Called}
 use Rattle.macro_expand.specs.declared.arguments.Called.TheVariants.{Absent, Unclosed, Closed}
@@ -19,7 +18,7 @@ use Rattle.macro_expand.specs.HideSets.{hides, common}
 use Rattle.macro_expand.specs.Tokens.{is_ident, plain, first_spaced, passed_on}
 use Rattle.macro_expand.specs.Arguments.{called, fitted, lacks_variable}
 use Rattle.macro_expand.specs.Spelling.{escaped, quoted}
-use Rattle.macro_expand.specs.Substitution.{Expander, begun, substituted, all_marked}
+use Rattle.macro_expand.specs.Substitution.{Expander, Output, elements, substituted, settled, all_marked}
 use Rattle.macro_expand.specs.Progress.{faulty, counted, refused, asking}
 
 -- the definitions of names
@@ -119,8 +118,9 @@ unfoldable pub found : Definitions → List (TokId × ℕ) → Progress → Mark
 found table lines p t ts = if p.stopped then Stays p else found_by lines p t ts (meaning table t)
 
 -- the replacement list with its arguments
-abbrev pub built : Expander → Progress → Marked → MacroDef → List (List Marked) → Building
-built again p t def args = substituted again def args t.token.site 0 (begun p t.token.space_before) def.body
+abbrev pub built : Expander → Progress → Marked → MacroDef → List (List Marked) → Output
+built again p t def args =
+    substituted again t.token.site (record { progress = p; items = [] }) (elements def args def.body)
 
 -- what replaced a name, with the rest of the list behind it
 abbrev pub spliced : Marked → List (List ℕ) → List Marked → Bool → List Marked → List Marked
@@ -131,8 +131,9 @@ abbrev pub with_front : List Marked → Outcome → Outcome
 with_front front o = record o { tokens = front ++ o.tokens }
 
 -- the replaced list is expanded anew, with the rest
-abbrev pub again_with : Expander → Marked → List (List ℕ) → List Marked → Building → Outcome
-again_with again t names ts b = again b.progress (spliced t names b.tokens b.space ts)
+abbrev pub again_with : Expander → Marked → List (List ℕ) → List Marked → Output → Outcome
+again_with again t names ts o =
+    let s = settled t.token.space_before o.items in again o.progress (spliced t names s.0 s.1 ts)
 
 abbrev pub goes_on : Expander → (Progress → Outcome) → Marked → List Marked → Found → Outcome
 goes_on again more t ts (Stays p) = with_front (t ∷ []) (more p)

@@ -6,9 +6,11 @@ pub mod Numbers
 pub mod Tokens
 pub mod Progress
 pub mod Arguments
+pub mod Reading
 pub mod Spelling
 pub mod Pasting
 pub mod Substitution
+pub mod Building
 pub mod Expansion
 pub mod Steps
 pub mod Machine

@@ -23,10 +23,11 @@ use Rattle.macro_expand.specs.Arguments.{arg_of}
 use Rattle.macro_expand.specs.Codes.{Names}
 use Rattle.macro_expand.specs.Numbers.{real, reals, real_args, real_building}
 use Rattle.macro_expand.specs.declared.operands.Operand.{Operand}
-use Rattle.macro_expand.specs.Substitution.{Expander, puts_operand, puts, puts_outcome, substituted}
-use Rattle.macro_expand.specs.Expansion as spec
-use Rattle.macro_expand.specs.Expansion.{again_with, with_front}
-use Rattle.macro_expand.specs.Steps.{after, real_step, IsNearer}
+use Rattle.macro_expand.specs.Substitution.{Expander}
+use Rattle.macro_expand.specs.Building.{puts_operand, puts, puts_outcome, substituted}
+use Rattle.macro_expand.specs.Expansion.{with_front}
+use Rattle.macro_expand.specs.Steps as steps
+use Rattle.macro_expand.specs.Steps.{again_with, after, real_step, IsNearer}
 
 -- an operand that isn't joined to the one before it
 abbrev pub operand_part : Expander → Building → Operand → Bool → Part
@@ -65,7 +66,7 @@ advanced f again c a = building_of f again c.def.now (real_args f c.args) c.toke
 
 -- the whole replacement list
 abbrev pub built : (Names → Names) → Expander → Progress → Call → Building
-built f again p c = spec.built again p (real f c.token) c.def.now (real_args f c.args)
+built f again p c = steps.built again p (real f c.token) c.def.now (real_args f c.args)
 
 -- what a replacement list makes that waits for an argument
 abbrev pub paused : (Names → Names) → Expander → Call → Building → Bool → List Marked → ℕ → List OutToken → Building
@@ -134,7 +135,7 @@ advance_waiting (Paused b space arg skip behind) = length behind.now + 1
 abbrev pub taken_outcome : (Names → Names) → Expander → Taken → Outcome
 taken_outcome f again (Settled s) = after again (real_step f s)
 taken_outcome f again (Called p t def args names ts) =
-    again_with again (real f t) (f names) (reals f ts) (spec.built again p (real f t) def.now (real_args f args))
+    again_with again (real f t) (f names) (reals f ts) (steps.built again p (real f t) def.now (real_args f args))
 
 abbrev pub IsTaken : Taken → ℕ → List Marked → Type 0
 IsTaken (Settled s) left ts = IsNearer s left ts

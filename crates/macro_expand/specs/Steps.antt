@@ -16,7 +16,8 @@ use Rattle.macro_expand.specs.declared.finding.Found.{Found as FoundMacro}
 use Rattle.macro_expand.specs.declared.finding.Found.TheVariants as macro_read
 use Rattle.macro_expand.specs.Substitution.{Expander}
 use Rattle.macro_expand.specs.Expansion.{Definitions, Sense, Ordinary, Line, File, Macro, Found, Stays, Put, Replaced}
-use Rattle.macro_expand.specs.Expansion.{built, spliced, with_front, expansion}
+use Rattle.macro_expand.specs.Expansion.{spliced, with_front, expansion}
+use Rattle.macro_expand.specs.Building.{begun, substituted}
 
 abbrev pub meant : Meaning → Sense
 meant read.Ordinary = Ordinary
@@ -27,6 +28,14 @@ meant (read.Macro def) = Macro def.now
 abbrev pub found_of : (Names → Names) → MacroDef → FoundMacro → Found
 found_of f def (macro_read.Stays p) = Stays p
 found_of f def (macro_read.Replaced p args names width) = Replaced p def (real_args f args) (f names) width
+
+-- the replacement list with its arguments
+abbrev pub built : Expander → Progress → Marked → MacroDef → List (List Marked) → Building
+built again p t def args = substituted again def args t.token.site 0 (begun p t.token.space_before) def.body
+
+-- the replaced list is expanded anew, with the rest
+abbrev pub again_with : Expander → Marked → List (List ℕ) → List Marked → Building → Outcome
+again_with again t names ts b = again b.progress (spliced t names b.tokens b.space ts)
 
 abbrev pub kept_step : Progress → Marked → List Marked → Step
 kept_step p t ts = record { progress = p; kept = Some t; rest = ts }

@@ -52,11 +52,11 @@ abbrev pub passed_on : Bool → List Marked → List Marked
 passed_on space [] = []
 passed_on space (t ∷ ts) = spaced (t.token.space_before || space) t ∷ ts
 
--- the last token of a list with its front
-abbrev pub with_first : Marked → Option (List Marked × Marked) → Option (List Marked × Marked)
+-- the last element of a list with its front
+abbrev pub with_first : {A : Type 0} → A → Option (List A × A) → Option (List A × A)
 with_first x None = Some ([], x)
 with_first x (Some p) = Some (x ∷ p.0, p.1)
 
-abbrev pub last_of : List Marked → Option (List Marked × Marked)
+abbrev pub last_of : {A : Type 0} → List A → Option (List A × A)
 last_of [] = None
 last_of (x ∷ xs) = with_first x (last_of xs)

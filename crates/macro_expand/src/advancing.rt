@@ -4,7 +4,7 @@ ghost use Rattle.macro_expand.specs.Codes.{Names};
 ghost use Rattle.macro_expand.specs.Stands.{Stands, Grows};
 ghost use Rattle.macro_expand.specs.Numbers.{real_args, real_building, real_operand, real_part};
 ghost use Rattle.macro_expand.specs.Machine as spec;
-ghost use Rattle.macro_expand.specs.Substitution as subst;
+ghost use Rattle.macro_expand.specs.Building as build;
 ghost use Rattle.macro_expand.specs.Substitution.{Expander};
 
 use crate::arguments::arg_of;
@@ -76,7 +76,7 @@ fn pastes(
     ensures grows { OnOk result (Grows sets.old sets.new) }
     ensures value { IfOk result (λ p. (f : Names → Names) → Stands f sets.new
         → real_part f p
-        ≡ subst.pastes def.now (real_args f args.now) site.now (real_building f building) token.now behind.now) }
+        ≡ build.pastes def.now (real_args f args.now) site.now (real_building f building) token.now behind.now) }
     ensures same { IfOk result (λ p. p.built.progress.left ≡ building.progress.left) }
 {
     let Some((right, more)) = behind.split_first() else {
@@ -93,7 +93,7 @@ fn pastes(
 }
 
 // What stands at the front of a replacement list.
-#[tactic(auto, unfolding(crate::specs::Substitution::part))]
+#[tactic(auto, unfolding(crate::specs::Building::part))]
 fn next_part(
     alloc: Global,
     sets: &mut Sets,
@@ -107,7 +107,7 @@ fn next_part(
     ensures grows { OnOk result (Grows sets.old sets.new) }
     ensures value { IfOk result (λ n. (f : Names → Names) → Stands f sets.new → (again : Expander)
         → spec.part_of f again n
-        ≡ subst.part again def.now (real_args f args.now) site.now (real_building f building) token.now behind.now) }
+        ≡ build.part again def.now (real_args f args.now) site.now (real_building f building) token.now behind.now) }
     ensures same { IfOk result (λ n. spec.next_left n ≡ building.progress.left) }
 {
     if is_paste(token) {
@@ -134,7 +134,7 @@ pub(crate) fn read_list<'a>(
     ensures grows { OnOk result (Grows sets.old sets.new) }
     ensures value { IfOk result (λ a. (f : Names → Names) → Stands f sets.new → (again : Expander)
         → spec.building_of f again def.now (real_args f args.now) site.now a
-        ≡ subst.substituted again def.now (real_args f args.now) site.now read (real_building f begun) list.now) }
+        ≡ build.substituted again def.now (real_args f args.now) site.now read (real_building f begun) list.now) }
     ensures same { IfOk result (λ a. spec.advance_left a ≡ begun.progress.left) }
     ensures shorter { IfOk result (λ a. spec.IsShorter a (length list.now)) }
 {

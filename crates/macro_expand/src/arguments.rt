@@ -2,6 +2,7 @@
 ghost use Rattle.std.specs.Prelude.{◌≡◌, [], ◌++◌, ◌∷◌, ◌≤◌, ◌<◌};
 ghost use Rattle.std.specs.Prelude.{◌^◌, ◌+◌, length, drop, IfOk, IsTrue, ◌↔◌, option_copied};
 ghost use Rattle.macro_expand.specs.Arguments as spec;
+ghost use Rattle.macro_expand.specs.Reading as turns;
 
 use crate::hide::HideSet;
 use crate::tokens::{is_ident, is_mark};
@@ -156,7 +157,7 @@ pub(crate) fn name_count(def: &MacroDef) -> usize
 }
 
 fn taken(reading: Reading, token: &Marked) -> Result<Reading, AllocError>
-    ensures { IfOk result (λ r. r ≡ spec.taken token.now reading) }
+    ensures { IfOk result (λ r. r ≡ turns.taken token.now reading) }
 {
     let Reading {
         depth,
@@ -173,7 +174,7 @@ fn taken(reading: Reading, token: &Marked) -> Result<Reading, AllocError>
 }
 
 fn parted(alloc: Global, reading: Reading) -> Result<Reading, AllocError>
-    ensures { IfOk result (λ r. r ≡ spec.parted reading) }
+    ensures { IfOk result (λ r. r ≡ turns.parted reading) }
 {
     let Reading {
         depth,
@@ -188,9 +189,9 @@ fn parted(alloc: Global, reading: Reading) -> Result<Reading, AllocError>
     })
 }
 
-#[tactic(auto, unfolding(crate::specs::Arguments::parts))]
+#[tactic(auto, unfolding(crate::specs::Reading::parts))]
 fn parts(def: &MacroDef, reading: &Reading, token: &OutToken) -> bool
-    ensures { result ≡ spec.parts def.now reading.now token.now }
+    ensures { result ≡ turns.parts def.now reading.now token.now }
 {
     if !is_mark(",", token) {
         return false;
@@ -203,7 +204,7 @@ fn parts(def: &MacroDef, reading: &Reading, token: &OutToken) -> bool
 
 fn opened(reading: Reading, token: &Marked) -> Result<Reading, AllocError>
     requires { reading.depth < 2 ^ 63 }
-    ensures value { IfOk result (λ r. r ≡ spec.opened token.now reading) }
+    ensures value { IfOk result (λ r. r ≡ turns.opened token.now reading) }
     ensures deep { IfOk result (λ r. r.depth ≤ reading.depth + 1) }
 {
     if reading.depth == 0 {
@@ -234,8 +235,8 @@ fn opened(reading: Reading, token: &Marked) -> Result<Reading, AllocError>
 fn closed(reading: Reading, token: &Marked, at: usize) -> Result<Turn, AllocError>
     requires depth { 0 < reading.depth }
     requires place { at < 2 ^ 63 }
-    ensures value { IfOk result (λ t. t ≡ spec.closed token.now reading at) }
-    ensures within { IfOk result (λ t. spec.IsWithin t reading.depth) }
+    ensures value { IfOk result (λ t. t ≡ turns.closed token.now reading at) }
+    ensures within { IfOk result (λ t. turns.IsWithin t reading.depth) }
 {
     if reading.depth == 1 {
         let Reading {
@@ -259,7 +260,7 @@ fn closed(reading: Reading, token: &Marked, at: usize) -> Result<Turn, AllocErro
     }))
 }
 
-#[tactic(auto, unfolding(crate::specs::Arguments::turn))]
+#[tactic(auto, unfolding(crate::specs::Reading::turn))]
 fn take_turn(
     alloc: Global,
     def: &MacroDef,
@@ -269,8 +270,8 @@ fn take_turn(
 ) -> Result<Turn, AllocError>
     requires depth { reading.depth ≤ at }
     requires place { at < 2 ^ 63 }
-    ensures value { IfOk result (λ t. t ≡ spec.turn def.now at reading token.now) }
-    ensures within { IfOk result (λ t. spec.IsWithin t (at + 1)) }
+    ensures value { IfOk result (λ t. t ≡ turns.turn def.now at reading token.now) }
+    ensures within { IfOk result (λ t. turns.IsWithin t (at + 1)) }
 {
     if is_mark("(", &token.token) {
         let opened = opened(reading, token)?;
@@ -291,7 +292,7 @@ fn take_turn(
 }
 
 fn at_end(reading: &Reading) -> Called
-    ensures { result ≡ spec.at_end reading.now }
+    ensures { result ≡ turns.at_end reading.now }
 {
     if reading.depth == 0 {
         Called::Absent

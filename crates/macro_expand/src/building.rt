@@ -3,7 +3,7 @@ ghost use Rattle.std.specs.Prelude.{◌≡◌, ◌++◌, ◌&&◌, IfOk, OnOk};
 ghost use Rattle.macro_expand.specs.Codes.{Names};
 ghost use Rattle.macro_expand.specs.Stands.{Stands, Grows};
 ghost use Rattle.macro_expand.specs.Numbers.{real, reals, real_operand, real_building};
-ghost use Rattle.macro_expand.specs.Substitution as spec;
+ghost use Rattle.macro_expand.specs.Building as spec;
 ghost use Rattle.macro_expand.specs.Tokens.{last_of};
 
 use crate::arguments::Rest;
@@ -55,7 +55,7 @@ impl Building {
             progress,
             tokens: MarkedList::new(alloc),
             space,
-            empty: false,
+            empty: true,
             first: true,
         }
     }
@@ -205,7 +205,7 @@ impl Building {
     }
 
     // The right operand of `##`.
-    #[tactic(auto, unfolding(crate::specs::Substitution::joins))]
+    #[tactic(auto, unfolding(crate::specs::Building::joins))]
     pub(crate) fn joins(
         self,
         alloc: Global,

@@ -1,7 +1,7 @@
 // What stands at the front of a replacement list, and what `#` spells (ISO C11 6.10.3.2).
 ghost use Rattle.std.specs.Prelude.{◌≡◌, ◌++◌, ◌≤◌, IfOk, OnOk, option_copied, string_bytes, true};
 ghost use Rattle.macro_expand.specs.Spelling as spelling;
-ghost use Rattle.macro_expand.specs.Substitution as spec;
+ghost use Rattle.macro_expand.specs.Building as spec;
 
 use crate::arguments::arg_of;
 use crate::lists::TokIds;
@@ -10,7 +10,7 @@ use crate::types::{Marked, MarkedList};
 use macro_table::MacroDef;
 use shared_text::Name;
 use std::alloc::{AllocError, Global};
-use tok_data::{OutToken, PpKind, Spelt, TokId};
+use tok_data::{OutToken, PpKind, Spelt};
 
 // An operand: its tokens as they are written, the source tokens that it spells, the white space before it, and how many
 // tokens of the list it has besides its first.
@@ -191,7 +191,7 @@ fn first_arg<'a>(
 }
 
 // What stands at the front of a replacement list.
-#[tactic(auto, unfolding(crate::specs::Substitution::operand))]
+#[tactic(auto, unfolding(crate::specs::Building::operand))]
 pub(crate) fn read_operand(
     alloc: Global,
     def: &MacroDef,

@@ -3,7 +3,8 @@ use Rattle.std.proofs.Common.{◌≡◌, ◌≤◌, length}
 use Rattle.macro_expand.specs.Codes.{Names}
 use Rattle.macro_expand.specs.Stands.{Stands, Grows}
 use Rattle.macro_expand.specs.Numbers.{real_args, real_building}
-use Rattle.macro_expand.specs.Substitution.{Expander, substituted}
+use Rattle.macro_expand.specs.Building.{substituted}
+use Rattle.macro_expand.specs.Substitution.{Expander}
 use Rattle.macro_expand.proofs.advancing.read_list.Given as goal
 
 abbrev pub invariant-parts : goal.invariant-parts

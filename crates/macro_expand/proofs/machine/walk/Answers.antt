@@ -64,8 +64,8 @@ returns-in-Called-clause-value c = λ f h.
     let again : Expander = spec.expansion table c.args.lines.now in
     whole_turns table c.args.lines.now c.tokens.progress (reals f c.tokens.done.items) (reals f c.from_vec-done.result)
     (real f c.in-Some.token) (reals f c.from_items.result) (reals f c.tokens.rest.items)
-    (spec.again_with again (real f c.in-Called.token) (f c.in-Called.names) (reals f c.in-Called.behind)
-    (spec.built again c.in-Called.after (real f c.in-Called.token) c.in-Called.def.now (real_args f c.in-Called.args)))
+    (steps.again_with again (real f c.in-Called.token) (f c.in-Called.names) (reals f c.in-Called.behind)
+    (steps.built again c.in-Called.after (real f c.in-Called.token) c.in-Called.def.now (real_args f c.in-Called.args)))
     (steps.whole f table c.args.lines.now c.args.walked)
     (ap (reals f) (c.in-Some.ensures.items
     ∙ ap (λ (l : List Marked). c.in-Some.token ∷ l) (sym c.from_items.ensures)))
