@@ -10,20 +10,21 @@ use Rattle.c11ls.specs.Turn.{Turned, Stands}
 use Rattle.c11ls.specs.declared.status.Status.{Status}
 use Rattle.c11ls.specs.declared.status.Status.TheVariants.{Done, Unclean, Usage, BadFrame, ReadFault, WriteFault, StoreFault, NoMemory, LongInput}
 use Rattle.c11ls.proofs.EndingUp.{ends_done, ends_unclean, ends_unwritten, ends_lacking, ends_giving_up}
+use Rattle.c11ls.proofs.Framing.{ContentsStay}
 use Rattle.c11ls.proofs.GoingOn.{Gave}
 
 -- a content ended the call
-pub turn_ends : (options : Options) (ended : Status) (w0 w w' : Option Traffic) (a0 a a' : Option (List Entry)) (s s' : State) (content : List ℕ) (standing standing' : Standing) (size : ℕ) →
+pub turn_ends : ContentsStay → (options : Options) (ended : Status) (w0 w w' : Option Traffic) (a0 a a' : Option (List Entry)) (s s' : State) (content : List ℕ) (standing standing' : Standing) (size : ℕ) →
     Gave content standing standing' → Turned (Some ended) s content s' w w' a a' → Going options w0 w a0 a s standing size → Ended options ended w0 w' a0 a'
-turn_ends options Done w0 w w' a0 a a' s s' content standing standing' size gave turned going = ends_done options w0 w w' a0 a a' s s' content standing standing' size gave turned going
-turn_ends options Unclean w0 w w' a0 a a' s s' content standing standing' size gave turned going = ends_unclean options w0 w w' a0 a a' s s' content standing standing' size gave turned going
-turn_ends options WriteFault w0 w w' a0 a a' s s' content standing standing' size gave turned going = ends_unwritten options w0 w w' a0 a a' s content standing standing' size gave turned going
-turn_ends options StoreFault w0 w w' a0 a a' s s' content standing standing' size gave turned going = ends_lacking options w0 w w' a0 a a' s content standing standing' size gave turned going
-turn_ends options NoMemory w0 w w' a0 a a' s s' content standing standing' size gave turned going = ends_giving_up options w0 w w' a0 a a' s content standing standing' size gave turned going
-turn_ends options Usage w0 w w' a0 a a' s s' content standing standing' size gave turned going = absurd turned
-turn_ends options (BadFrame place kind) w0 w w' a0 a a' s s' content standing standing' size gave turned going = absurd turned
-turn_ends options ReadFault w0 w w' a0 a a' s s' content standing standing' size gave turned going = absurd turned
-turn_ends options LongInput w0 w w' a0 a a' s s' content standing standing' size gave turned going = absurd turned
+turn_ends stays options Done w0 w w' a0 a a' s s' content standing standing' size gave turned going = ends_done stays options w0 w w' a0 a a' s s' content standing standing' size gave turned going
+turn_ends stays options Unclean w0 w w' a0 a a' s s' content standing standing' size gave turned going = ends_unclean stays options w0 w w' a0 a a' s s' content standing standing' size gave turned going
+turn_ends stays options WriteFault w0 w w' a0 a a' s s' content standing standing' size gave turned going = ends_unwritten stays options w0 w w' a0 a a' s content standing standing' size gave turned going
+turn_ends stays options StoreFault w0 w w' a0 a a' s s' content standing standing' size gave turned going = ends_lacking options w0 w w' a0 a a' s content standing standing' size gave turned going
+turn_ends stays options NoMemory w0 w w' a0 a a' s s' content standing standing' size gave turned going = ends_giving_up options w0 w w' a0 a a' s content standing standing' size gave turned going
+turn_ends stays options Usage w0 w w' a0 a a' s s' content standing standing' size gave turned going = absurd turned
+turn_ends stays options (BadFrame place kind) w0 w w' a0 a a' s s' content standing standing' size gave turned going = absurd turned
+turn_ends stays options ReadFault w0 w w' a0 a a' s s' content standing standing' size gave turned going = absurd turned
+turn_ends stays options LongInput w0 w w' a0 a a' s s' content standing standing' size gave turned going = absurd turned
 
 pub turned_at : (ended : Option Status) (s s' : State) (given content : List ℕ) (w w' : Option Traffic) (a a' : Option (List Entry)) →
     given ≡ content → Turned ended s given s' w w' a a' → Turned ended s content s' w w' a a'

@@ -9,7 +9,6 @@ use Rattle.lsp_framing.specs.Frames.{Framed, Rest, Empty, Open, Bad, frames}
 use Rattle.lsp_framing.specs.Standing.{Standing, Follows, IsEmptyOrOpen}
 use Rattle.lsp_framing.specs.declared.FrameKind.{FrameKind}
 use Rattle.lsp_framing.specs.declared.FrameKind.TheVariants.{Cut}
-use Rattle.lsp_framing.proofs.Laws.{bad_stays}
 use Rattle.c11ls.specs.Going.{Going, Settled, Moves, Ended, Outcome, Plays, moved, through}
 use Rattle.c11ls.specs.Plain.{Played, Plain, Exited, Lacks, Through, Verdict, Done, Unclean, Faulty, play, played, plain, plain_of, verdict_of, go_on}
 use Rattle.c_session.specs.React.{Reaction, Replies, Wants, react}
@@ -19,6 +18,7 @@ use Rattle.c_session.specs.State.{State, fresh}
 use Rattle.c11ls.specs.Turn.{Wrote, WroteFront, WroteUnclean, GaveUp, Lacked}
 use Rattle.c11ls.specs.declared.status.Status.{Status}
 use Rattle.c11ls.specs.declared.status.Status.TheVariants as status
+use Rattle.c11ls.proofs.Framing.{ContentsStay, BadStays}
 use Rattle.c11ls.proofs.Reacting.{used_by, used_within, handled_reacts, failed_wants}
 use Rattle.c11ls.proofs.Moving.{moves_writing}
 use Rattle.c11ls.proofs.Playing.{IsComplete, play-append, play_stays, play_one_more, play_one_wants, played_to, after_reply, then_play}
@@ -40,11 +40,11 @@ plain_by options bytes answers p rest plays stands =
     ap (λ (q : Played). plain_of q (frames bytes).rest (length bytes)) plays ∙ ap (λ (r : Rest). plain_of p r (length bytes)) stands
 
 -- the frame in turn is faulty
-pub ends_bad : (options : Options) (w0 w : Option Traffic) (a0 a : Option (List Entry)) (s : State) (standing : Standing) (size place : ℕ) (kind : FrameKind) →
+pub ends_bad : BadStays → (options : Options) (w0 w : Option Traffic) (a0 a : Option (List Entry)) (s : State) (standing : Standing) (size place : ℕ) (kind : FrameKind) →
     ((fed : List ℕ) (given : ℕ) → Follows fed given standing → (length (frames fed).contents ≡ given) × ((frames fed).rest ≡ Bad place kind)) →
     Going options w0 w a0 a s standing size → Ended options (status.BadFrame place kind) w0 w a0 a
 unfolding played
-ends_bad options w0 w a0 a s standing size place kind stands going =
+ends_bad stays options w0 w a0 a s standing size place kind stands going =
     let at_end = stands going.taken (length going.handled) going.follows in
     let all = all_handled (frames going.taken).contents going.handled going.first at_end.0 in
     record {
@@ -55,7 +55,7 @@ ends_bad options w0 w a0 a s standing size place kind stands going =
       did = going.did;
       usual = tt;
       outcome = whatever_left w0 options (status.BadFrame place kind) going.taken going.out going.answers (λ left.
-          let same : frames (going.taken ++ left) ≡ frames going.taken = bad_stays going.taken left place kind at_end.1 in
+          let same : frames (going.taken ++ left) ≡ frames going.taken = stays going.taken left place kind at_end.1 in
           plain_by options (going.taken ++ left) going.answers (through going.out going.answers s) (Bad place kind)
           (ap (λ (f : Framed). play f.contents (fresh options) going.answers) same ∙ ap (λ (cs : List (List ℕ)). play cs (fresh options) going.answers) all ∙ going.played)
           (ap (λ (f : Framed). f.rest) same ∙ at_end.1));
@@ -119,27 +119,27 @@ exits_early cs handled s answers out used end first plays =
     ∙ ap (λ (p : Played). then_play p.stop p answers (play (drop (length handled) cs))) plays
 
 -- the contents of an input that goes on, where one more was given
-next_first : (taken left : List ℕ) (handled : List (List ℕ)) (content : List ℕ) →
+next_first : ContentsStay → (taken left : List ℕ) (handled : List (List ℕ)) (content : List ℕ) →
     take (length handled) (frames taken).contents ≡ handled → slice_get (frames taken).contents (length handled) ≡ Some content →
     take (length (handled ++ content ∷ [])) (frames (taken ++ left)).contents ≡ handled ++ content ∷ []
-next_first taken left handled content first next = first_stays taken left (handled ++ content ∷ []) (first_more (frames taken).contents handled content first next)
+next_first stays taken left handled content first next = first_stays stays taken left (handled ++ content ∷ []) (first_more (frames taken).contents handled content first next)
 
 -- an `exit` was met, and its reply was written
-pub exit_plays : (options : Options) (w0 w w' : Option Traffic) (a0 a a' : Option (List Entry)) (s s' : State) (content : List ℕ) (standing standing' : Standing) (size end : ℕ) →
+pub exit_plays : ContentsStay → (options : Options) (w0 w w' : Option Traffic) (a0 a a' : Option (List Entry)) (s s' : State) (content : List ℕ) (standing standing' : Standing) (size end : ℕ) →
     Gave content standing standing' → (wrote : Wrote s content s' (Some end) w w' a a') → (going : Going options w0 w a0 a s standing size) → (left : List ℕ) →
     played options (going.taken ++ left) (going.answers ++ wrote.handled.added) ≡ played_to (going.out ++ wrote.bytes) (length (going.answers ++ wrote.handled.added)) (Exited end)
 unfolding played
-exit_plays options w0 w w' a0 a a' s s' content standing standing' size end gave wrote going left =
+exit_plays stays options w0 w w' a0 a a' s s' content standing standing' size end gave wrote going left =
     let next = gave going.taken (length going.handled) going.follows in
     exits_early (frames (going.taken ++ left)).contents (going.handled ++ content ∷ []) (fresh options) (going.answers ++ wrote.handled.added)
     (going.out ++ wrote.bytes) (length (going.answers ++ wrote.handled.added)) end
-    (next_first going.taken left going.handled content going.first next.0)
+    (next_first stays going.taken left going.handled content going.first next.0)
     (play_one_more going.handled content (fresh options) s s' going.answers wrote.handled.added going.out wrote.bytes (Some end) going.played
     (handled_reacts s s' content wrote.bytes (Some end) wrote.handled.added wrote.handled.follows))
 
-pub ends_done : (options : Options) (w0 w w' : Option Traffic) (a0 a a' : Option (List Entry)) (s s' : State) (content : List ℕ) (standing standing' : Standing) (size : ℕ) →
+pub ends_done : ContentsStay → (options : Options) (w0 w w' : Option Traffic) (a0 a a' : Option (List Entry)) (s s' : State) (content : List ℕ) (standing standing' : Standing) (size : ℕ) →
     Gave content standing standing' → Wrote s content s' (Some 0) w w' a a' → Going options w0 w a0 a s standing size → Ended options status.Done w0 w' a0 a'
-ends_done options w0 w w' a0 a a' s s' content standing standing' size gave wrote going = record {
+ends_done stays options w0 w w' a0 a a' s s' content standing standing' size gave wrote going = record {
   taken = going.taken;
   out = going.out ++ wrote.bytes;
   moments = going.moments;
@@ -149,15 +149,15 @@ ends_done options w0 w w' a0 a a' s s' content standing standing' size gave wrot
   usual = tt;
   outcome = whatever_left w0 options status.Done going.taken (going.out ++ wrote.bytes) (going.answers ++ wrote.handled.added) (λ left.
       plain_by options (going.taken ++ left) (going.answers ++ wrote.handled.added) _ _
-      (exit_plays options w0 w w' a0 a a' s s' content standing standing' size 0 gave wrote going left) refl);
+      (exit_plays stays options w0 w w' a0 a a' s s' content standing standing' size 0 gave wrote going left) refl);
 }
 
 unclean_verdict : (end : ℕ) (rest : Rest) (size : ℕ) → (end == 0) ≡ false → verdict_of (Exited end) rest size ≡ Unclean
 unclean_verdict end rest size unclean = ap (λ (b : Bool). cond b Done Unclean) unclean
 
-pub ends_unclean : (options : Options) (w0 w w' : Option Traffic) (a0 a a' : Option (List Entry)) (s s' : State) (content : List ℕ) (standing standing' : Standing) (size : ℕ) →
+pub ends_unclean : ContentsStay → (options : Options) (w0 w w' : Option Traffic) (a0 a a' : Option (List Entry)) (s s' : State) (content : List ℕ) (standing standing' : Standing) (size : ℕ) →
     Gave content standing standing' → WroteUnclean s content s' w w' a a' → Going options w0 w a0 a s standing size → Ended options status.Unclean w0 w' a0 a'
-ends_unclean options w0 w w' a0 a a' s s' content standing standing' size gave ended going =
+ends_unclean stays options w0 w w' a0 a a' s s' content standing standing' size gave ended going =
     let wrote = ended.wrote in
     record {
       taken = going.taken;
@@ -169,7 +169,7 @@ ends_unclean options w0 w w' a0 a a' s s' content standing standing' size gave e
       usual = tt;
       outcome = whatever_left w0 options status.Unclean going.taken (going.out ++ wrote.bytes) (going.answers ++ wrote.handled.added) (λ left.
           plain_by options (going.taken ++ left) (going.answers ++ wrote.handled.added) _ _
-          (exit_plays options w0 w w' a0 a a' s s' content standing standing' size ended.end gave wrote going left) refl
+          (exit_plays stays options w0 w w' a0 a a' s s' content standing standing' size ended.end gave wrote going left) refl
           ∙ ap (λ (verdict : Verdict). record { out = going.out ++ wrote.bytes; used = length (going.answers ++ wrote.handled.added); verdict = verdict })
           (unclean_verdict ended.end (frames (going.taken ++ left)).rest (length (going.taken ++ left)) ended.unclean));
     }
@@ -245,10 +245,10 @@ begins_reply s bytes None out answers ds size =
     )
 
 -- the sink failed while a reply was written
-pub ends_unwritten : (options : Options) (w0 w w' : Option Traffic) (a0 a a' : Option (List Entry)) (s : State) (content : List ℕ) (standing standing' : Standing) (size : ℕ) →
+pub ends_unwritten : ContentsStay → (options : Options) (w0 w w' : Option Traffic) (a0 a a' : Option (List Entry)) (s : State) (content : List ℕ) (standing standing' : Standing) (size : ℕ) →
     Gave content standing standing' → WroteFront s content w w' a a' → Going options w0 w a0 a s standing size → Ended options status.WriteFault w0 w' a0 a'
 unfolding played
-ends_unwritten options w0 w w' a0 a a' s content standing standing' size gave wrote going =
+ends_unwritten stays options w0 w w' a0 a a' s content standing standing' size gave wrote going =
     let next = gave going.taken (length going.handled) going.follows in
     let answers = going.answers ++ wrote.handled.added in
     let longer = going.handled ++ content ∷ [] in
@@ -267,7 +267,7 @@ ends_unwritten options w0 w w' a0 a a' s content standing standing' size gave wr
           let behind_it = drop (length longer) contents in
           let plays : play contents (fresh options) answers ≡ then_play (after_reply wrote.state wrote.bytes wrote.end going.out (length answers)).stop
           (after_reply wrote.state wrote.bytes wrote.end going.out (length answers)) answers (play behind_it) =
-          ap (λ (all : List (List ℕ)). play all (fresh options) answers) (split_contents contents longer (next_first going.taken left going.handled content going.first next.0))
+          ap (λ (all : List (List ℕ)). play all (fresh options) answers) (split_contents contents longer (next_first stays going.taken left going.handled content going.first next.0))
           ∙ play-append longer behind_it (fresh options) answers
           ∙ ap (λ (p : Played). then_play p.stop p answers (play behind_it)) one in
           let is = begins_reply wrote.state wrote.bytes wrote.end going.out answers behind_it wrote.sent.size in

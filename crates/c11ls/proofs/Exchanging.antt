@@ -10,7 +10,7 @@ use Rattle.c_session.specs.Responses.{IsAnswered, IsExit}
 use Rattle.c_session.specs.State.{State, fresh}
 use Rattle.project_conf.specs.declared.options.Options.{Options}
 use Rattle.c11ls.specs.Calls.{Call, call_of, IfTold}
-use Rattle.c11ls.specs.Exchanges.{Exchange, IsFit, EndAtExit, StopsAt, AreAnswered, HasAnswered}
+use Rattle.c11ls.specs.Exchanges.{Exchange, ReplyAnswersContent, EndAtExit, StopsAt, AreAnswered, HasAnswered}
 use Rattle.c11ls.specs.Plain.{Stop, Exited, Lacks, Through, go_on, play, played, plain}
 use Rattle.c11ls.specs.Serve.{HasWritten}
 use Rattle.c11ls.specs.declared.status.Status.{Status}
@@ -36,25 +36,25 @@ stops_behind (Exited end) first exchanges rest at = record {
 stops_behind (Lacks call) first exchanges rest at = at
 stops_behind (Through s) first exchanges rest at = at
 
-one_more : (first : Exchange) (contents : List (List ℕ)) (stop : Stop) (out : List ℕ) → IsFit first →
+one_more : (first : Exchange) (contents : List (List ℕ)) (stop : Stop) (out : List ℕ) → ReplyAnswersContent first →
     AreAnswered contents stop out →
     AreAnswered (first.content ∷ contents) stop (first.reply ++ out)
 one_more first contents stop out fits others = record {
   exchanges = first ∷ others.exchanges;
   rest = others.rest;
   handled = ap (λ (cs : List (List ℕ)). first.content ∷ cs) others.handled;
-  each = All-cons IsFit first others.exchanges fits others.each;
+  each = All-cons ReplyAnswersContent first others.exchanges fits others.each;
   written = ap (λ (bytes : List ℕ). first.reply ++ bytes) others.written;
   stopped = stops_behind stop first others.exchanges others.rest others.stopped;
 }
 
-exited : (last : Exchange) (contents : List (List ℕ)) (end : ℕ) → IsFit last → EndAtExit (last ∷ []) →
+exited : (last : Exchange) (contents : List (List ℕ)) (end : ℕ) → ReplyAnswersContent last → EndAtExit (last ∷ []) →
     AreAnswered (last.content ∷ contents) (Exited end) last.reply
 exited last contents end fits at = record {
   exchanges = last ∷ [];
   rest = contents;
   handled = refl;
-  each = All-cons IsFit last [] fits (All-nil IsFit);
+  each = All-cons ReplyAnswersContent last [] fits (All-nil ReplyAnswersContent);
   written = sym (append-nil last.reply);
   stopped = at;
 }
@@ -64,7 +64,7 @@ none_handled contents stop at = record {
   exchanges = [];
   rest = contents;
   handled = refl;
-  each = All-nil IsFit;
+  each = All-nil ReplyAnswersContent;
   written = refl;
   stopped = at;
 }

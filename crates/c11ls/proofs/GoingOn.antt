@@ -8,7 +8,6 @@ use Rattle.io_edges.specs.Store.{Entry}
 use Rattle.io_edges.specs.Wire.{Traffic, after_read}
 use Rattle.lsp_framing.specs.Frames.{frames}
 use Rattle.lsp_framing.specs.Standing.{Standing, Follows, IsEmptyOrOpen}
-use Rattle.lsp_framing.proofs.Laws.{contents_stay}
 use Rattle.c11ls.specs.Going.{Going, Settled, Moves, Ended, Outcome, through}
 use Rattle.c_session.specs.Asking.{Asking, after_all}
 use Rattle.c_session.specs.Handled.{Answered}
@@ -20,10 +19,11 @@ use Rattle.c_session.specs.State.{State, fresh}
 use Rattle.c11ls.specs.Turn.{Wrote}
 use Rattle.c11ls.specs.declared.status.Status.{Status}
 use Rattle.c11ls.specs.declared.status.Status.TheVariants.{NoMemory}
+use Rattle.c11ls.proofs.Framing.{ContentsStay}
 use Rattle.c11ls.proofs.Moving.{moves_writing, moves_reading, moves_nothing, moment_at}
 use Rattle.c11ls.proofs.Playing.{play_one_more}
 use Rattle.c11ls.proofs.Reacting.{handled_reacts, reached_wants}
-use Rattle.c11ls.proofs.Wanting.{wanted_next}
+use Rattle.c11ls.proofs.Wanting.{wanted_next, wanted_stays}
 
 -- an outcome that holds whatever is left
 pub whatever_left : (w0 : Option Traffic) (options : Options) (ended : Status) (taken out : List ℕ) (answers : List Entry) →
@@ -58,10 +58,10 @@ first_within contents handled first =
     omega (arith, same, length-take (length handled) contents)
 
 -- the first contents of an input stay, however it goes on
-pub first_stays : (a b : List ℕ) (handled : List (List ℕ)) → take (length handled) (frames a).contents ≡ handled → take (length handled) (frames (a ++ b)).contents ≡ handled
-first_stays a b handled first =
+pub first_stays : ContentsStay → (a b : List ℕ) (handled : List (List ℕ)) → take (length handled) (frames a).contents ≡ handled → take (length handled) (frames (a ++ b)).contents ≡ handled
+first_stays stays a b handled first =
     sym (take-take (length handled) (length (frames a).contents) (frames (a ++ b)).contents (first_within _ handled first))
-    ∙ ap (take (length handled)) (contents_stay a b) ∙ first
+    ∙ ap (take (length handled)) (stays a b) ∙ first
 
 -- where all contents were handled, they are the contents
 pub all_handled : (contents handled : List (List ℕ)) → take (length handled) contents ≡ handled → length contents ≡ length handled → contents ≡ handled
@@ -134,11 +134,11 @@ settled_played options w0 w a0 a s standing size settled =
     ap (λ (cs : List (List ℕ)). play cs (fresh options) going.answers) (all_handled (frames going.taken).contents going.handled going.first settled.all) ∙ going.played
 
 -- the moment before a read that took bytes is prompt
-settled_moves : (options : Options) (w0 w w' : Option Traffic) (a0 a : Option (List Entry)) (s : State) (standing : Standing) (size : ℕ) (b : ℕ) (bs : List ℕ) →
+settled_moves : ContentsStay → (options : Options) (w0 w w' : Option Traffic) (a0 a : Option (List Entry)) (s : State) (standing : Standing) (size : ℕ) (b : ℕ) (bs : List ℕ) →
     w' ≡ option_map (after_read (b ∷ bs)) w → IfSome w (λ t. take (length (b ∷ bs)) t.left ≡ b ∷ bs) →
     (settled : Settled options w0 w a0 a s standing size) →
     Moves options (settled.going.taken ++ b ∷ bs) settled.going.out (settled.going.moments ++ moment_at settled.going.taken settled.going.out ∷ []) settled.going.answers w0 w' a0 a
-settled_moves options w0 w w' a0 a s standing size b bs read next settled =
+settled_moves stays options w0 w w' a0 a s standing size b bs read next settled =
     let going = settled.going in
     let same : take (length going.taken) (going.taken ++ b ∷ bs) ≡ going.taken = take-append_seam going.taken (b ∷ bs) in
     let whole : played options (take (length going.taken) (going.taken ++ b ∷ bs)) going.answers ≡ through going.out going.answers s =
@@ -152,14 +152,15 @@ settled_moves options w0 w w' a0 a s standing size b bs read next settled =
       sound = subst (λ (t : List ℕ). IsEmptyOrOpen (frames t).rest) (sym same) settled.sound;
     } in
     moves_reading options going.taken going.out b bs going.moments going.answers w0 w w' a0 a going.did read next prompt
+    (wanted_stays stays options going.taken (b ∷ bs) going.answers going.did.wanted)
 
 -- a read took bytes, which were fed to the reader of frames
-pub settled_reads : (options : Options) (w0 w w' : Option Traffic) (a0 a : Option (List Entry)) (s : State) (standing standing' : Standing) (size : ℕ) (bytes : List ℕ) →
+pub settled_reads : ContentsStay → (options : Options) (w0 w w' : Option Traffic) (a0 a : Option (List Entry)) (s : State) (standing standing' : Standing) (size : ℕ) (bytes : List ℕ) →
     0 < length bytes → w' ≡ option_map (after_read bytes) w → IfSome w (λ t. take (length bytes) t.left ≡ bytes) →
     ((fed : List ℕ) (given : ℕ) → Follows fed given standing → Follows (fed ++ bytes) given standing') →
     Settled options w0 w a0 a s standing size → Going options w0 w' a0 a s standing' (size + length bytes)
-settled_reads options w0 w w' a0 a s standing standing' size [] some read next fed settled = absurd (omega arith)
-settled_reads options w0 w w' a0 a s standing standing' size (b ∷ bs) some read next fed settled =
+settled_reads stays options w0 w w' a0 a s standing standing' size [] some read next fed settled = absurd (omega arith)
+settled_reads stays options w0 w w' a0 a s standing standing' size (b ∷ bs) some read next fed settled =
     let going = settled.going in
     record {
       taken = going.taken ++ b ∷ bs;
@@ -167,31 +168,31 @@ settled_reads options w0 w w' a0 a s standing standing' size (b ∷ bs) some rea
       out = going.out;
       moments = going.moments ++ moment_at going.taken going.out ∷ [];
       answers = going.answers;
-      did = settled_moves options w0 w w' a0 a s standing size b bs read next settled;
+      did = settled_moves stays options w0 w w' a0 a s standing size b bs read next settled;
       follows = fed going.taken (length going.handled) going.follows;
-      first = first_stays going.taken (b ∷ bs) going.handled going.first;
+      first = first_stays stays going.taken (b ∷ bs) going.handled going.first;
       played = going.played;
       sized = length-append going.taken (b ∷ bs) ∙ ap (λ n. n + length (b ∷ bs)) going.sized;
     }
 
 -- there was no memory for the bytes that a read took
-pub settled_unfed : (options : Options) (w0 w w' : Option Traffic) (a0 a : Option (List Entry)) (s : State) (standing : Standing) (size : ℕ) (bytes : List ℕ) →
+pub settled_unfed : ContentsStay → (options : Options) (w0 w w' : Option Traffic) (a0 a : Option (List Entry)) (s : State) (standing : Standing) (size : ℕ) (bytes : List ℕ) →
     0 < length bytes → w' ≡ option_map (after_read bytes) w → IfSome w (λ t. take (length bytes) t.left ≡ bytes) →
     Settled options w0 w a0 a s standing size → Ended options NoMemory w0 w' a0 a
-settled_unfed options w0 w w' a0 a s standing size [] some read next settled = absurd (omega arith)
-settled_unfed options w0 w w' a0 a s standing size (b ∷ bs) some read next settled =
+settled_unfed stays options w0 w w' a0 a s standing size [] some read next settled = absurd (omega arith)
+settled_unfed stays options w0 w w' a0 a s standing size (b ∷ bs) some read next settled =
     let going = settled.going in
     record {
       taken = going.taken ++ b ∷ bs;
       out = going.out;
       moments = going.moments ++ moment_at going.taken going.out ∷ [];
       answers = going.answers;
-      did = settled_moves options w0 w w' a0 a s standing size b bs read next settled;
+      did = settled_moves stays options w0 w w' a0 a s standing size b bs read next settled;
       usual = tt;
       outcome = whatever_left w0 options NoMemory (going.taken ++ b ∷ bs) going.out going.answers (λ left. (
         length going.handled,
         sym (ap (λ (p : Played). p.out)
-            (ap (λ (cs : List (List ℕ)). play cs (fresh options) going.answers) (first_stays going.taken (b ∷ bs) going.handled going.first) ∙ going.played)),
+            (ap (λ (cs : List (List ℕ)). play cs (fresh options) going.answers) (first_stays stays going.taken (b ∷ bs) going.handled going.first) ∙ going.played)),
       ));
     }
 

@@ -1,3 +1,4 @@
+pub mod Framing
 pub mod Reacting
 pub mod Playing
 pub mod Wanting

@@ -12,7 +12,7 @@ use Rattle.c11ls.specs.Plain.{Played, Stop, Exited, Lacks, Through, played, plai
 use Rattle.c11ls.specs.Serve.{IsPrompt, EachPrompt, EachWanted, IsThrough}
 use Rattle.project_conf.specs.declared.options.Options.{Options}
 use Rattle.c11ls.proofs.Playing.{IsComplete, play_stays}
-use Rattle.c11ls.proofs.Wanting.{none_wanted, wanted_stays}
+use Rattle.c11ls.proofs.Wanting.{none_wanted}
 
 pub answered_both : (a0 a a' : Option (List Entry)) (answers added : List Entry) → Answered answers a0 a → Answered added a a' → Answered (answers ++ added) a0 a'
 answered_both None a a' answers added first then = then ∙ ap (option_map (λ told. told ++ added)) first
@@ -121,14 +121,14 @@ front_more (Some t) w taken out bytes moments was front next =
 -- bytes were taken, behind a moment that was prompt
 pub moves_reading : (options : Options) (taken out : List ℕ) (b : ℕ) (bs : List ℕ) (moments : List Mark) (answers : List Entry) (w0 w w' : Option Traffic) (a0 a : Option (List Entry)) →
     Moves options taken out moments answers w0 w a0 a → w' ≡ option_map (after_read (b ∷ bs)) w → IfSome w (λ t. take (length (b ∷ bs)) t.left ≡ b ∷ bs) →
-    IsPrompt options (taken ++ b ∷ bs) out answers (moment_at taken out) →
+    IsPrompt options (taken ++ b ∷ bs) out answers (moment_at taken out) → EachWanted options (taken ++ b ∷ bs) answers →
     Moves options (taken ++ b ∷ bs) out (moments ++ moment_at taken out ∷ []) answers w0 w' a0 a
-moves_reading options taken out b bs moments answers w0 w w' a0 a did read next prompt = record {
+moves_reading options taken out b bs moments answers w0 w w' a0 a did read next prompt wanted = record {
   moves = read_more w0 w w' taken out b bs moments did.moves read;
   front = front_more w0 w taken out (b ∷ bs) moments did.moves did.front next;
   answered = did.answered;
   prompt = each_reads options taken (b ∷ bs) out answers moments (moment_at taken out) did.prompt prompt;
-  wanted = wanted_stays options taken (b ∷ bs) answers did.wanted;
+  wanted = wanted;
 }
 
 begins_empty : (w : Option Traffic) → w ≡ option_map (moved [] [] []) w

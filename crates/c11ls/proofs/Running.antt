@@ -13,6 +13,7 @@ use Rattle.c11ls.specs.Turn.{IsCounted, Stands}
 use Rattle.c11ls.specs.declared.status.Status.{Status}
 use Rattle.c11ls.specs.declared.status.Status.TheVariants.{Done, Unclean, Usage, BadFrame, ReadFault, WriteFault, StoreFault, NoMemory, LongInput}
 use Rattle.c11ls.proofs.EndingUp.{ends_empty, ends_cut}
+use Rattle.c11ls.proofs.Framing.{ContentsStay}
 use Rattle.c11ls.proofs.GoingOn.{settled_reads, settled_unfed, whatever_left}
 use Rattle.c11ls.proofs.Reacting.{nothing_answered}
 use Rattle.c11ls.proofs.Moving.{moves_nothing}
@@ -67,22 +68,22 @@ counted_on ended r r' r'' v v' v'' s s' s'' stands counted =
     (subst (λ n. IsCounted ended r' r'' v' v'' n s'') stands.store_is counted))
 
 -- bytes were read and fed
-pub reads_on : (options : Options) (w0 w w' : Option Traffic) (a0 a : Option (List Entry)) (s : State) (standing standing' : Standing) (size n : ℕ) (items bytes : List ℕ) →
+pub reads_on : ContentsStay → (options : Options) (w0 w w' : Option Traffic) (a0 a : Option (List Entry)) (s : State) (standing standing' : Standing) (size n : ℕ) (items bytes : List ℕ) →
     n ≤ length items → (n ≡ 0 → ⊥) → bytes ≡ take n items → w' ≡ option_map (after_read (take n items)) w → IfSome w (λ t. take n t.left ≡ take n items) →
     ((fed : List ℕ) (given : ℕ) → Follows fed given standing → Follows (fed ++ bytes) given standing') →
     Settled options w0 w a0 a s standing size → Going options w0 w' a0 a s standing' (size + n)
-reads_on options w0 w w' a0 a s standing standing' size n items bytes within some is read next fed settled =
+reads_on stays options w0 w w' a0 a s standing standing' size n items bytes within some is read next fed settled =
     let len : length (take n items) ≡ n = length-take-le n items within in
     let front : IfSome w (λ t. take (length (take n items)) t.left ≡ take n items) = subst (λ k. IfSome w (λ t. take k t.left ≡ take n items)) (sym len) next in
     subst (λ k. Going options w0 w' a0 a s standing' (size + k)) len
-    (settled_reads options w0 w w' a0 a s standing standing' size (take n items) (omega (arith, some)) read front
+    (settled_reads stays options w0 w w' a0 a s standing standing' size (take n items) (omega (arith, some)) read front
     (subst (λ (b : List ℕ). (fed : List ℕ) (given : ℕ) → Follows fed given standing → Follows (fed ++ b) given standing') is fed) settled)
 
 -- bytes were read, and there was no memory for them
-pub reads_unfed : (options : Options) (w0 w w' : Option Traffic) (a0 a : Option (List Entry)) (s : State) (standing : Standing) (size n : ℕ) (items : List ℕ) →
+pub reads_unfed : ContentsStay → (options : Options) (w0 w w' : Option Traffic) (a0 a : Option (List Entry)) (s : State) (standing : Standing) (size n : ℕ) (items : List ℕ) →
     n ≤ length items → (n ≡ 0 → ⊥) → w' ≡ option_map (after_read (take n items)) w → IfSome w (λ t. take n t.left ≡ take n items) →
     Settled options w0 w a0 a s standing size → Ended options NoMemory w0 w' a0 a
-reads_unfed options w0 w w' a0 a s standing size n items within some read next settled =
+reads_unfed stays options w0 w w' a0 a s standing size n items within some read next settled =
     let len : length (take n items) ≡ n = length-take-le n items within in
-    settled_unfed options w0 w w' a0 a s standing size (take n items) (omega (arith, some)) read
+    settled_unfed stays options w0 w w' a0 a s standing size (take n items) (omega (arith, some)) read
     (subst (λ k. IfSome w (λ t. take k t.left ≡ take n items)) (sym len) next) settled

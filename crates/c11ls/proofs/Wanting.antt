@@ -3,11 +3,11 @@ use Rattle.std.proofs.Common.{◌≡◌, ℕ, List, [], ◌∷◌, ◌++◌, tak
 use Rattle.std.proofs.lemmas.List.{take-append-drop}
 use Rattle.io_edges.specs.Store.{Entry, call_of}
 use Rattle.lsp_framing.specs.Frames.{frames}
-use Rattle.lsp_framing.proofs.Laws.{contents_stay}
 use Rattle.project_conf.specs.declared.options.Options.{Options}
 use Rattle.c_session.specs.State.{State, fresh}
 use Rattle.c11ls.specs.Plain.{Played, Stop, Lacks, Through, play, played}
 use Rattle.c11ls.specs.Serve.{EachWanted}
+use Rattle.c11ls.proofs.Framing.{ContentsStay}
 use Rattle.c11ls.proofs.Reacting.{EachAsked}
 use Rattle.c11ls.proofs.Playing.{play-append, play_one_wants, played_to, then_play}
 
@@ -33,12 +33,12 @@ split_at : (cs front : List (List ℕ)) → take (length front) cs ≡ front →
 split_at cs front first = sym (take-append-drop (length front) cs) ∙ ap (λ (f : List (List ℕ)). f ++ drop (length front) cs) first
 
 -- more bytes were taken
-pub wanted_stays : (options : Options) (taken bytes : List ℕ) (answers : List Entry) → EachWanted options taken answers → EachWanted options (taken ++ bytes) answers
+pub wanted_stays : ContentsStay → (options : Options) (taken bytes : List ℕ) (answers : List Entry) → EachWanted options taken answers → EachWanted options (taken ++ bytes) answers
 unfolding played
-wanted_stays options taken bytes answers each before entry behind split =
+wanted_stays stays options taken bytes answers each before entry behind split =
     let contents = (frames taken).contents in
     let all = (frames (taken ++ bytes)).contents in
-    ap (λ (cs : List (List ℕ)). (play cs (fresh options) before).stop) (split_at all contents (contents_stay taken bytes))
+    ap (λ (cs : List (List ℕ)). (play cs (fresh options) before).stop) (split_at all contents (stays taken bytes))
     ∙ lacks_on contents (drop (length contents) all) (fresh options) before entry (each before entry behind split)
 
 -- a place among first answers and further ones

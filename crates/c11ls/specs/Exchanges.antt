@@ -26,8 +26,8 @@ abbrev pub replies_of : List Exchange → List ℕ
 replies_of exchanges = flat_map (λ e. e.reply) exchanges
 
 -- the reply answers the content
-abbrev pub IsFit : Exchange → Type 0
-IsFit e = IsAnswered (message e.content) e.reply
+abbrev pub ReplyAnswersContent : Exchange → Type 0
+ReplyAnswersContent e = IsAnswered (message e.content) e.reply
 
 -- the last one has an `exit`
 pub record EndAtExit (exchanges : List Exchange) : Type 0 where
@@ -49,7 +49,7 @@ pub record AreAnswered (contents : List (List ℕ)) (stop : Stop) (out : List �
   pub exchanges : List Exchange
   pub rest : List (List ℕ)
   pub handled : contents ≡ contents_of exchanges ++ rest
-  pub each : All IsFit exchanges
+  pub each : All ReplyAnswersContent exchanges
   pub written : out ≡ replies_of exchanges
   pub stopped : StopsAt stop exchanges rest
 

@@ -1,5 +1,5 @@
 // The line on the error sink.
-ghost use Rattle.std.specs.Prelude.{◌+◌, ◌<◌, ◌^◌, ◌++◌, Result, Ok, Err};
+ghost use Rattle.std.specs.Prelude.{◌+◌, ◌<◌, ◌^◌, ◌++◌};
 ghost use Rattle.c11ls.specs.Codes.{line_of};
 ghost use Rattle.c11ls.specs.Lines.{Told};
 ghost use Rattle.c11ls.specs.declared.status.Status.TheVariants.{BadFrame};

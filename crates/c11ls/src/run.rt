@@ -10,6 +10,7 @@ use crate::status::Status;
 use crate::turn::turn;
 use c_session::Session;
 use io_edges::{Failed, Store, Wire};
+use lsp_framing::facts::{bad_stays, contents_stay};
 use lsp_framing::{FrameError, FrameKind, Frames};
 use project_conf::Options;
 use std::alloc::{AllocError, Global};
@@ -35,6 +36,9 @@ fn drain<W: Wire, D: Store, L: Ledger>(
     ensures drained { Drained no_options result (W.told wire.old) (W.told wire.new) (D.answers store.old) (D.answers store.new) (state_of session.old) (state_of session.new) frames.old frames.new }
     ensures counted { IsCounted result (W.read_faults wire.old) (W.read_faults wire.new) (W.write_faults wire.old) (W.write_faults wire.new) (D.faults store.old) (D.faults store.new) }
 {
+    // laws, for `drained`
+    contents_stay();
+    bad_stays();
     'frames: loop {
         let content = match frames.next() {
             Ok(Some(content)) => content,
@@ -104,6 +108,8 @@ fn reads<W: Wire, D: Store, L: Ledger>(
     ensures ended { Ended no_options result (W.told wire.old) (W.told wire.new) (D.answers store.old) (D.answers store.new) }
     ensures counted { IsCounted (Some result) (W.read_faults wire.old) (W.read_faults wire.new) (W.write_faults wire.old) (W.write_faults wire.new) (D.faults store.old) (D.faults store.new) }
 {
+    // a law, for `ended`
+    contents_stay();
     let mut session = Session::new(alloc, Options::none(alloc));
     let mut frames = Frames::new(alloc);
     let mut taken: u64 = 0;

@@ -18,7 +18,7 @@ header n = codes "Content-Length: " ++ decimal n ++ 13 ∷ 10 ∷ 13 ∷ 10 ∷ 
 
 -- a content behind its header
 unfoldable pub framed : List ℕ → List ℕ
-framed content = codes "Content-Length: " ++ decimal (length content) ++ 13 ∷ 10 ∷ 13 ∷ 10 ∷ [] ++ content
+framed content = header (length content) ++ content
 
 abbrev pub id_data : Id → Data
 id_data (Text text) = string text

@@ -1,5 +1,4 @@
 // Why a content has no reply.
-use io_edges::StoreFail;
 use std::alloc::AllocError;
 use thiserror::Error;
 

@@ -1,5 +1,5 @@
 // Files that are read from the store into the texts.
-ghost use Rattle.std.specs.Prelude.{◌≡◌, ◌++◌, ◌+◌, ◌<◌, ◌^◌, IfOk, IfErr, OnOk, OnErr, MatchResult, option_map, Some, None};
+ghost use Rattle.std.specs.Prelude.{◌≡◌, ◌++◌, ◌+◌, ◌<◌, ◌^◌, IfOk, IfErr, OnOk, OnErr, MatchResult, option_map};
 ghost use Rattle.io_edges.specs.Store.{Reads, after_answer};
 ghost use Rattle.doc_texts.specs.Docs.{IsDone};
 ghost use Rattle.c_session.specs.Asking.{Gives};

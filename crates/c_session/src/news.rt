@@ -1,5 +1,5 @@
 // What is published after a message that changed texts.
-ghost use Rattle.std.specs.Prelude.{◌≡◌, ◌≤◌, ◌++◌, [], length, option_map, IfOk, IfSome, OnOk, Some, None, string_bytes, unwrap_or};
+ghost use Rattle.std.specs.Prelude.{◌≡◌, ◌≤◌, ◌++◌, [], length, option_map, IfOk, IfSome, OnOk, string_bytes, unwrap_or};
 ghost use Rattle.c_tokens.specs.Lexed.{lexed};
 ghost use Rattle.c_session.specs.Faults.{AreWithin};
 ghost use Rattle.c_session.specs.Shown.{shown_of, shown, same_text, uri_for, publication};

@@ -10,17 +10,6 @@ use serde_json::{Value, json};
 use std::alloc::{AllocError, Global};
 use text_lines::Encoding;
 
-/// A content behind its header.
-#[tactic(auto, unfolding(crate::specs::Replies::framed))]
-pub(crate) fn framed(alloc: Global, content: &str) -> Result<Vec<u8>, AllocError>
-    ensures { IfOk result (λ v. v.items ≡ framed content.now) }
-{
-    let length = content.len();
-    let mut text = format!(in alloc; "Content-Length: {length}\r\n\r\n")?;
-    text.push_str(content)?;
-    Ok(text.into_bytes())
-}
-
 /// Writes the header of a content of so many bytes behind what is written.
 fn push_header(alloc: Global, out: &mut Vec<u8>, length: usize) -> Result<(), AllocError>
     ensures { OnOk result (out.new.items ≡ out.old.items ++ header length) }
@@ -37,6 +26,15 @@ pub(crate) fn push_framed(alloc: Global, out: &mut Vec<u8>, content: &str) -> Re
     push_header(alloc, out, content.len())?;
     out.extend_from_slice(content.as_bytes())?;
     Ok(())
+}
+
+/// A content behind its header.
+fn framed(alloc: Global, content: &str) -> Result<Vec<u8>, AllocError>
+    ensures { IfOk result (λ v. v.items ≡ framed content.now) }
+{
+    let mut out = Vec::new(alloc);
+    push_framed(alloc, &mut out, content)?;
+    Ok(out)
 }
 
 fn id_value(alloc: Global, id: Id<'_>) -> Result<Value, AllocError>
@@ -118,22 +116,24 @@ fn log_value(alloc: Global, text: &str) -> Result<Value, AllocError>
     json!(in alloc; {"jsonrpc": "2.0", "method": "window/logMessage", "params": {"message": text, "type": 1u8}})
 }
 
-/// The notification `window/logMessage` of type 1, an error.
+/// Writes the notification `window/logMessage` of type 1, an error, behind what is written.
 #[tactic(auto, unfolding(crate::specs::Replies::log))]
-pub(crate) fn log(alloc: Global, text: &str) -> Result<Vec<u8>, AllocError>
-    ensures { IfOk result (λ v. v.items ≡ log text.now) }
-{
-    let value = log_value(alloc, text)?;
-    written(alloc, &value)
-}
-
-/// Writes a log message behind what is written.
 pub(crate) fn push_log(alloc: Global, out: &mut Vec<u8>, text: &str) -> Result<(), AllocError>
     ensures { OnOk result (out.new.items ≡ out.old.items ++ log text.now) }
 {
-    let message = log(alloc, text)?;
-    out.extend_from_slice(message.as_slice())?;
+    let value = log_value(alloc, text)?;
+    let content = value.to_string(alloc)?;
+    push_framed(alloc, out, content.as_str())?;
     Ok(())
+}
+
+/// The notification `window/logMessage` of type 1, an error.
+pub(crate) fn log(alloc: Global, text: &str) -> Result<Vec<u8>, AllocError>
+    ensures { IfOk result (λ v. v.items ≡ log text.now) }
+{
+    let mut out = Vec::new(alloc);
+    push_log(alloc, &mut out, text)?;
+    Ok(out)
 }
 
 /// The name of a position encoding (LSP 3.17, PositionEncodingKind).

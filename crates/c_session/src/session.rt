@@ -1,5 +1,5 @@
 // The session with one client: what it keeps, and how it handles a content.
-ghost use Rattle.std.specs.Prelude.{◌≡◌, ◌≢◌, ◌+◌, ◌++◌, ◌<◌, ◌^◌, [], Some, None, Ok, Err, IfOk, IfErr, OnOk, option_map, map, codes};
+ghost use Rattle.std.specs.Prelude.{◌≡◌, ◌≢◌, ◌+◌, ◌++◌, ◌<◌, ◌^◌, [], Some, Ok, IfOk, IfErr, OnOk, option_map, map, codes};
 ghost use Rattle.serde_json.specs.View.{view};
 ghost use Rattle.c_session.specs.Asking.{Gives};
 ghost use Rattle.c_session.specs.Handled.{Handled, Reached, Refused};

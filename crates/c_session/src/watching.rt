@@ -1,6 +1,6 @@
 // Files that changed outside the editor (LSP 3.17, workspace/didChangeWatchedFiles).
 ghost use Rattle.std.specs.Prelude.{◌≡◌, ◌≢◌, ◌+◌, ◌<◌, ◌^◌, ◌++◌, codes, None, IfErr, OnOk, map};
-ghost use Rattle.doc_texts.specs.Docs.{is_outside, loaded};
+ghost use Rattle.doc_texts.specs.Docs.{loaded};
 ghost use Rattle.c_session.specs.Files.{with_found};
 ghost use Rattle.c_session.specs.Asking.{Gives};
 ghost use Rattle.c_session.specs.Handled.{Reached, Refused};

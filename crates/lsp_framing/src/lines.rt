@@ -1,5 +1,5 @@
 // One line of a header part, and what it states.
-ghost use Rattle.std.specs.Prelude.{◌<◌, ◌==◌, position, ◌≡◌, ◌+◌, ◌≤◌, ◌-◌, min, length, take, drop, IfSome, IfOk, option_map, true};
+ghost use Rattle.std.specs.Prelude.{◌<◌, ◌==◌, position, ◌≡◌, ◌+◌, ◌≤◌, min, length, IfSome, IfOk, option_map, true};
 ghost use Rattle.std.specs.Char.{is_ascii_digit};
 ghost use Rattle.std.specs.Int.{is_in_range};
 ghost use Rattle.std.specs.List.{list_all, prefix_len, suffix_len};

@@ -13,7 +13,7 @@ returns-in-Ok-None-clause-drained g c =
 
 pub returns-in-Err-Fault-clause-drained : goal.returns-in-Err-Fault-clause-drained
 returns-in-Err-Fault-clause-drained g c =
-    λ w0 a0 size going. ends_bad no_options w0 _ a0 _ _ _ size _ _ (rw c.in-Err-Fault.field-0-is at c.in-Err-Fault.ensures.fault)
+    λ w0 a0 size going. ends_bad c.bad_stays.ensures no_options w0 _ a0 _ _ _ size _ _ (rw c.in-Err-Fault.field-0-is at c.in-Err-Fault.ensures.fault)
     (c.frames.invariant.goes w0 a0 size going)
 
 pub returns-in-Err-NoMemory-clause-drained : goal.returns-in-Err-NoMemory-clause-drained
@@ -22,7 +22,7 @@ returns-in-Err-NoMemory-clause-drained g c =
 
 pub returns-in-Some-clause-drained : goal.returns-in-Some-clause-drained
 returns-in-Some-clause-drained g c =
-    λ w0 a0 size going. turn_ends no_options c.in-Some.status w0 _ _ a0 _ _ _ (state_of c.turn.new.session) c.in-Ok-Some.content.items _ c.next.new.self size
+    λ w0 a0 size going. turn_ends c.contents_stay.ensures no_options c.in-Some.status w0 _ _ a0 _ _ _ (state_of c.turn.new.session) c.in-Ok-Some.content.items _ c.next.new.self size
     (rw c.in-Ok-Some.field-0-is at c.in-Ok-Some.ensures.content)
     (rw c.as_slice.ensures.value at c.in-Some.ensures.turned)
     (c.frames.invariant.goes w0 a0 size going)

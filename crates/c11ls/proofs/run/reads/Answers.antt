@@ -46,12 +46,12 @@ feed-requires g c =
 
 pub returns-in-Err-feed-clause-ended : goal.returns-in-Err-feed-clause-ended
 returns-in-Err-feed-clause-ended g c =
-    reads_unfed no_options _ _ _ _ _ _ _ _ _ _ c.in-Ok.ensures.in_items c.if-count-eq0.false c.in-Ok.ensures.taken c.in-Ok.ensures.front
+    reads_unfed c.contents_stay.ensures no_options _ _ _ _ _ _ _ _ _ _ c.in-Ok.ensures.in_items c.if-count-eq0.false c.in-Ok.ensures.taken c.in-Ok.ensures.front
     (c.in-None.ensures.drained _ _ _ c.reads.invariant.going)
 
 pub reads-preserved : goal.reads-preserved
 reads-preserved g c = record {
-  going = reads_on no_options _ _ _ _ _ _ _ _ _ _ _ _ c.in-Ok.ensures.in_items c.if-count-eq0.false (c.split_at.ensures.front ∙ ap (take c.in-Ok.count) c.as_slice.ensures.value) c.in-Ok.ensures.taken c.in-Ok.ensures.front
+  going = reads_on c.contents_stay.ensures no_options _ _ _ _ _ _ _ _ _ _ _ _ c.in-Ok.ensures.in_items c.if-count-eq0.false (c.split_at.ensures.front ∙ ap (take c.in-Ok.count) c.as_slice.ensures.value) c.in-Ok.ensures.taken c.in-Ok.ensures.front
       c.in-Ok-feed.ensures.fed (c.in-None.ensures.drained _ _ _ c.reads.invariant.going);
   stands = stands_on _ _ _ _ _ _ _ _ _ c.reads.invariant.stands (stands_on _ _ _ _ _ _ _ _ _ c.in-None.ensures.counted
       (record { read_is = c.in-Ok.ensures.counted; write_is = c.in-Ok.ensures.other_side; store_is = refl }));
