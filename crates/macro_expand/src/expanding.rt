@@ -229,15 +229,15 @@ fn plain_list(alloc: Global, list: &[OutToken]) -> Result<MarkedList, AllocError
     Ok(MarkedList::from_vec(out))
 }
 
-fn bare_list(alloc: Global, list: &MarkedList) -> Result<OutTokens, AllocError>
-    ensures { IfOk result (λ l. l ≡ list_map (λ t. t.token) list.now) }
+fn bare_list(alloc: Global, list: MarkedList) -> Result<OutTokens, AllocError>
+    ensures { IfOk result (λ l. l ≡ list_map (λ t. t.token) list) }
 {
-    let mut out = Vec::new(alloc);
-    for token in list.as_slice() {
-        let copy = token.token.copy()?;
-        out.push(copy)?;
-    }
-    Ok(OutTokens::from_vec(out))
+    let tokens = list
+        .into_vec()
+        .into_iter()
+        .map(|marked| marked.token)
+        .collect(alloc)?;
+    Ok(OutTokens::from_vec(tokens))
 }
 
 fn at_first(alloc: Global, budget: u32) -> Progress
@@ -269,7 +269,7 @@ fn told(alloc: Global, budget: u32, outcome: Outcome) -> Result<Expanded, AllocE
     let used = budget - left;
     match asked {
         None => {
-            let tokens = bare_list(alloc, &tokens)?;
+            let tokens = bare_list(alloc, tokens)?;
             Ok(Expanded {
                 tokens,
                 used,
