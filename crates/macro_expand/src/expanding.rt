@@ -297,6 +297,9 @@ fn told(alloc: Global, budget: u32, outcome: Outcome) -> Result<Expanded, AllocE
 /// Faults fall on sites: 202 (a wrong number of arguments) and 203 (an open argument list) leave the name as it is, 206
 /// (`##` makes no token) leaves both operands, 207 (too many replacements) comes at most once and leaves everything
 /// behind it, 211 warns of an absent variable argument.
+///
+/// It fails for want of memory alone. Its cost isn't linear in `tokens`: each replacement may bring more tokens, a call
+/// within arguments is read again at each depth, an open one up to the end, and each `__LINE__` goes through `lines`.
 pub fn expand(
     alloc: Global,
     tokens: &[OutToken],
