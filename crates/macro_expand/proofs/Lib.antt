@@ -12,5 +12,6 @@ pub mod SetLemmas
 pub mod NumberLemmas
 pub mod BuildingLemmas
 pub mod FindingLemmas
+pub mod JoinLemmas
 pub mod MachineLemmas
 pub mod UnmentionedLemmas

@@ -229,15 +229,15 @@ fn plain_list(alloc: Global, list: &[OutToken]) -> Result<MarkedList, AllocError
     Ok(MarkedList::from_vec(out))
 }
 
-fn bare_list(alloc: Global, list: &MarkedList) -> Result<OutTokens, AllocError>
-    ensures { IfOk result (λ l. l ≡ list_map (λ t. t.token) list.now) }
+fn bare_list(alloc: Global, list: MarkedList) -> Result<OutTokens, AllocError>
+    ensures { IfOk result (λ l. l ≡ list_map (λ t. t.token) list) }
 {
-    let mut out = Vec::new(alloc);
-    for token in list.as_slice() {
-        let copy = token.token.copy()?;
-        out.push(copy)?;
-    }
-    Ok(OutTokens::from_vec(out))
+    let tokens = list
+        .into_vec()
+        .into_iter()
+        .map(|marked| marked.token)
+        .collect(alloc)?;
+    Ok(OutTokens::from_vec(tokens))
 }
 
 fn at_first(alloc: Global, budget: u32) -> Progress
@@ -269,7 +269,7 @@ fn told(alloc: Global, budget: u32, outcome: Outcome) -> Result<Expanded, AllocE
     let used = budget - left;
     match asked {
         None => {
-            let tokens = bare_list(alloc, &tokens)?;
+            let tokens = bare_list(alloc, tokens)?;
             Ok(Expanded {
                 tokens,
                 used,
@@ -297,6 +297,9 @@ fn told(alloc: Global, budget: u32, outcome: Outcome) -> Result<Expanded, AllocE
 /// Faults fall on sites: 202 (a wrong number of arguments) and 203 (an open argument list) leave the name as it is, 206
 /// (`##` makes no token) leaves both operands, 207 (too many replacements) comes at most once and leaves everything
 /// behind it, 211 warns of an absent variable argument.
+///
+/// It fails for want of memory alone. Its cost isn't linear in `tokens`: each replacement may bring more tokens, a call
+/// within arguments is read again at each depth, an open one up to the end, and each `__LINE__` goes through `lines`.
 pub fn expand(
     alloc: Global,
     tokens: &[OutToken],

@@ -53,16 +53,4 @@ impl HideSet {
             number: self.number,
         }
     }
-
-    pub(crate) fn same(&self, other: &HideSet) -> bool
-        ensures { IsTrue result → self.now ≡ other.now }
-    {
-        match self.number {
-            None => other.number.is_none(),
-            Some(number) => match other.number {
-                None => false,
-                Some(also) => number == also,
-            },
-        }
-    }
 }

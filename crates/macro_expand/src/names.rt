@@ -1,5 +1,5 @@
 // Sets of names as lists.
-ghost use Rattle.std.specs.Prelude.{◌≡◌, ◌++◌, not, filter, IfOk, IsTrue};
+ghost use Rattle.std.specs.Prelude.{◌≡◌, [], ◌∷◌, ◌++◌, not, filter, IfOk};
 ghost use Rattle.macro_expand.specs.HideSets as sets;
 ghost use Rattle.macro_expand.specs.Stands.{joined};
 
@@ -12,16 +12,6 @@ pub(crate) enum How {
     Added,
     United,
     Common,
-}
-
-pub(crate) fn same_how(how: How, other: How) -> bool
-    ensures { IsTrue result → how ≡ other }
-{
-    match how {
-        How::Added => matches!(other, How::Added),
-        How::United => matches!(other, How::United),
-        How::Common => matches!(other, How::Common),
-    }
 }
 
 // A name is in the set.
@@ -60,13 +50,23 @@ fn kept(alloc: Global, names: &[Name], others: &[Name]) -> Result<Vec<Name>, All
     Ok(out)
 }
 
-pub(crate) fn append(mut out: Vec<Name>, names: &[Name]) -> Result<Vec<Name>, AllocError>
+fn append(mut out: Vec<Name>, names: &[Name]) -> Result<Vec<Name>, AllocError>
     ensures { IfOk result (λ v. v.items ≡ out.items ++ names.now) }
 {
     for name in names {
         let copy = name.share()?;
         out.push(copy)?;
     }
+    Ok(out)
+}
+
+// The set of one name.
+pub(crate) fn alone(alloc: Global, name: &Name) -> Result<Vec<Name>, AllocError>
+    ensures { IfOk result (λ v. v.items ≡ name.now ∷ []) }
+{
+    let mut out = Vec::with_capacity(alloc, 1)?;
+    let copy = name.share()?;
+    out.push(copy)?;
     Ok(out)
 }
 
@@ -90,25 +90,5 @@ pub(crate) fn made_of(
             append(first, more)
         }
         How::Common => kept(alloc, names, more),
-    }
-}
-
-pub(crate) fn same_names(names: &[Name], others: &[Name]) -> bool
-    ensures { IsTrue result → names.now ≡ others.now }
-{
-    let mut left = names;
-    let mut right = others;
-    'names: loop {
-        let Some((name, behind)) = left.split_first() else {
-            return right.is_empty();
-        };
-        let Some((other, more)) = right.split_first() else {
-            return false;
-        };
-        if name.as_str() != other.as_str() {
-            return false;
-        }
-        left = behind;
-        right = more;
     }
 }

@@ -1,15 +1,20 @@
 // Hide sets by their numbers. Each set is kept once, and what is made of two is remembered.
-ghost use Rattle.std.specs.Prelude.{◌≡◌, ℕ, List, [], ◌∷◌, IfOk, IfSome, OnOk, Some, slice_get};
+ghost use Rattle.std.specs.Prelude.{◌≡◌, ℕ, List, [], ◌∷◌, nat_eq, IfOk, IfSome, OnOk};
+ghost use Rattle.std.specs.Cmp;
+ghost use Rattle.std.specs.Cmp.Lexicographic.{pointwise, lists_equiv, nat_list_eq_equiv, bytes_decides, pointwise_decides};
+ghost use Rattle.std.specs.Hash as fed;
+ghost use Rattle.std.proofs.Common.{ap};
 ghost use Rattle.macro_expand.specs.HideSets as sets;
-ghost use Rattle.macro_expand.specs.Codes.{Names as NameLists};
+ghost use Rattle.macro_expand.specs.Codes.{coded, Names as NameLists};
 ghost use Rattle.macro_expand.specs.Stands.{Stands, Grows, joined};
 ghost use Rattle.macro_expand.specs.Joins.{IsJoin};
 
 use crate::hide::HideSet;
-use crate::names::{How, append, made_of, same_how, same_names};
+use crate::names::{How, alone, made_of};
+use indexmap::{IndexMap, IndexSet};
 use shared_text::Name;
 use std::alloc::{AllocError, Global};
-use std::collections::HashMap;
+use std::hash::{Hash, Hasher};
 use std::marker::Model;
 
 #[derive(Debug, Drop)]
@@ -39,12 +44,34 @@ impl Names {
     }
 }
 
-// The sets in the order of their numbers, and the number of a set, under another that is made of its names. Of two sets
-// with one such number only the later one is found.
+impl PartialEq for Names {
+    ghost eq = { pointwise (pointwise nat_eq) };
+
+    ghost laws = { Cmp.partial_equiv_from_equiv (lists_equiv nat_list_eq_equiv) };
+
+    fn eq(&self, other: &Self) -> bool {
+        self.items.eq(&other.items)
+    }
+}
+
+impl Eq for Names {
+    ghost laws = { lists_equiv nat_list_eq_equiv };
+}
+
+impl Hash for Names {
+    ghost hash_input = { fed.slice fed.str };
+
+    ghost respects_eq = { λ x y h. ap (fed.slice fed.str) ((pointwise_decides bytes_decides x y).0 h) };
+
+    fn hash<H: Hasher>(&self, state: &mut H) {
+        self.items.hash(state)
+    }
+}
+
+// The sets; the number of a set is its index.
 #[derive(Drop)]
 pub(crate) struct Table {
-    sets: Vec<Names>,
-    numbers: HashMap<u64, usize>,
+    sets: IndexSet<Names>,
 }
 
 impl Model for Table {
@@ -52,24 +79,7 @@ impl Model for Table {
 
     ghost Value = { List (List (List ℕ)) };
 
-    ghost view = { λ t. t.sets.items };
-}
-
-// FNV-1a.
-fn mixed(number: u64, name: &Name) -> u64 {
-    let mut number = number;
-    for byte in name.as_str().as_bytes() {
-        number = (number ^ u64::from(*byte)).wrapping_mul(0x0000_0100_0000_01B3);
-    }
-    (number ^ 0xFF).wrapping_mul(0x0000_0100_0000_01B3)
-}
-
-fn number_of(names: &[Name]) -> u64 {
-    let mut number: u64 = 0xCBF2_9CE4_8422_2325;
-    for name in names {
-        number = mixed(number, name);
-    }
-    number
+    ghost view = { λ t. t.sets.keys };
 }
 
 impl Table {
@@ -77,98 +87,64 @@ impl Table {
         ensures { result ≡ [] }
     {
         Table {
-            sets: Vec::new(alloc),
-            numbers: HashMap::new(alloc),
+            sets: IndexSet::new(alloc),
         }
     }
 
     // The names of a set.
-    fn names(&self, set: &HideSet) -> Result<&[Name], AllocError>
-        ensures { IfOk result (λ names. (f : NameLists → NameLists) → Stands f self.now → f set.now ≡ names.now) }
+    fn names(&self, number: Option<usize>) -> Result<&[Name], AllocError>
+        ensures { IfOk result (λ names. (f : NameLists → NameLists) → Stands f self.now → f (coded number) ≡ names.now) }
     {
-        let Some(number) = set.number() else {
+        let Some(number) = number else {
             return Ok(&[]);
         };
-        match self.sets.as_slice().get(number) {
+        match self.sets.get_index(number) {
             Some(names) => Ok(names.as_slice()),
-            // A number is always one of the table.
+            // Each number is one of the table, which no contract says.
             None => Err(AllocError),
         }
     }
 
-    fn find(&self, key: u64, names: &[Name]) -> Option<usize>
-        ensures { IfSome result (λ n. slice_get self.now n ≡ Some names.now) }
-    {
-        let Some(number) = self.numbers.get(&key) else {
-            return None;
-        };
-        let Some(found) = self.sets.as_slice().get(*number) else {
-            return None;
-        };
-        if same_names(found.as_slice(), names) {
-            Some(*number)
-        } else {
-            None
-        }
-    }
-
-    fn add(&mut self, alloc: Global, key: u64, names: &[Name]) -> Result<HideSet, AllocError>
+    // The set of these names.
+    fn set(&mut self, names: Vec<Name>) -> Result<HideSet, AllocError>
         ensures grows { Grows self.old self.new }
-        ensures value { IfOk result (λ set. (f : NameLists → NameLists) → Stands f self.new → f set ≡ names.now) }
+        ensures value { IfOk result (λ set. (f : NameLists → NameLists) → Stands f self.new → f set ≡ names.items) }
     {
-        let number = self.sets.len();
-        let copies = append(Vec::new(alloc), names)?;
-        self.sets.push(Names::from_vec(copies))?;
-        self.numbers.insert(key, number)?;
+        if names.is_empty() {
+            return Ok(HideSet::empty());
+        }
+        let (number, _) = self.sets.insert_full(Names::from_vec(names))?;
         Ok(HideSet::numbered(number))
     }
-
-    // The set of these names.
-    fn set(&mut self, alloc: Global, names: &[Name]) -> Result<HideSet, AllocError>
-        ensures grows { Grows self.old self.new }
-        ensures value { IfOk result (λ set. (f : NameLists → NameLists) → Stands f self.new → f set ≡ names.now) }
-    {
-        let [_, ..] = names else {
-            return Ok(HideSet::empty());
-        };
-        let key = number_of(names);
-        if let Some(number) = self.find(key, names) {
-            return Ok(HideSet::numbered(number));
-        }
-        self.add(alloc, key, names)
-    }
 }
 
-// A set that was made of two.
-#[derive(Drop)]
+// How a set is made of two, and the numbers of these.
+#[derive(Clone, Copy, Debug, PartialEq, Eq, Hash, Drop)]
 pub(crate) struct Join {
     how: How,
-    left: HideSet,
-    right: HideSet,
-    made: HideSet,
+    left: Option<usize>,
+    right: Option<usize>,
 }
 
-#[derive(Clone, Copy, Debug, PartialEq, Eq, Hash, Drop)]
-struct JoinKey {
-    how: How,
-    left: usize,
-    right: usize,
-}
-
-fn key_of(how: How, left: &HideSet, right: &HideSet) -> JoinKey {
-    JoinKey {
-        how,
-        left: left.number().unwrap_or(usize::MAX),
-        right: right.number().unwrap_or(usize::MAX),
+impl Join {
+    fn of(how: How, left: &HideSet, right: &HideSet) -> Join
+        ensures how { result.how ≡ how }
+        ensures left { coded result.left ≡ left.now }
+        ensures right { coded result.right ≡ right.now }
+    {
+        Join {
+            how,
+            left: left.number(),
+            right: right.number(),
+        }
     }
 }
 
-// The sets, those that were made of two, and where each of these stands.
+// The sets, and which of them were made of two.
 #[derive(Drop)]
 pub(crate) struct Sets {
     table: Table,
-    joins: Vec<Join>,
-    places: HashMap<JoinKey, usize>,
+    joins: IndexMap<Join, HideSet>,
 }
 
 impl Model for Sets {
@@ -180,7 +156,7 @@ impl Model for Sets {
 
     ghost view = { λ s. s.table };
 
-    ghost invariant = { λ s. All (IsJoin s.table) s.joins.items };
+    ghost invariant = { λ s. All (λ e. IsJoin s.table e.0 e.1) s.joins.entries };
 }
 
 impl Sets {
@@ -189,66 +165,41 @@ impl Sets {
     {
         Sets {
             table: Table::new(alloc),
-            joins: Vec::new(alloc),
-            places: HashMap::new(alloc),
+            joins: IndexMap::new(alloc),
         }
     }
 
-    fn known(&self, how: How, left: &HideSet, right: &HideSet) -> Option<HideSet>
-        ensures { IfSome result (λ set. (f : NameLists → NameLists) → Stands f self.now
-            → f set ≡ joined how (f left.now) (f right.now)) }
+    fn known(&self, join: &Join) -> Option<HideSet>
+        ensures { IfSome result (IsJoin self.now join.now) }
     {
-        let key = key_of(how, left, right);
-        let Some(place) = self.places.get(&key) else {
-            return None;
-        };
-        let Some(join) = self.joins.as_slice().get(*place) else {
-            return None;
-        };
-        if !same_how(join.how, how) {
-            return None;
-        }
-        if !join.left.same(left) {
-            return None;
-        }
-        if join.right.same(right) {
-            Some(join.made.copy())
-        } else {
-            None
+        match self.joins.get(join) {
+            Some(made) => Some(made.copy()),
+            None => None,
         }
     }
 
-    fn made(
-        &self,
-        alloc: Global,
-        how: How,
-        left: &HideSet,
-        right: &HideSet,
-    ) -> Result<Vec<Name>, AllocError>
+    fn made(&self, alloc: Global, join: &Join) -> Result<Vec<Name>, AllocError>
         ensures { IfOk result (λ v. (f : NameLists → NameLists) → Stands f self.now
-            → v.items ≡ joined how (f left.now) (f right.now)) }
+            → v.items ≡ joined join.now.how (f (coded join.now.left)) (f (coded join.now.right))) }
     {
-        let names = self.table.names(left)?;
-        let more = self.table.names(right)?;
-        let made = made_of(alloc, how, names, more)?;
+        let names = self.table.names(join.left)?;
+        let more = self.table.names(join.right)?;
+        let made = made_of(alloc, join.how, names, more)?;
         Ok(made)
     }
 
-    fn set(&mut self, alloc: Global, names: &[Name]) -> Result<HideSet, AllocError>
+    fn set(&mut self, names: Vec<Name>) -> Result<HideSet, AllocError>
         ensures grows { Grows self.old self.new }
-        ensures value { IfOk result (λ set. (f : NameLists → NameLists) → Stands f self.new → f set ≡ names.now) }
+        ensures value { IfOk result (λ set. (f : NameLists → NameLists) → Stands f self.new → f set ≡ names.items) }
     {
-        self.table.set(alloc, names)
+        self.table.set(names)
     }
 
-    fn remember(&mut self, join: Join) -> Result<(), AllocError>
-        requires { IsJoin self.old join }
+    fn remember(&mut self, join: Join, made: HideSet) -> Result<(), AllocError>
+        requires { IsJoin self.old join made }
         ensures { self.new ≡ self.old }
     {
-        let key = key_of(join.how, &join.left, &join.right);
-        let place = self.joins.len();
-        self.joins.push(join)?;
-        self.places.insert(key, place)?;
+        self.joins.insert(join, made)?;
         Ok(())
     }
 
@@ -264,17 +215,13 @@ impl Sets {
         ensures value { IfOk result (λ set. (f : NameLists → NameLists) → Stands f self.new
             → f set ≡ joined how (f left.now) (f right.now)) }
     {
-        if let Some(set) = self.known(how, left, right) {
+        let join = Join::of(how, left, right);
+        if let Some(set) = self.known(&join) {
             return Ok(set);
         }
-        let names = self.made(alloc, how, left, right)?;
-        let made = self.set(alloc, names.as_slice())?;
-        self.remember(Join {
-            how,
-            left: left.copy(),
-            right: right.copy(),
-            made: made.copy(),
-        })?;
+        let names = self.made(alloc, &join)?;
+        let made = self.set(names)?;
+        self.remember(join, made.copy())?;
         Ok(made)
     }
 
@@ -318,7 +265,8 @@ impl Sets {
         ensures grows { Grows self.old self.new }
         ensures value { IfOk result (λ r. (f : NameLists → NameLists) → Stands f self.new → f r ≡ name.now ∷ []) }
     {
-        let one = self.set(alloc, std::slice::from_ref(name))?;
+        let names = alone(alloc, name)?;
+        let one = self.set(names)?;
         Ok(one)
     }
 
@@ -354,7 +302,7 @@ impl Sets {
         }
         let one = self.only(alloc, name)?;
         let both = self.join(alloc, How::Common, &one, set)?;
-        let names = self.table.names(&both)?;
+        let names = self.table.names(both.number())?;
         Ok(!names.is_empty())
     }
 }

@@ -110,15 +110,6 @@ impl MarkedList {
         Ok(MarkedList { items })
     }
 
-    pub(crate) fn joined(self, more: MarkedList) -> Result<MarkedList, AllocError>
-        ensures { IfOk result (λ list. list ≡ self ++ more) }
-    {
-        let mut items = self.items;
-        let mut behind = more.items;
-        items.append(&mut behind)?;
-        Ok(MarkedList { items })
-    }
-
     // The last token with its front.
     pub(crate) fn last(self) -> Option<(MarkedList, Marked)>
         ensures { result ≡ last_of self }

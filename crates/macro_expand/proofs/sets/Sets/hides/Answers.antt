@@ -19,6 +19,6 @@ returns-clause-value c = λ f h.
     let one = c.in_ok-one.ensures.value f (c.in_ok-both.ensures.grows f h) in
     let inside = subst (λ (s : List Names). Stands f s) (sym c.self.view_is) h in
     hidden_is (f c.args.set.now) c.in_ok-names.names.now c.args.name.now c.is_empty-2.result
-    (sym (c.in_ok-names.ensures f inside) ∙ c.in_ok-both.ensures.value f h
+    (sym (c.in_ok-names.ensures f inside) ∙ ap f (sym c.number.ensures) ∙ c.in_ok-both.ensures.value f h
     ∙ ap (λ (x : Names). common x (f c.args.set.now)) one)
     c.is_empty-2.ensures
