@@ -95,6 +95,17 @@ impl Rest {
         self.items.is_empty()
     }
 
+    // The same in less memory, where most of it is unused: a list may wait while others are expanded.
+    pub(crate) fn slim(self) -> Rest
+        ensures { result ≡ self }
+    {
+        let mut items = self.items;
+        if items.len() < items.capacity() / 4 {
+            items.shrink_to(items.len() * 2);
+        }
+        Rest { items }
+    }
+
     // Without its first token, where it has one.
     pub(crate) fn behind(self) -> Rest
         ensures { result ≡ drop 1 self }

@@ -128,5 +128,5 @@ pub(crate) fn dropped(width: usize, rest: Rest) -> Rest
         rest = rest.behind();
         left -= 1;
     }
-    rest
+    rest.slim()
 }
