@@ -62,11 +62,16 @@ pub(crate) fn meaning_of<'a>(
     if !is_ident(token.token.kind) {
         return Ok(Meaning::Ordinary);
     }
+    // Most names are no macros, and a look at the table costs less than one at the hide set.
+    let meaning = named(table, token.token.spelling.as_str());
+    if let Meaning::Ordinary = meaning {
+        return Ok(Meaning::Ordinary);
+    }
     let hidden = sets.hides(alloc, &token.hides, &token.token.spelling)?;
     if hidden {
         return Ok(Meaning::Ordinary);
     }
-    Ok(named(table, token.token.spelling.as_str()))
+    Ok(meaning)
 }
 
 // The line of a site.

@@ -16,6 +16,7 @@ use crate::expanding::{Step, Taken, take_step};
 use crate::hide::HideSet;
 use crate::sets::Sets;
 use crate::splicing::spliced;
+use crate::tokens::is_ident;
 use crate::types::{Marked, MarkedList, Outcome, Progress};
 use macro_table::{MacroDef, MacroTable};
 use std::alloc::{AllocError, Global};
@@ -93,6 +94,10 @@ fn walk<'a>(
     let mut rest = rest.into_items();
     let mut done = done.into_vec();
     'tokens: while let Some(token) = rest.pop_front() {
+        if !is_ident(token.token.kind) {
+            done.push(token)?;
+            continue;
+        }
         let taken = take_step(
             alloc,
             sets,

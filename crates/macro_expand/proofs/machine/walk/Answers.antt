@@ -10,7 +10,7 @@ use Rattle.macro_expand.specs.Expansion as spec
 use Rattle.macro_expand.specs.Steps as steps
 use Rattle.macro_expand.specs.Machine as work
 use Rattle.macro_expand.specs.Numbers.{real, reals, real_args}
-use Rattle.macro_expand.proofs.WalkLemmas.{whole_kept, whole_put, whole_turns, kept_nearer}
+use Rattle.macro_expand.proofs.WalkLemmas.{whole_kept, whole_plain, whole_put, whole_turns, kept_nearer}
 use Rattle.macro_expand.proofs.machine.walk.Goals as goal
 
 pub tokens-preserved : goal.tokens-preserved
@@ -24,7 +24,7 @@ tokens-preserved c =
       grows = λ f h. c.tokens.invariant.grows f (c.in_ok-taken.ensures.grows f h);
       same = λ f h.
           whole_kept table c.args.lines.now c.tokens.progress (reals f c.tokens.done.items)
-          (reals f c.push.new.self.items) (real f c.in-Some.token) (reals f c.from_items.result)
+          (reals f c.push-in-Settled.new.self.items) (real f c.in-Some.token) (reals f c.from_items.result)
           (reals f c.tokens.rest.items) (reals f c.into_items-rest-in-Settled.result.items)
           (steps.real_step f c.in-Settled.step) (real f c.in-Some-kept.token)
           (steps.whole f table c.args.lines.now c.args.walked)
@@ -37,6 +37,20 @@ tokens-preserved c =
           (ap (reals f) c.into_items-rest-in-Settled.ensures)
           (c.tokens.invariant.same f (c.in_ok-taken.ensures.grows f h));
       fewer = omega (arith, left, c.tokens.invariant.fewer);
+    }
+
+pub tokens-preserved-then-not-is_ident : goal.tokens-preserved-then-not-is_ident
+tokens-preserved-then-not-is_ident c =
+    record {
+      grows = c.tokens.invariant.grows;
+      same = λ f h.
+          whole_plain (map.get c.args.table.now) c.args.lines.now c.tokens.progress (reals f c.tokens.done.items)
+          (reals f c.push.new.self.items) (real f c.in-Some.token) (reals f c.pop_front.new.self.items)
+          (reals f c.tokens.rest.items) (steps.whole f (map.get c.args.table.now) c.args.lines.now c.args.walked)
+          (sym c.is_ident.ensures ∙ c.if-not-is_ident.true) (ap (reals f) c.in-Some.ensures.items)
+          (ap (reals f) c.in_ok-push.ensures.items ∙ map-append (real f) c.tokens.done.items (c.in-Some.token ∷ []))
+          (c.tokens.invariant.same f h);
+      fewer = c.tokens.invariant.fewer;
     }
 
 pub returns-in_default-kept-clause-grows : goal.returns-in_default-kept-clause-grows
