@@ -18,12 +18,12 @@ abbrev pub count : List ℕ → List Marked → ℕ
 count text [] = 0
 count text (t ∷ ts) = (if is_mark text t.token then 1 else 0) + count text ts
 
--- each parenthesis that is opened in a list is closed in it
+-- as many parentheses are closed in a list as are opened
 unfoldable pub balanced : List Marked → Bool
 balanced ts = count (codes "(") ts == count (codes ")") ts
 
--- the tokens up to the parenthesis that closes the call, and that parenthesis: the first one before which each one that
--- was opened is closed (p10); some tokens stand before
+-- the tokens up to the parenthesis that closes the call, and that parenthesis: the first one before which as many are
+-- closed as opened (p10); some tokens stand before
 abbrev pub inside : List Marked → List Marked → Option (List Marked × Marked)
 inside front [] = None
 inside front (t ∷ ts) =
@@ -34,8 +34,8 @@ inside front (t ∷ ts) =
 unfoldable pub divides : MacroDef → ℕ → Bool
 divides def n = not def.variadic || nat_lt n (length (names_of def.params))
 
--- the arguments: they are parted by commas before which each parenthesis that was opened is closed (p11); of the first,
--- some tokens stand before
+-- the arguments, which commas part where as many parentheses are closed as opened (p11); of the first argument some
+-- tokens stand before
 abbrev pub arguments : MacroDef → ℕ → List Marked → List Marked → List (List Marked)
 arguments def n front [] = front ∷ []
 arguments def n front (t ∷ ts) =

@@ -18,7 +18,7 @@ taken t r = record r { current = r.current ++ t ∷ [] }
 abbrev pub parted : Reading → Reading
 parted r = record r { done = r.done ++ r.current ∷ []; current = [] }
 
--- a comma parts two arguments where no bracket is open, but for those of the variable argument
+-- a comma parts two arguments where the first parenthesis alone is open, but for those of the variable argument
 unfoldable pub parts : MacroDef → Reading → OutToken → Bool
 parts def r t =
     is_mark (codes ",") t && r.depth == 1
@@ -40,7 +40,7 @@ turn def at r t =
     else (if is_mark (codes ")") t.token then closed t r at
     else (if parts def r t.token then Goes (parted r) else Goes (taken t r))))
 
--- so many brackets are open at most
+-- so many parentheses are open at most
 abbrev pub IsWithin : Turn → ℕ → Type 0
 IsWithin (Goes r) n = r.depth ≤ n
 IsWithin (Ends called) n = Unit {0}
@@ -53,7 +53,7 @@ turned more (Ends called) = called
 abbrev pub at_end : Reading → Called
 at_end r = if r.depth == 0 then Absent else Unclosed
 
--- the tokens after the name, from a place on; brackets that are open are counted, the first among them
+-- the tokens after the name, from a place on; parentheses that are open are counted, the first among them
 abbrev pub reads : MacroDef → ℕ → Reading → List Marked → Called
 reads def at r [] = at_end r
 reads def at r (t ∷ ts) = turned (λ r'. reads def (at + 1) r' ts) (turn def at r t)

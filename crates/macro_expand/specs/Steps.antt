@@ -29,11 +29,11 @@ abbrev pub found_of : (Names → Names) → MacroDef → FoundMacro → Found
 found_of f def (macro_read.Stays p) = Stays p
 found_of f def (macro_read.Replaced p args names width) = Replaced p def (real_args f args) (f names) width
 
--- the replacement list with its arguments
+-- the replacement list with its arguments, as it is read
 abbrev pub built : Expander → Progress → Marked → MacroDef → List (List Marked) → Building
 built again p t def args = substituted again def args t.token.site 0 (begun p t.token.space_before) def.body
 
--- the replaced list is expanded anew, with the rest
+-- what was read is expanded anew, with the rest
 abbrev pub again_with : Expander → Marked → List (List ℕ) → List Marked → Building → Outcome
 again_with again t names ts b = again b.progress (spliced t names b.tokens b.space ts)
 

@@ -131,7 +131,7 @@ impl Rest {
     }
 }
 
-// What is known of a call that is being read: how many brackets are open, the arguments that are read, and the one
+// What is known of a call that is being read: how many parentheses are open, the arguments that are read, and the one
 // that is being read.
 #[derive(Debug, Drop)]
 pub(crate) struct Reading {
