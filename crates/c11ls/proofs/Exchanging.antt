@@ -2,14 +2,13 @@
 use Rattle.std.proofs.Common.{◌≡◌, ℕ, List, [], ◌∷◌, ◌++◌, drop, take, Option, None, Some, refl, sym, ap, ◌∙◌, append-nil}
 use Rattle.std.proofs.lemmas.List.Elements.{All-nil, All-cons}
 use Rattle.io_edges.specs.Store.{Entry}
-use Rattle.io_edges.specs.Wire.{Traffic}
 use Rattle.lsp_framing.specs.Frames.{frames}
 use Rattle.c_session.specs.React.{Reaction, Replies, Wants, react}
 use Rattle.c_session.specs.Message.{message}
 use Rattle.c_session.specs.Responses.{IsAnswered, IsExit}
 use Rattle.c_session.specs.State.{State, fresh}
 use Rattle.project_conf.specs.declared.options.Options.{Options}
-use Rattle.c11ls.specs.Calls.{Call, call_of, IfTold}
+use Rattle.c11ls.specs.Calls.{Call}
 use Rattle.c11ls.specs.Exchanges.{Exchange, ReplyAnswersContent, EndAtExit, StopsAt, AreAnswered, HasAnswered}
 use Rattle.c11ls.specs.Plain.{Stop, Exited, Lacks, Through, go_on, play, played, plain}
 use Rattle.c11ls.specs.Serve.{HasWritten}
@@ -113,7 +112,7 @@ pub written_answers : AreLaws → (options : Options) (ended : Status) (call : C
 written_answers laws options status.Done call is = wrote is (plain_answered laws options call.left call.answers)
 written_answers laws options status.Unclean call is = wrote is (plain_answered laws options call.left call.answers)
 written_answers laws options (status.BadFrame place kind) call is = wrote is (plain_answered laws options call.left call.answers)
-written_answers laws options status.Usage call is = is
+written_answers laws options status.Usage call is = wrote is (plain_answered laws options call.taken call.answers)
 written_answers laws options status.ReadFault call is = wrote is (plain_answered laws options call.taken call.answers)
 written_answers laws options status.LongInput call is = wrote is (plain_answered laws options call.taken call.answers)
 written_answers laws options status.StoreFault call is = wrote is.0 (plain_answered laws options call.taken call.answers)
@@ -121,12 +120,3 @@ written_answers laws options status.WriteFault call is =
     ((plain options call.left call.answers).out, plain_answered laws options call.left call.answers, is)
 written_answers laws options status.NoMemory call is =
     (is.0, wrote is.1 (play_answered laws (take is.0 (frames call.taken).contents) (fresh options) call.answers))
-
--- what follows of each call follows of the call that its ends tell
-pub told_more : (w w' : Option Traffic) (a a' : Option (List Entry)) (P Q : Call → Type 0) →
-    ((call : Call) → P call → Q call) → IfTold w w' a a' P → IfTold w w' a a' Q
-told_more (Some t) (Some t') (Some told) (Some told') P Q more h = more (call_of t t' told told') h
-told_more None w' a a' P Q more h = tt
-told_more (Some t) None a a' P Q more h = h
-told_more (Some t) (Some t') None a' P Q more h = tt
-told_more (Some t) (Some t') (Some told) None P Q more h = h

@@ -1,10 +1,13 @@
 -- Laws of the reaction to one content.
-use Rattle.std.proofs.Common.{◌≡◌, ◌≤◌, ◌+◌, ℕ, List, [], ◌∷◌, ◌++◌, length, Bool, true, false, cond, Option, None, Some, option_and_then, is_some, T, refl, sym, ap, subst, ◌∙◌, append-nil, bytes_eq, zero-add, add-zero, add_assoc, arith}
+use Rattle.std.proofs.Common.{◌≡◌, ◌≤◌, ℕ, suc, List, [], ◌∷◌, ◌++◌, length, Bool, true, false, cond, Option, None, Some, option_and_then, option_map, is_some, T, refl, sym, ap, subst, ◌∙◌, append-nil, bytes_eq, zero-add, add-zero, arith}
 use Rattle.std.proofs.lemmas.Slice.Eq.{bytes_eq-Decides}
 use Rattle.io_edges.specs.Store.{Call, Entry, Lists, Reads, ListCall, ReadCall, call_of}
-use Rattle.c_session.specs.Asking.{Asking, Gives, AsksList, AsksRead, after_one, after_all, next_call}
+use Rattle.asking.specs.Asking.{Asks}
+use Rattle.asking.specs.InTurn as turns
+use Rattle.asking.specs.InTurn.{Turn, after_one, behind_one, run}
+use Rattle.c_session.specs.Asking.{Asking, Gives, answer_in, calls, after_all, next_call}
 use Rattle.c_session.specs.Handled.{Answered, outcome}
-use Rattle.c_session.specs.React.{Outcome, Reaction, Replies, Wants, one_more, run, asks, react}
+use Rattle.c_session.specs.React.{Outcome, Reaction, Replies, Wants, reaction, asks, react}
 use Rattle.c_session.specs.State.{State}
 
 -- a store that wasn't asked answered nothing
@@ -17,23 +20,25 @@ abbrev pub used_by : Reaction → ℕ
 used_by (Replies s bytes end used) = used
 used_by (Wants call) = 0
 
-more_used : (r : Reaction) (n : ℕ) → used_by r ≤ n → used_by (one_more r) ≤ n + 1
-more_used (Replies s bytes end used) n within = omega (arith, within)
-more_used (Wants call) n within = omega arith
+more_used : (n : ℕ) (turn : Turn calls Outcome) → used_by (reaction turn) ≤ n → used_by (reaction (turns.further 1 turn)) ≤ suc n
+more_used n (turns.Gave o used) within = omega (arith, within)
+more_used n (turns.Wants call) within = omega arith
+more_used n (turns.Differs call entry) within = omega arith
 
-used_if : (b : Bool) (r : Reaction) (call : Call) (entry : Entry) (answers : List Entry) → used_by r ≤ length answers →
-    used_by (cond b (one_more r) (Wants call)) ≤ length (entry ∷ answers)
-used_if true r call entry answers within = let more = more_used r (length answers) within in omega (arith, more)
-used_if false r call entry answers within = omega arith
+used_behind : (call : Call) (entry : Entry) (answers : List Entry) (o : Option (Asking Outcome)) →
+    ((s : Asking Outcome) → used_by (reaction (run s answers)) ≤ length answers) → used_by (reaction (behind_one call entry (option_map (λ s. run s answers) o))) ≤ suc (length answers)
+used_behind call entry answers None within = omega arith
+used_behind call entry answers (Some s) within = more_used (length answers) (run s answers) (within s)
 
-run_within : (asking : Asking Outcome) (answers : List Entry) → used_by (run asking answers) ≤ length answers
-run_within (Gives o) answers = omega arith
-run_within (AsksList root f) [] = omega arith
-run_within (AsksList root f) (Lists listed found ∷ answers) = used_if (bytes_eq root listed) (run (f found) answers) (ListCall root) (Lists listed found) answers (run_within (f found) answers)
-run_within (AsksList root f) (Reads read found ∷ answers) = omega arith
-run_within (AsksRead path f) [] = omega arith
-run_within (AsksRead path f) (Lists listed found ∷ answers) = omega arith
-run_within (AsksRead path f) (Reads read found ∷ answers) = used_if (bytes_eq path read) (run (f found) answers) (ReadCall path) (Reads read found) answers (run_within (f found) answers)
+used_at : (asking : Asking Outcome) (entry : Entry) (answers : List Entry) → ((s : Asking Outcome) → used_by (reaction (run s answers)) ≤ length answers) →
+    used_by (reaction (run asking (entry ∷ answers))) ≤ suc (length answers)
+used_at (Gives o) entry answers within = omega arith
+used_at (Asks call more next) entry answers within = used_behind call entry answers (after_one (Asks call more next) entry) within
+
+run_within : (asking : Asking Outcome) (answers : List Entry) → used_by (reaction (run asking answers)) ≤ length answers
+run_within (Gives o) [] = omega arith
+run_within (Asks call more next) [] = omega arith
+run_within asking (entry ∷ answers) = used_at asking entry answers (λ s. run_within s answers)
 
 -- no more answers are used than there are
 pub used_within : (s : State) (content : List ℕ) (answers : List Entry) → used_by (react s content answers) ≤ length answers
@@ -45,32 +50,40 @@ abbrev IsReply : Reaction → Type 0
 IsReply (Replies s bytes end used) = Unit {0}
 IsReply (Wants call) = ⊥
 
-reply_before : (r : Reaction) → IsReply (one_more r) → IsReply r
-reply_before (Replies s bytes end used) is = tt
-reply_before (Wants call) is = absurd is
+reply_before : (turn : Turn calls Outcome) → IsReply (reaction (turns.further 1 turn)) → IsReply (reaction turn)
+reply_before (turns.Gave o used) is = tt
+reply_before (turns.Wants call) is = absurd is
+reply_before (turns.Differs call entry) is = absurd is
 
-stays_if : (b : Bool) (r r' : Reaction) (call : Call) → (IsReply r → r' ≡ r) → IsReply (cond b (one_more r) (Wants call)) →
-    cond b (one_more r') (Wants call) ≡ cond b (one_more r) (Wants call)
-stays_if true r r' call same is = ap one_more (same (reply_before r is))
-stays_if false r r' call same is = absurd is
+-- a run behind some answers
+run_gives : (o : Outcome) (answers : List Entry) → run {kind = calls} (Gives o) answers ≡ turns.Gave o 0
+run_gives o [] = refl
+run_gives o (entry ∷ answers) = refl
 
-run_stays : (asking : Asking Outcome) (answers more : List Entry) → IsReply (run asking answers) → run asking (answers ++ more) ≡ run asking answers
-run_stays (Gives o) answers more is = refl
-run_stays (AsksList root f) [] more is = absurd is
-run_stays (AsksList root f) (Lists listed found ∷ answers) more is =
-    stays_if (bytes_eq root listed) (run (f found) answers) (run (f found) (answers ++ more)) (ListCall root) (run_stays (f found) answers more) is
-run_stays (AsksList root f) (Reads read found ∷ answers) more is = absurd is
-run_stays (AsksRead path f) [] more is = absurd is
-run_stays (AsksRead path f) (Lists listed found ∷ answers) more is = absurd is
-run_stays (AsksRead path f) (Reads read found ∷ answers) more is =
-    stays_if (bytes_eq path read) (run (f found) answers) (run (f found) (answers ++ more)) (ReadCall path) (run_stays (f found) answers more) is
+stays_behind : (call : Call) (entry : Entry) (answers more : List Entry) (o : Option (Asking Outcome)) →
+    ((s : Asking Outcome) → IsReply (reaction (run s answers)) → run s (answers ++ more) ≡ run s answers) →
+    IsReply (reaction (behind_one call entry (option_map (λ s. run s answers) o))) →
+    behind_one call entry (option_map (λ s. run s (answers ++ more)) o) ≡ behind_one call entry (option_map (λ s. run s answers) o)
+stays_behind call entry answers more None same is = absurd is
+stays_behind call entry answers more (Some s) same is = ap (turns.further 1) (same s (reply_before (run s answers) is))
+
+stays_at : (asking : Asking Outcome) (entry : Entry) (answers more : List Entry) →
+    ((s : Asking Outcome) → IsReply (reaction (run s answers)) → run s (answers ++ more) ≡ run s answers) →
+    IsReply (reaction (run asking (entry ∷ answers))) → run asking (entry ∷ answers ++ more) ≡ run asking (entry ∷ answers)
+stays_at (Gives o) entry answers more same is = refl
+stays_at (Asks call questions next) entry answers more same is = stays_behind call entry answers more (after_one (Asks call questions next) entry) same is
+
+run_stays : (asking : Asking Outcome) (answers more : List Entry) → IsReply (reaction (run asking answers)) → run asking (answers ++ more) ≡ run asking answers
+run_stays (Gives o) [] more is = run_gives o more
+run_stays (Asks call questions next) [] more is = absurd is
+run_stays asking (entry ∷ answers) more is = stays_at asking entry answers more (λ s. run_stays s answers more) is
 
 -- further answers change no reply
 pub reply_stays : (s s' : State) (content bytes : List ℕ) (end : Option ℕ) (used : ℕ) (answers more : List Entry) →
     react s content answers ≡ Replies s' bytes end used → react s content (answers ++ more) ≡ Replies s' bytes end used
 unfolding react
 reply_stays s s' content bytes end used answers more replies =
-    run_stays (asks s content) answers more (subst IsReply (sym replies) tt) ∙ replies
+    ap reaction (run_stays (asks s content) answers more (subst IsReply (sym replies) tt)) ∙ replies
 
 -- ---- answers that were asked for in turn
 
@@ -80,62 +93,64 @@ not_some x e = absurd (subst (λ o. T (is_some o)) (sym e) tt)
 some_is : {A : Type 0} (x y : A) → Some x ≡ Some y → x ≡ y
 some_is x y same = cc
 
--- the reaction behind some more answers
-abbrev further : ℕ → Reaction → Reaction
-further n (Replies s bytes end used) = Replies s bytes end (used + n)
-further n (Wants call) = Wants call
+further_none : (turn : Turn calls Outcome) → turn ≡ turns.further 0 turn
+further_none (turns.Gave o used) = ap (turns.Gave o) (sym (zero-add used))
+further_none (turns.Wants call) = refl
+further_none (turns.Differs call entry) = refl
 
-further_none : (r : Reaction) → r ≡ further 0 r
-further_none (Replies s bytes end used) = ap (Replies s bytes end) (sym (add-zero used))
-further_none (Wants call) = refl
+one_further : (n : ℕ) (turn : Turn calls Outcome) → turns.further 1 (turns.further n turn) ≡ turns.further (suc n) turn
+one_further n (turns.Gave o used) = ap (turns.Gave o) (omega arith)
+one_further n (turns.Wants call) = refl
+one_further n (turns.Differs call entry) = refl
 
-one_further : (n : ℕ) (r : Reaction) → one_more (further n r) ≡ further (n + 1) r
-one_further n (Replies s bytes end used) = ap (Replies s bytes end) (add_assoc used n 1)
-one_further n (Wants call) = refl
+after_behind : (call : Call) (entry : Entry) (entries more : List Entry) (o : Option (Asking Outcome)) (next : Asking Outcome) →
+    ((s : Asking Outcome) → after_all s entries ≡ Some next → run s (entries ++ more) ≡ turns.further (length entries) (run next more)) →
+    option_and_then (λ s. after_all s entries) o ≡ Some next →
+    behind_one call entry (option_map (λ s. run s (entries ++ more)) o) ≡ turns.further (suc (length entries)) (run next more)
+after_behind call entry entries more None next is e = not_some next e
+after_behind call entry entries more (Some s) next is e = ap (turns.further 1) (is s e) ∙ one_further (length entries) (run next more)
 
--- what follows an answer, where it is one to the call that is asked
-after_if : (b : Bool) (middle next : Asking Outcome) (entry : Entry) (entries : List Entry) (r final : Reaction) (call : Call) →
-    (after_all middle entries ≡ Some next → r ≡ further (length entries) final) →
-    option_and_then (λ t. after_all t entries) (cond b (Some middle) None) ≡ Some next → cond b (one_more r) (Wants call) ≡ further (length (entry ∷ entries)) final
-after_if true middle next entry entries r final call is e =
-    let size : length entries + 1 ≡ length (entry ∷ entries) = omega arith in
-    ap one_more (is e) ∙ one_further (length entries) final ∙ ap (λ n. further n final) size
-after_if false middle next entry entries r final call is e = not_some next e
+after_at : (asking next : Asking Outcome) (entry : Entry) (entries more : List Entry) →
+    ((s : Asking Outcome) → after_all s entries ≡ Some next → run s (entries ++ more) ≡ turns.further (length entries) (run next more)) →
+    after_all asking (entry ∷ entries) ≡ Some next → run asking (entry ∷ entries ++ more) ≡ turns.further (suc (length entries)) (run next more)
+after_at (Gives o) next entry entries more is e = not_some next e
+after_at (Asks call questions f) next entry entries more is e = after_behind call entry entries more (after_one (Asks call questions f) entry) next is e
 
-run_after : (asking next : Asking Outcome) (added more : List Entry) → after_all asking added ≡ Some next → run asking (added ++ more) ≡ further (length added) (run next more)
+run_after : (asking next : Asking Outcome) (added more : List Entry) → after_all asking added ≡ Some next → run asking (added ++ more) ≡ turns.further (length added) (run next more)
 run_after asking next [] more e = ap (λ t. run t more) (some_is asking next e) ∙ further_none (run next more)
-run_after (Gives o) next (entry ∷ entries) more e = not_some next e
-run_after (AsksList root f) next (Lists listed found ∷ entries) more e =
-    after_if (bytes_eq root listed) (f found) next (Lists listed found) entries (run (f found) (entries ++ more)) (run next more) (ListCall root) (run_after (f found) next entries more) e
-run_after (AsksList root f) next (Reads read found ∷ entries) more e = not_some next e
-run_after (AsksRead path f) next (Lists listed found ∷ entries) more e = not_some next e
-run_after (AsksRead path f) next (Reads read found ∷ entries) more e =
-    after_if (bytes_eq path read) (f found) next (Reads read found) entries (run (f found) (entries ++ more)) (run next more) (ReadCall path) (run_after (f found) next entries more) e
+run_after asking next (entry ∷ entries) more e = after_at asking next entry entries more (λ s. run_after s next entries more) e
 
-run_wants : (asking : Asking Outcome) (call : Call) → next_call asking ≡ Some call → run asking [] ≡ Wants call
+run_wants : (asking : Asking Outcome) (call : Call) → next_call asking ≡ Some call → run asking [] ≡ turns.Wants call
 run_wants (Gives o) call e = not_some call e
-run_wants (AsksList root f) call e = ap Wants (some_is (ListCall root) call e)
-run_wants (AsksRead path f) call e = ap Wants (some_is (ReadCall path) call e)
+run_wants (Asks first questions f) call e = ap turns.Wants (some_is first call e)
 
-asked_for : (asking next : Asking Outcome) (added : List Entry) (call : Call) → after_all asking added ≡ Some next → next_call next ≡ Some call → run asking added ≡ Wants call
+asked_for : (asking next : Asking Outcome) (added : List Entry) (call : Call) → after_all asking added ≡ Some next → next_call next ≡ Some call → reaction (run asking added) ≡ Wants call
 asked_for asking next added call e wants =
-    ap (run asking) (sym (append-nil added)) ∙ run_after asking next added [] e ∙ ap (further (length added)) (run_wants next call wants)
+    ap (λ entries. reaction (run asking entries)) (sym (append-nil added)) ∙ ap reaction (run_after asking next added [] e ∙ ap (turns.further (length added)) (run_wants next call wants))
 
 -- an answer that was reached is one to the call that is asked
 is_same : (xs ys : List ℕ) → bytes_eq xs ys ≡ true → xs ≡ ys
 is_same xs ys same = (bytes_eq-Decides xs ys).0 same
 
-asked_if : (b : Bool) (xs ys : List ℕ) (middle next : Asking Outcome) (to_call : List ℕ → Call) →
-    (b ≡ true → xs ≡ ys) → cond b (Some middle) None ≡ Some next → Some (to_call xs) ≡ Some (to_call ys)
-asked_if true xs ys middle next to_call same e = ap (λ zs. Some (to_call zs)) (same refl)
-asked_if false xs ys middle next to_call same e = not_some next e
+asked_if : (b : Bool) (xs ys : List ℕ) (to_call : List ℕ → Call) {F : Type 0} (found : F) → (b ≡ true → xs ≡ ys) →
+    is_some (cond b (Some found) None) ≡ true → Some (to_call xs) ≡ Some (to_call ys)
+asked_if true xs ys to_call found same e = ap (λ zs. Some (to_call zs)) (same refl)
+asked_if false xs ys to_call found same e = absurd (subst T (sym e) tt)
+
+-- an entry that is an answer to a call is one to that call
+answer_asked : (call : Call) (entry : Entry) → is_some (answer_in call entry) ≡ true → Some call ≡ Some (call_of entry)
+answer_asked (ListCall root) (Lists listed found) e = asked_if (bytes_eq root listed) root listed ListCall found (is_same root listed) e
+answer_asked (ListCall root) (Reads read found) e = absurd (subst T (sym e) tt)
+answer_asked (ReadCall path) (Lists listed found) e = absurd (subst T (sym e) tt)
+answer_asked (ReadCall path) (Reads read found) e = asked_if (bytes_eq path read) path read ReadCall found (is_same path read) e
+
+some_mapped : {A B : Type 0} (f : A → B) (o : Option A) (x : B) → option_map f o ≡ Some x → is_some o ≡ true
+some_mapped f None x e = not_some x e
+some_mapped f (Some a) x e = refl
 
 answers_asked : (asking next : Asking Outcome) (entry : Entry) → after_one asking entry ≡ Some next → next_call asking ≡ Some (call_of entry)
 answers_asked (Gives o) next entry e = not_some next e
-answers_asked (AsksList root f) next (Lists listed found) e = asked_if (bytes_eq root listed) root listed (f found) next ListCall (is_same root listed) e
-answers_asked (AsksList root f) next (Reads read found) e = not_some next e
-answers_asked (AsksRead path f) next (Lists listed found) e = not_some next e
-answers_asked (AsksRead path f) next (Reads read found) e = asked_if (bytes_eq path read) path read (f found) next ReadCall (is_same path read) e
+answers_asked (Asks call questions f) next entry e = answer_asked call entry (some_mapped _ (answer_in call entry) next e)
 
 -- what is asked between two answers
 record Between (asking : Asking Outcome) (before : List Entry) (entry : Entry) : Type 0 where
@@ -148,24 +163,18 @@ first_of : (asking next : Asking Outcome) (o : Option (Asking Outcome)) (entry :
 first_of asking next None entry behind is e = not_some next e
 first_of asking next (Some middle) entry behind is e = record { middle = asking; reached = refl; asked = answers_asked asking middle entry is }
 
-between_if : (asking : Asking Outcome) (b : Bool) (middle next : Asking Outcome) (first : Entry) (before : List Entry) (entry : Entry) (behind : List Entry) →
-    after_one asking first ≡ cond b (Some middle) None →
-    (after_all middle (before ++ entry ∷ behind) ≡ Some next → Between middle before entry) →
-    option_and_then (λ t. after_all t (before ++ entry ∷ behind)) (cond b (Some middle) None) ≡ Some next → Between asking (first ∷ before) entry
-between_if asking true middle next first before entry behind is inner e =
-    let found = inner e in
+between_at : (asking next : Asking Outcome) (o : Option (Asking Outcome)) (first : Entry) (before : List Entry) (entry : Entry) (behind : List Entry) →
+    after_one asking first ≡ o → ((middle : Asking Outcome) → after_all middle (before ++ entry ∷ behind) ≡ Some next → Between middle before entry) →
+    option_and_then (λ t. after_all t (before ++ entry ∷ behind)) o ≡ Some next → Between asking (first ∷ before) entry
+between_at asking next None first before entry behind is inner e = not_some next e
+between_at asking next (Some middle) first before entry behind is inner e =
+    let found = inner middle e in
     record { middle = found.middle; reached = ap (option_and_then (λ t. after_all t before)) is ∙ found.reached; asked = found.asked }
-between_if asking false middle next first before entry behind is inner e = not_some next e
 
 between : (asking next : Asking Outcome) (before : List Entry) (entry : Entry) (behind : List Entry) → after_all asking (before ++ entry ∷ behind) ≡ Some next → Between asking before entry
 between asking next [] entry behind e = first_of asking next (after_one asking entry) entry behind refl e
-between (Gives o) next (first ∷ before) entry behind e = not_some next e
-between (AsksList root f) next (Lists listed found ∷ before) entry behind e =
-    between_if (AsksList root f) (bytes_eq root listed) (f found) next (Lists listed found) before entry behind refl (between (f found) next before entry behind) e
-between (AsksList root f) next (Reads read found ∷ before) entry behind e = not_some next e
-between (AsksRead path f) next (Lists listed found ∷ before) entry behind e = not_some next e
-between (AsksRead path f) next (Reads read found ∷ before) entry behind e =
-    between_if (AsksRead path f) (bytes_eq path read) (f found) next (Reads read found) before entry behind refl (between (f found) next before entry behind) e
+between asking next (first ∷ before) entry behind e =
+    between_at asking next (after_one asking first) first before entry behind refl (λ middle. between middle next before entry behind) e
 
 -- ---- what was reached
 
@@ -174,8 +183,8 @@ pub handled_reacts : (s s' : State) (content bytes : List ℕ) (end : Option ℕ
     after_all (asks s content) added ≡ Some (Gives (outcome s' bytes end)) → react s content added ≡ Replies s' bytes end (length added)
 unfolding react
 handled_reacts s s' content bytes end added e =
-    ap (run (asks s content)) (sym (append-nil added)) ∙ run_after (asks s content) (Gives (outcome s' bytes end)) added [] e
-    ∙ ap (Replies s' bytes end) (zero-add (length added))
+    ap (λ entries. reaction (run (asks s content) entries)) (sym (append-nil added)) ∙
+    ap reaction (run_after (asks s content) (Gives (outcome s' bytes end)) added [] e) ∙ ap (Replies s' bytes end) (add-zero (length added))
 
 -- the call that the reaction wants behind what was reached
 pub failed_wants : (s : State) (content : List ℕ) (next : Asking Outcome) (added : List Entry) (call : Call) →

@@ -9,7 +9,7 @@ use Rattle.project_conf.specs.declared.options.Options.{Options}
 use Rattle.c_session.specs.State.{fresh}
 use Rattle.c11ls.specs.Calls.{Call}
 use Rattle.c11ls.specs.Plain.{Stop, Exited, Lacks, Through, play, played}
-use Rattle.c11ls.specs.Serve.{Begins}
+use Rattle.c11ls.specs.Serve.{Begins, input_of}
 use Rattle.c11ls.specs.declared.status.Status.{Status}
 use Rattle.c11ls.specs.declared.status.Status.TheVariants as status
 
@@ -57,18 +57,12 @@ pub record AreAnswered (contents : List (List ℕ)) (stop : Stop) (out : List �
 abbrev pub Answer : Options → List ℕ → Call → List ℕ → Type 0
 Answer options input call out = AreAnswered (frames input).contents (played options input call.answers).stop out
 
--- What the sink got answers all that the source had left, or what was taken where the call ended early; at a fault of
--- the sink it is a front of what does, and for want of memory it answers all messages up to some one.
+-- What the sink got answers the input that the status reads; at a fault of the sink it is a front of what does, and for
+-- want of memory it answers all messages up to some one.
 abbrev pub HasAnswered : Options → Status → Call → Type 0
-HasAnswered options status.Done call = Answer options call.left call call.out
-HasAnswered options status.Unclean call = Answer options call.left call call.out
-HasAnswered options (status.BadFrame place kind) call = Answer options call.left call call.out
-HasAnswered options status.Usage call = call.out ≡ []
-HasAnswered options status.ReadFault call = Answer options call.taken call call.out
-HasAnswered options status.LongInput call = Answer options call.taken call call.out
-HasAnswered options status.StoreFault call = Answer options call.taken call call.out
 HasAnswered options status.WriteFault call =
     (whole : List ℕ) × Answer options call.left call whole × Begins call.out whole
 HasAnswered options status.NoMemory call =
     (n : ℕ) × AreAnswered (take n (frames call.taken).contents)
     (play (take n (frames call.taken).contents) (fresh options) call.answers).stop call.out
+HasAnswered options ended call = Answer options (input_of ended call) call call.out

@@ -5,5 +5,6 @@ pub mod Going
 pub mod Lines
 pub mod Plain
 pub mod Serve
+pub mod Served
 pub mod Turn
 pub mod Words

@@ -1,12 +1,11 @@
 -- What serving a client promises, by the status that it ends with.
-use Rattle.std.specs.Prelude.{◌≡◌, ◌⊎◌, ◌≤◌, ◌<◌, ◌^◌, ℕ, List, [], ◌∷◌, ◌++◌, take, length}
+use Rattle.std.specs.Prelude.{◌≡◌, ◌≤◌, ◌^◌, ℕ, List, [], ◌∷◌, ◌++◌, take, length}
 use Rattle.io_edges.specs.Store.{Entry, call_of}
 use Rattle.io_edges.specs.declared.ends.Mark.{Mark}
 use Rattle.lsp_framing.specs.Frames.{frames}
 use Rattle.lsp_framing.specs.Standing.{IsEmptyOrOpen}
-use Rattle.lsp_framing.specs.declared.FrameKind.{FrameKind}
 use Rattle.c11ls.specs.Calls.{Call}
-use Rattle.c11ls.specs.Plain.{Stop, Exited, Lacks, Through, Verdict, Done, Unclean, Faulty, Waiting, play, played, plain}
+use Rattle.c11ls.specs.Plain.{Stop, Exited, Lacks, Through, Plain, Done, Unclean, Faulty, Waiting, play, played, plain}
 use Rattle.project_conf.specs.declared.options.Options.{Options}
 use Rattle.c_session.specs.State.{fresh}
 use Rattle.c11ls.specs.declared.status.Status.{Status}
@@ -20,31 +19,31 @@ Begins front bytes = (more : List ℕ) × (bytes ≡ front ++ more)
 abbrev pub AreReplies : Options → List ℕ → List Entry → List ℕ → Type 0
 AreReplies options bytes answers out = (n : ℕ) × (out ≡ (play (take n (frames bytes).contents) (fresh options) answers).out)
 
--- What the sink got: the bytes of the plain server, for all that the source had left, or for what was taken where the
--- call ended early; at a fault of the sink a front of them, and for want of memory the whole replies up to some message.
+-- what a status reads of the input: all that the source had left, or what was taken where the call ended early
+abbrev pub input_of : Status → Call → List ℕ
+input_of status.Done call = call.left
+input_of status.Unclean call = call.left
+input_of (status.BadFrame place kind) call = call.left
+input_of status.WriteFault call = call.left
+input_of _ call = call.taken
+
+-- the plain server on that input, with the store's answers of the call
+abbrev pub plain_on : Options → Status → Call → Plain
+plain_on options ended call = plain options (input_of ended call) call.answers
+
+-- What the sink got: the bytes of the plain server; at a fault of the sink a front of them, and for want of memory the
+-- whole replies up to some message.
 abbrev pub HasWritten : Options → Status → Call → Type 0
-HasWritten options status.Done call = call.out ≡ (plain options call.left call.answers).out
-HasWritten options status.Unclean call = call.out ≡ (plain options call.left call.answers).out
-HasWritten options (status.BadFrame place kind) call = call.out ≡ (plain options call.left call.answers).out
-HasWritten options status.Usage call = call.out ≡ []
-HasWritten options status.ReadFault call = call.out ≡ (plain options call.taken call.answers).out
-HasWritten options status.LongInput call = call.out ≡ (plain options call.taken call.answers).out
-HasWritten options status.StoreFault call =
-    (call.out ≡ (plain options call.taken call.answers).out) × ((plain options call.taken call.answers).verdict ≡ Waiting)
-HasWritten options status.WriteFault call = Begins call.out (plain options call.left call.answers).out
+HasWritten options status.StoreFault call = (call.out ≡ (plain_on options status.StoreFault call).out) × ((plain_on options status.StoreFault call).verdict ≡ Waiting)
+HasWritten options status.WriteFault call = Begins call.out (plain_on options status.WriteFault call).out
 HasWritten options status.NoMemory call = AreReplies options call.taken call.answers call.out
+HasWritten options ended call = call.out ≡ (plain_on options ended call).out
 
 -- All answers of the store were used, but for the message in which the call ended early.
 abbrev pub HasUsed : Options → Status → Call → Type 0
-HasUsed options status.Done call = (plain options call.left call.answers).used ≡ length call.answers
-HasUsed options status.Unclean call = (plain options call.left call.answers).used ≡ length call.answers
-HasUsed options (status.BadFrame place kind) call = (plain options call.left call.answers).used ≡ length call.answers
-HasUsed options status.Usage call = call.answers ≡ []
-HasUsed options status.ReadFault call = (plain options call.taken call.answers).used ≡ length call.answers
-HasUsed options status.LongInput call = (plain options call.taken call.answers).used ≡ length call.answers
-HasUsed options status.StoreFault call = (plain options call.taken call.answers).used ≤ length call.answers
-HasUsed options status.WriteFault call = (plain options call.left call.answers).used ≡ length call.answers
+HasUsed options status.StoreFault call = (plain_on options status.StoreFault call).used ≤ length call.answers
 HasUsed options status.NoMemory call = Unit {0}
+HasUsed options ended call = (plain_on options ended call).used ≡ length call.answers
 
 -- the play went through all contents: no `exit` was met, and no answer of the store was wanted
 abbrev pub IsThrough : Stop → Type 0
@@ -70,13 +69,7 @@ pub record WouldGoOn (options : Options) (taken : List ℕ) (answers : List Entr
 abbrev pub HadNoEnd : Options → Status → Call → Type 0
 HadNoEnd options status.ReadFault call = WouldGoOn options call.taken call.answers
 HadNoEnd options status.LongInput call = WouldGoOn options call.taken call.answers
-HadNoEnd options status.Done call = Unit {0}
-HadNoEnd options status.Unclean call = Unit {0}
-HadNoEnd options (status.BadFrame place kind) call = Unit {0}
-HadNoEnd options status.Usage call = Unit {0}
-HadNoEnd options status.WriteFault call = Unit {0}
-HadNoEnd options status.StoreFault call = Unit {0}
-HadNoEnd options status.NoMemory call = Unit {0}
+HadNoEnd options _ call = Unit {0}
 
 abbrev pub EachPrompt : Options → List ℕ → List ℕ → List Entry → List Mark → Type 0
 EachPrompt options taken out answers [] = Unit {0}
@@ -93,34 +86,10 @@ EachWanted options taken answers = (before : List Entry) (entry : Entry) (behind
 abbrev pub AreWanted : Options → Call → Type 0
 AreWanted options call = EachWanted options call.taken call.answers
 
--- the verdict of the plain server on all that the source had left
-abbrev pub verdict_on : Options → Call → Verdict
-verdict_on options call = (plain options call.left call.answers).verdict
-
--- the status that the verdict of the plain server asks for
-abbrev pub IsStatusOf : Status → Verdict → Type 0
-IsStatusOf status.Done verdict = verdict ≡ Done
-IsStatusOf status.Unclean verdict = verdict ≡ Unclean
-IsStatusOf (status.BadFrame place kind) verdict = verdict ≡ Faulty place kind
-IsStatusOf status.Usage verdict = ⊥
-IsStatusOf status.ReadFault verdict = ⊥
-IsStatusOf status.WriteFault verdict = ⊥
-IsStatusOf status.StoreFault verdict = ⊥
-IsStatusOf status.NoMemory verdict = ⊥
-IsStatusOf status.LongInput verdict = ⊥
-
--- a fact of the place and the kind of a faulty frame
-abbrev pub IfBadFrame : Status → (ℕ → FrameKind → Type 0) → Type 0
-IfBadFrame (status.BadFrame place kind) P = P place kind
-IfBadFrame status.Done P = Unit {0}
-IfBadFrame status.Unclean P = Unit {0}
-IfBadFrame status.Usage P = Unit {0}
-IfBadFrame status.ReadFault P = Unit {0}
-IfBadFrame status.WriteFault P = Unit {0}
-IfBadFrame status.StoreFault P = Unit {0}
-IfBadFrame status.NoMemory P = Unit {0}
-IfBadFrame status.LongInput P = Unit {0}
-
--- Where fewer than 2^62 bytes were taken, the status is that of the plain server's verdict, or memory was wanted.
-abbrev pub IsComplete : Options → Status → Call → Type 0
-IsComplete options ended call = length call.taken < 2 ^ 62 → IsStatusOf ended (verdict_on options call) ⊎ (ended ≡ status.NoMemory)
+-- The verdict of the plain server that a status tells; a long input is one of which 2^62 bytes were taken.
+abbrev pub HasVerdict : Options → Status → Call → Type 0
+HasVerdict options status.Done call = (plain_on options status.Done call).verdict ≡ Done
+HasVerdict options status.Unclean call = (plain_on options status.Unclean call).verdict ≡ Unclean
+HasVerdict options (status.BadFrame place kind) call = (plain_on options (status.BadFrame place kind) call).verdict ≡ Faulty place kind
+HasVerdict options status.LongInput call = 2 ^ 62 ≤ length call.taken
+HasVerdict options _ call = Unit {0}

@@ -11,8 +11,6 @@ mod run;
 mod serve;
 mod status;
 #[cfg(test)]
-mod talks;
-#[cfg(test)]
 mod tests;
 mod turn;
 mod writing;

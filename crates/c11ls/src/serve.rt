@@ -1,12 +1,10 @@
 // The server's top call: from the words of the command line to the status of the process.
 ghost use Rattle.std.specs.Prelude.{◌≡◌, ◌⊎◌, ◌↔◌, ◌+◌, ◌<◌, ◌≤◌, ◌^◌, length, true, false};
-ghost use Rattle.c11ls.specs.Calls.{IfTold, IfToldAddsUp};
+ghost use Rattle.c11ls.specs.Calls.{IfTold};
 ghost use Rattle.c11ls.specs.Codes.{line_of};
-ghost use Rattle.c11ls.specs.Exchanges.{HasAnswered};
 ghost use Rattle.c11ls.specs.Going.{Ended};
 ghost use Rattle.c11ls.specs.Lines.{WritesLine};
-ghost use Rattle.c11ls.specs.Plain.{Done, Unclean, Faulty};
-ghost use Rattle.c11ls.specs.Serve.{HadNoEnd, HasWritten, HasUsed, ArePrompt, AreWanted, IfBadFrame, IsComplete, verdict_on};
+ghost use Rattle.c11ls.specs.Served.{Served};
 ghost use Rattle.c11ls.specs.Turn.{IsCounted};
 ghost use Rattle.c11ls.specs.Words.{texts, are_grammatical, serves, options_of};
 ghost use Rattle.std.specs.Prelude.{Some};
@@ -79,57 +77,19 @@ pub fn serve<W: Wire, E: Sink, D: Store, L: Ledger>(
     ensures untouched { are_grammatical (texts words.now) ≡ false → (W.told wire.new ≡ W.told wire.old) × (D.answers store.new ≡ D.answers store.old)
         × (W.read_faults wire.new ≡ W.read_faults wire.old) × (W.write_faults wire.new ≡ W.write_faults wire.old) × (D.faults store.new ≡ D.faults store.old) }
 
-    // What was left is what was taken and what is left now; what was written and answered stands behind what was there.
-    ensures consumed { serves (texts words.now) ≡ true → IfToldAddsUp (W.told wire.old) (W.told wire.new) (D.answers store.old) (D.answers store.new) }
-
-    // The bytes that the sink got are those of the plain server.
-    ensures written { serves (texts words.now) ≡ true → IfTold (W.told wire.old) (W.told wire.new) (D.answers store.old) (D.answers store.new)
-        (HasWritten (options_of (texts words.now)) result) }
-
-    // They are the replies to the contents that were handled, in order: one response for each request, none for a notification.
-    ensures responded { serves (texts words.now) ≡ true → IfTold (W.told wire.old) (W.told wire.new) (D.answers store.old) (D.answers store.new)
-        (HasAnswered (options_of (texts words.now)) result) }
-
-    // The store's answers were all used, but for the message in which the call ended early.
-    ensures answers { serves (texts words.now) ≡ true → IfTold (W.told wire.old) (W.told wire.new) (D.answers store.old) (D.answers store.new)
-        (HasUsed (options_of (texts words.now)) result) }
-
-    // Each answer of the store was wanted by the plain server with the answers before it, whatever the status.
-    ensures wanted { serves (texts words.now) ≡ true → IfTold (W.told wire.old) (W.told wire.new) (D.answers store.old) (D.answers store.new)
-        (AreWanted (options_of (texts words.now))) }
-
-    // Each reply was written before more was read, and nothing was read after the end.
-    ensures marks { serves (texts words.now) ≡ true → IfTold (W.told wire.old) (W.told wire.new) (D.answers store.old) (D.answers store.new)
-        (ArePrompt (options_of (texts words.now))) }
-
-    // The statuses, by the verdict of the plain server.
-    ensures done { serves (texts words.now) ≡ true → result ≡ Status.Done → IfTold (W.told wire.old) (W.told wire.new) (D.answers store.old) (D.answers store.new)
-        (λ call. verdict_on (options_of (texts words.now)) call ≡ Done) }
-    ensures unclean { serves (texts words.now) ≡ true → result ≡ Status.Unclean → IfTold (W.told wire.old) (W.told wire.new) (D.answers store.old) (D.answers store.new)
-        (λ call. verdict_on (options_of (texts words.now)) call ≡ Unclean) }
-    ensures bad_frame { serves (texts words.now) ≡ true → IfBadFrame result (λ place kind. IfTold (W.told wire.old) (W.told wire.new) (D.answers store.old) (D.answers store.new)
-        (λ call. verdict_on (options_of (texts words.now)) call ≡ Faulty place kind)) }
-    ensures long_input { serves (texts words.now) ≡ true → result ≡ Status.LongInput → IfTold (W.told wire.old) (W.told wire.new) (D.answers store.old) (D.answers store.new)
-        (λ call. 2 ^ 62 ≤ length call.taken) }
-
-    // Where the source failed, or 2^62 bytes were taken, no `exit` was met before and what stood wasn't faulty.
-    ensures no_end { serves (texts words.now) ≡ true → IfTold (W.told wire.old) (W.told wire.new) (D.answers store.old) (D.answers store.new)
-        (HadNoEnd (options_of (texts words.now)) result) }
+    // What the ends got and gave, where the wire tells it: the bytes written are those of the plain server.
+    ensures served { serves (texts words.now) ≡ true → IfTold (W.told wire.old) (W.told wire.new)
+        (Served (options_of (texts words.now)) result (D.answers store.old) (D.answers store.new)) }
 
     // A fault: exactly where the count of that very end rose.
     ensures read_fault { (result ≡ Status.ReadFault) ↔ (W.read_faults wire.old < W.read_faults wire.new) }
     ensures write_fault { (result ≡ Status.WriteFault) ↔ (W.write_faults wire.old < W.write_faults wire.new) }
     ensures store_fault { (result ≡ Status.StoreFault) ↔ (D.faults store.old < D.faults store.new) }
 
-    // Where no count rose and fewer than 2^62 bytes were taken: the status of the verdict, or memory was wanted.
-    ensures complete { serves (texts words.now) ≡ true → W.read_faults wire.new ≡ W.read_faults wire.old → W.write_faults wire.new ≡ W.write_faults wire.old
-        → D.faults store.new ≡ D.faults store.old → IfTold (W.told wire.old) (W.told wire.new) (D.answers store.old) (D.answers store.new)
-        (IsComplete (options_of (texts words.now)) result) }
-
     // The error sink got the status's line, or a front of it where its count rose, and nothing else.
     ensures line { WritesLine (line_of result) (E.written errs.old) (E.written errs.new) (E.faults errs.old) (E.faults errs.new) }
 {
-    // laws, for `responded`
+    // laws, for what answers each content
     requests_are_answered();
     exits_alone_end();
     let status = answer(alloc, words, wire, store, steps);

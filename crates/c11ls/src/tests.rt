@@ -3,9 +3,6 @@ ghost use Rattle.std.specs.Prelude.{◌≡◌, ◌<◌};
 
 use crate::serve::serve;
 use crate::status::Status;
-use crate::talks::{
-    DOCUMENTS, FOLDER, IN_UTF_8, IN_UTF_16, IN_UTF_32, PHASES, REFUSALS, UNREADABLE,
-};
 use io_edges::{MemSink, MemStore, MemWire};
 use lsp_framing::FrameKind;
 use std::alloc::{AllocError, Global};
@@ -31,16 +28,6 @@ type Files = &'static [(&'static str, &'static [u8])];
 
 /// A root with two sources.
 const SOURCES: Files = &[("/p/b.c", b"@"), ("/p/a.c", b"/*")];
-
-/// Sources, files whose text is shown nowhere, and files that aren't read.
-const TREE: Files = &[
-    ("/p/b.c", b"@"),
-    ("/p/a.c", b"/*"),
-    ("/p/c.txt", b"@"),
-    ("/p/h.h", b"@"),
-    ("/p/compile_commands.json", b"[]"),
-    ("/q/z.c", b"@"),
-];
 
 /// A client's bytes, the size of the pieces in which they come, the reads that fail, the bytes that the sink takes in a
 /// call, its calls that fail, the files of the store, and its reads that fail.
@@ -127,13 +114,23 @@ const WHOLE: Client<'static> = Client {
 
 /// A whole number of replies, or a front of them, as the rows of a table: the client, the status, what is written, the
 /// line.
-fn rows() -> [(Client<'static>, Status, &'static [u8], &'static str); 11] {
+fn rows() -> [(Client<'static>, Status, &'static [u8], &'static str); 12] {
     let cut = "c11ls: bad frame at byte 291: Cut\n";
     let behind = HANDSHAKE.split_at(HANDSHAKE.len() - 55).0;
     let whole = HANDSHAKE.split_at(HANDSHAKE.len() - 1).0;
     [
         (WHOLE, Status::Done, REPLIES, ""),
         (Client { piece: 1, ..WHOLE }, Status::Done, REPLIES, ""),
+        (
+            Client {
+                piece: 7,
+                most: 3,
+                ..WHOLE
+            },
+            Status::Done,
+            REPLIES,
+            "",
+        ),
         (
             Client {
                 bytes: behind,
@@ -259,82 +256,6 @@ fn takes_no_words(rt: HostRuntime) -> Result<(), Fail> {
             found.line.as_slice(),
             b"c11ls: usage: c11ls [--include LIST] [--define LIST] [--generate N]\n".as_slice()
         );
-    }
-    Ok(())
-}
-
-/// Adds a content behind its header.
-fn push_frame(alloc: Global, out: &mut Vec<u8>, content: &str) -> Result<(), AllocError> {
-    let size = content.len();
-    let header = format!(in alloc; "Content-Length: {size}\r\n\r\n")?;
-    out.extend_from_slice(header.as_bytes())?;
-    out.extend_from_slice(content.as_bytes())?;
-    Ok(())
-}
-
-/// What one side says in a conversation, in frames.
-fn said_by(alloc: Global, side: &str, talk: &str) -> Result<Vec<u8>, AllocError> {
-    let mut out = Vec::new(alloc);
-    for line in talk.lines() {
-        if let Some(content) = line.strip_prefix(side) {
-            push_frame(alloc, &mut out, content)?;
-        }
-    }
-    Ok(out)
-}
-
-/// Each conversation, with the files of the store.
-fn talks() -> [(&'static str, Files); 8] {
-    [
-        (DOCUMENTS, &[]),
-        (REFUSALS, &[]),
-        (PHASES, &[]),
-        (IN_UTF_8, &[]),
-        (IN_UTF_16, &[]),
-        (IN_UTF_32, &[]),
-        (FOLDER, TREE),
-        (UNREADABLE, &[("/p/a.c", b"\xff")]),
-    ]
-}
-
-#[test]
-fn keeps_to_the_protocol(rt: HostRuntime) -> Result<(), Fail> {
-    let alloc = rt.alloc();
-    for (talk, files) in talks() {
-        let asked = said_by(alloc, "> ", talk)?;
-        let answered = said_by(alloc, "< ", talk)?;
-        let client = Client {
-            bytes: asked.as_slice(),
-            files,
-            ..WHOLE
-        };
-        let found = played::<Brand>(alloc, Blank::new(1), &[], client)?;
-        assert!(rt; found.is_some());
-        if let Some(found) = found {
-            assert_eq!(rt; found.written.as_slice(), answered.as_slice());
-            assert_eq!(rt; found.status, Status::Done);
-            assert!(rt; found.line.is_empty());
-        }
-    }
-    Ok(())
-}
-
-#[test]
-fn takes_a_conversation_in_small_pieces(rt: HostRuntime) -> Result<(), Fail> {
-    let alloc = rt.alloc();
-    let asked = said_by(alloc, "> ", PHASES)?;
-    let answered = said_by(alloc, "< ", PHASES)?;
-    let client = Client {
-        bytes: asked.as_slice(),
-        piece: 7,
-        most: 3,
-        ..WHOLE
-    };
-    let found = played::<Brand>(alloc, Blank::new(1), &[], client)?;
-    assert!(rt; found.is_some());
-    if let Some(found) = found {
-        assert_eq!(rt; found.written.as_slice(), answered.as_slice());
-        assert_eq!(rt; found.status, Status::Done);
     }
     Ok(())
 }

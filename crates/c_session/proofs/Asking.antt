@@ -4,7 +4,9 @@ use Rattle.std.proofs.lemmas.Slice.Eq.{bytes_eq-Decides}
 use Rattle.io_edges.specs.Store.{Call, Entry, Lists, Reads, ReadCall, after_answer}
 use Rattle.io_edges.specs.declared.ends.Listed.{Listed}
 use Rattle.io_edges.specs.declared.ends.Found.{Found}
-use Rattle.c_session.specs.Asking.{Asking, Gives, AsksList, AsksRead, and_then, after_one, after_all, next_call}
+use Rattle.asking.specs.Asking.{Answers, Asks, asks_all}
+use Rattle.asking.specs.InTurn.{after_one}
+use Rattle.c_session.specs.Asking.{Asking, Gives, Answer, answer_in, calls, asks_list, asks_read, and_then, after_all, next_call}
 use Rattle.c_session.specs.Handled.{Answered, Reached, GaveUp, IsFault, Refused}
 use Rattle.c_session.specs.declared.error.SessionError.{SessionError}
 use Rattle.c_session.specs.declared.error.SessionError.TheVariants.{StoreFault, NoMemory}
@@ -31,17 +33,21 @@ after_append t next [] ys e = ap (λ o. follows o ys) e
 after_append t next (x ∷ xs) ys e = append_behind (after_one t x) next xs ys (λ s. after_append s next xs ys) e
 
 -- an answer moves what asks and then goes on as it moves what asks
-moved : {A B : Type 0} (k : A → Asking B) (b : Bool) (s next : Asking A) → cond b (Some s) None ≡ Some next → cond b (Some (and_then s k)) None ≡ Some (and_then next k)
-moved k true s next e = ap (option_map (λ t. and_then t k)) e
-moved k false s next e = not_some next e
+all_then : {A B : Type 0} (more : List Call) (f : Answers calls more → Asking A) (k : A → Asking B) →
+    and_then (asks_all more f) k ≡ asks_all more (λ answers. and_then (f answers) k)
+all_then [] f k = refl
+all_then (call ∷ more) f k = refl
+
+moved : {A B : Type 0} (call : Call) (more : List Call) (f : Answers calls (call ∷ more) → Asking A) (k : A → Asking B) (o : Option (Answer call)) (next : Asking A) →
+    option_map (λ a. asks_all {kind = calls} more (λ answers. f (a, answers))) o ≡ Some next →
+    option_map (λ a. asks_all {kind = calls} more (λ answers. and_then (f (a, answers)) k)) o ≡ Some (and_then next k)
+moved call more f k None next e = not_some next e
+moved call more f k (Some a) next e = ap Some (sym (all_then more (λ answers. f (a, answers)) k)) ∙ ap (option_map (λ t. and_then t k)) e
 
 one_then : {A B : Type 0} (t : Asking A) (k : A → Asking B) (x : Entry) (next : Asking A) →
     after_one t x ≡ Some next → after_one (and_then t k) x ≡ Some (and_then next k)
 one_then (Gives a) k x next e = not_some next e
-one_then (AsksList root f) k (Lists listed found) next e = moved k (bytes_eq root listed) (f found) next e
-one_then (AsksList root f) k (Reads read found) next e = not_some next e
-one_then (AsksRead path f) k (Lists listed found) next e = not_some next e
-one_then (AsksRead path f) k (Reads read found) next e = moved k (bytes_eq path read) (f found) next e
+one_then (Asks call more f) k x next e = moved call more f k (answer_in call x) next e
 
 then_behind : {A B : Type 0} (t : Asking A) (o : Option (Asking A)) (next : Asking A) (k : A → Asking B) (x : Entry) (xs : List Entry) →
     ((s : Asking A) → after_all s xs ≡ Some next → after_all (and_then s k) xs ≡ Some (and_then next k)) →
@@ -88,19 +94,19 @@ goes_then t next old new k r = record { added = r.added; answered = r.answered; 
 
 -- the store answered what was asked
 pub was_read : {A : Type 0} (path : List ℕ) (f : Found → Asking A) (found : Found) (old new : Option (List Entry)) →
-    new ≡ option_map (after_answer (Reads path found)) old → Reached (AsksRead path f) (f found) old new
+    new ≡ option_map (after_answer (Reads path found)) old → Reached (asks_read path f) (f found) old new
 was_read path f found old new is = record {
   added = Reads path found ∷ [];
   answered = is;
-  follows = ap (λ b. option_and_then (λ s. after_all s []) (cond b (Some (f found)) None)) (bytes_same path);
+  follows = ap (λ b. option_and_then (λ s. after_all {kind = calls} s []) (option_map f (cond b (Some found) None))) (bytes_same path);
 }
 
 pub was_listed : {A : Type 0} (root : List ℕ) (f : List Listed → Asking A) (found : List Listed) (old new : Option (List Entry)) →
-    new ≡ option_map (after_answer (Lists root found)) old → Reached (AsksList root f) (f found) old new
+    new ≡ option_map (after_answer (Lists root found)) old → Reached (asks_list root f) (f found) old new
 was_listed root f found old new is = record {
   added = Lists root found ∷ [];
   answered = is;
-  follows = ap (λ b. option_and_then (λ s. after_all s []) (cond b (Some (f found)) None)) (bytes_same root);
+  follows = ap (λ b. option_and_then (λ s. after_all {kind = calls} s []) (option_map f (cond b (Some found) None))) (bytes_same root);
 }
 
 -- ---- what was refused
@@ -116,8 +122,7 @@ refused_on t middle old between new faults faults' NoMemory r h = (h.0, record {
 
 asked_then : {A B : Type 0} (t : Asking A) (k : A → Asking B) (call : Call) → next_call t ≡ Some call → next_call (and_then t k) ≡ Some call
 asked_then (Gives x) k call e = not_some call e
-asked_then (AsksList root f) k call e = e
-asked_then (AsksRead path f) k call e = e
+asked_then (Asks first more f) k call e = e
 
 pub refused_then : {A B : Type 0} (t : Asking A) (old new : Option (List Entry)) (faults faults' : ℕ) (k : A → Asking B) (e : SessionError) →
     Refused e t old new faults faults' → Refused e (and_then t k) old new faults faults'
@@ -147,15 +152,15 @@ wanted_memory t next e old new faults faults' is r kept =
 
 -- the store was asked at once, and refused
 pub read_stops : {A : Type 0} (path : List ℕ) (f : Found → Asking A) (e : SessionError) (old new : Option (List Entry)) (faults faults' : ℕ) →
-    new ≡ old → IsFault e faults faults' → Refused e (AsksRead path f) old new faults faults'
+    new ≡ old → IsFault e faults faults' → Refused e (asks_read path f) old new faults faults'
 read_stops path f e old new faults faults' same fault =
-    stopped_at (AsksRead path f) (AsksRead path f) (ReadCall path) e old old new faults faults faults' (stays (AsksRead path f) old) refl same refl fault
+    stopped_at (asks_read path f) (asks_read path f) (ReadCall path) e old old new faults faults faults' (stays (asks_read path f) old) refl same refl fault
 
 -- the answer gave this
 pub read_gives : {A : Type 0} (path : List ℕ) (f : Found → A) (found : Found) (x : A) (old new : Option (List Entry)) →
-    new ≡ option_map (after_answer (Reads path found)) old → x ≡ f found → Reached (AsksRead path (λ o. Gives (f o))) (Gives x) old new
+    new ≡ option_map (after_answer (Reads path found)) old → x ≡ f found → Reached (asks_read path (λ o. Gives (f o))) (Gives x) old new
 read_gives path f found x old new read is =
-    subst (λ y. Reached (AsksRead path (λ o. Gives (f o))) (Gives y) old new) (sym is) (was_read path (λ o. Gives (f o)) found old new read)
+    subst (λ y. Reached (asks_read path (λ o. Gives (f o))) (Gives y) old new) (sym is) (was_read path (λ o. Gives (f o)) found old new read)
 
 -- a refusal behind what was reached, the count of faults being the same by then
 pub refused_behind : {A : Type 0} (t middle : Asking A) (old between new : Option (List Entry)) (faults middle_faults faults' : ℕ) (e : SessionError) →

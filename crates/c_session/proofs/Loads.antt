@@ -4,7 +4,7 @@ use Rattle.io_edges.specs.Store.{Entry, Lists, Reads, ListCall, ReadCall, after_
 use Rattle.io_edges.specs.declared.ends.Found.{Found}
 use Rattle.io_edges.specs.declared.ends.Listed.{Listed}
 use Rattle.doc_texts.specs.Texts.{Texts, texts_under}
-use Rattle.c_session.specs.Asking.{Asking, Gives, AsksRead}
+use Rattle.c_session.specs.Asking.{Asking, Gives, asks_read}
 use Rattle.c_session.specs.Files.{with_found, to_load, unreadable_logs}
 use Rattle.c_session.specs.Handled.{Reached, Refused, GaveUp, IsFault}
 use Rattle.c_session.specs.Loading.{Loading, with_file, loads, loads_root, settles, load_log, is_read, read_back, updates_at, updates_all}
@@ -37,7 +37,7 @@ pub reads_it : (r root : Option (List ℕ)) (path : List ℕ) (b : Bool) → r �
 reads_it r root path b same is test = sym (ap (λ o. is_read o path) same) ∙ sym is ∙ test
 
 abbrev read_behind : Loading → List ℕ → Asking Loading
-read_behind l path = AsksRead path (λ found. Gives (settles (load_log path) l (with_found l.texts path found)))
+read_behind l path = asks_read path (λ found. Gives (settles (load_log path) l (with_found l.texts path found)))
 
 pub back_asks : (l : Loading) (path : List ℕ) (old : Option (List Entry)) → is_read l.texts.root path ≡ true → Reached (read_back l path) (read_behind l path) old old
 back_asks l path old is = reached_same (read_back l path) (read_behind l path) old (ap (λ b. cond b (read_behind l path) (Gives l)) is)

@@ -14,7 +14,8 @@ use Rattle.doc_texts.specs.Texts.{Texts, text_at, version_at}
 use Rattle.doc_texts.specs.Docs.{loaded, is_outside}
 use Rattle.doc_texts.specs.declared.error.DocError.{DocError}
 use Rattle.doc_texts.specs.declared.error.DocError.TheVariants.{OutsideRoot}
-use Rattle.c_session.specs.Asking.{Asking, Gives, AsksList, AsksRead, and_then}
+use Rattle.asking.specs.Asking.{Answers, Asks}
+use Rattle.c_session.specs.Asking.{Asking, calls, Gives, and_then}
 use Rattle.c_session.specs.Files.{to_load, unreadable_logs, with_found}
 use Rattle.c_session.specs.Loading.{Loading, with_log, settles, load_log, with_file, loads, loads_root, is_read, read_back, watched_log, updates, updates_at, updates_all}
 use Rattle.c_session.specs.Params.{FileChange}
@@ -29,14 +30,12 @@ use Rattle.c_session.specs.Shown.{uri_for, shown, publication, published_paths, 
 
 abbrev pub Each : {A : Type 0} → (A → Type 0) → Asking A → Type 0
 Each P (Gives x) = P x
-Each P (AsksList root f) = (found : List Listed) → Each P (f found)
-Each P (AsksRead path f) = (found : Found) → Each P (f found)
+Each P (Asks call more f) = (answers : Answers calls (call ∷ more)) → Each P (f answers)
 
 pub each_then : {A B : Type 0} (P : A → Type 0) (Q : B → Type 0) (t : Asking A) (k : A → Asking B) →
     Each P t → ((x : A) → P x → Each Q (k x)) → Each Q (and_then t k)
 each_then P Q (Gives x) k h next = next x h
-each_then P Q (AsksList root f) k h next = λ found. each_then P Q (f found) k (h found) next
-each_then P Q (AsksRead path f) k h next = λ found. each_then P Q (f found) k (h found) next
+each_then P Q (Asks call more f) k h next = λ answers. each_then P Q (f answers) k (h answers) next
 
 pub each_if : {A : Type 0} (P : A → Type 0) (b : Bool) (t u : Asking A) → Each P t → Each P u → Each P (cond b t u)
 each_if P true t u h k = h
@@ -103,7 +102,7 @@ file_kept l path (found.Bytes bytes) h = settles_kept (load_log path) l (with_fo
 
 loads_logged : (l : Loading) (paths : List (List ℕ)) → Logged l → Each Logged (loads l paths)
 loads_logged l [] h = h
-loads_logged l (path ∷ paths) h = λ has. loads_logged (with_file l path has) paths (file_kept l path has h)
+loads_logged l (path ∷ paths) h = λ answers. loads_logged (with_file l path answers.0) paths (file_kept l path answers.0 h)
 
 unreadable_notices : (all : List Listed) → AreNotices (unreadable_logs all)
 unreadable_notices [] = no_notice
@@ -113,16 +112,16 @@ unreadable_notices (listed.NoText ∷ rest) = more_notices _ (unreadable_logs re
 
 pub root_logged : (root : Option (List ℕ)) → Each Logged (loads_root root)
 root_logged None = no_notice
-root_logged (Some root) = λ all. loads_logged _ (to_load root all) (unreadable_notices all)
+root_logged (Some root) = λ answers. loads_logged _ (to_load root answers.0) (unreadable_notices answers.0)
 
 pub read_back_logged : (l : Loading) (path : List ℕ) → Logged l → Each Logged (read_back l path)
 read_back_logged l path h =
     each_if Logged (is_read l.texts.root path) _ (Gives l)
-    (λ has. settles_kept (load_log path) l (with_found l.texts path has) h) h
+    (λ answers. settles_kept (load_log path) l (with_found l.texts path answers.0) h) h
 
 updates_logged : (l : Loading) (path : List ℕ) (kind : FileChangeKind) → Logged l → Each Logged (updates l path kind)
-updates_logged l path Created h = λ has. settles_kept (λ e. watched_log (ByTexts e)) l (with_found l.texts path has) h
-updates_logged l path Changed h = λ has. settles_kept (λ e. watched_log (ByTexts e)) l (with_found l.texts path has) h
+updates_logged l path Created h = λ answers. settles_kept (λ e. watched_log (ByTexts e)) l (with_found l.texts path answers.0) h
+updates_logged l path Changed h = λ answers. settles_kept (λ e. watched_log (ByTexts e)) l (with_found l.texts path answers.0) h
 updates_logged l path Deleted h = settles_kept (λ e. watched_log (ByTexts e)) l (loaded l.texts path None) h
 
 change_logged : (l : Loading) (kind : FileChangeKind) (r : Result (List ℕ) Reason) → Logged l →

@@ -1,16 +1,19 @@
 -- Each message is answered as it has to be, and `exit` alone ends.
-use Rattle.std.proofs.Common.{◌≡◌, ℕ, ℤ, Bool, true, false, cond, List, [], ◌∷◌, ◌++◌, codes, Option, None, Some, option_and_then, is_some, T, Result, Ok, Err, refl, sym, subst, append-nil, append_assoc, bytes_eq}
+use Rattle.std.proofs.Common.{◌≡◌, ℕ, ℤ, Bool, true, false, cond, List, [], ◌∷◌, ◌++◌, codes, Option, None, Some, option_and_then, option_map, is_some, T, Result, Ok, Err, refl, sym, subst, append-nil, append_assoc, bytes_eq}
 use Rattle.std.proofs.lemmas.Slice.Eq.{bytes_eq-Decides}
 use Rattle.serde_json.specs.Data.{Data, null}
-use Rattle.io_edges.specs.Store.{Call, Entry, Lists, Reads, ListCall, ReadCall}
+use Rattle.io_edges.specs.Store.{Call, Entry}
 use Rattle.text_lines.specs.declared.encoding.Encoding.{Encoding}
 use Rattle.json_view.specs.declared.id.Id.{Id}
-use Rattle.c_session.specs.Asking.{Asking, Gives, AsksList, AsksRead, after_one, after_all}
+use Rattle.asking.specs.Asking.{Answers, Asks, asks_all}
+use Rattle.asking.specs.InTurn as turns
+use Rattle.asking.specs.InTurn.{Turn, after_one, behind_one, further, run}
+use Rattle.c_session.specs.Asking.{Asking, Answer, answer_in, calls, Gives, after_all}
 use Rattle.c_session.specs.Handled.{Reached, outcome}
 use Rattle.c_session.specs.Loading.{Loading, loads_root, read_back, updates_all, did_change_watched}
 use Rattle.c_session.specs.Message.{Message, NotJson, Batch, NotObject, Ignored, BadId, BadMethod, Notification, Request, message}
 use Rattle.c_session.specs.Params.{FileChange, watching_in}
-use Rattle.c_session.specs.React.{Outcome, tells, is_quiet, has_texts, invalid_request, method_not_found, invalid_params, server_not_initialized, rejects, refuses, did_open, did_change, did_close, Edited, opened_by, changed_by, closed_by, edits, closes, watches, Beginning, beginning_by, begins, starts, is_running, exit_status, fresh_request, running_request, on_request, running_notification, on_notification, on_message, asks, Reaction, Replies, Wants, one_more, run, react}
+use Rattle.c_session.specs.React.{Outcome, tells, is_quiet, has_texts, invalid_request, method_not_found, invalid_params, server_not_initialized, rejects, refuses, did_open, did_change, did_close, Edited, opened_by, changed_by, closed_by, edits, closes, watches, Beginning, beginning_by, begins, starts, is_running, exit_status, fresh_request, running_request, on_request, running_notification, on_notification, on_message, asks, Reaction, Replies, Wants, reaction, react}
 use Rattle.c_session.specs.Reasons.{Reason, reason_text, by_params}
 use Rattle.c_session.specs.Replies.{response, error, initialize_result}
 use Rattle.c_session.specs.Responses.{IsResponse, HasResult, HasError, AreNotices, IsResponded, IsAnswered, IsExit}
@@ -158,8 +161,7 @@ running_notifies s method params =
 
 each_weaker : {A : Type 0} (P Q : A → Type 0) (t : Asking A) → ((x : A) → P x → Q x) → Each P t → Each Q t
 each_weaker P Q (Gives x) weaker h = weaker x h
-each_weaker P Q (AsksList root f) weaker h = λ found. each_weaker P Q (f found) weaker (h found)
-each_weaker P Q (AsksRead path f) weaker h = λ found. each_weaker P Q (f found) weaker (h found)
+each_weaker P Q (Asks call more f) weaker h = λ answers. each_weaker P Q (f answers) weaker (h answers)
 
 -- what is done with a notification that is no `exit`
 notified : (method : List ℕ) (params : Option Data) (t : Asking Outcome) → Each Notifies t →
@@ -198,31 +200,59 @@ asks_fits : (s : State) (content : List ℕ) → Each (Fits (message content)) (
 unfolding asks
 asks_fits s content = message_fits s (message content)
 
+-- ---- answers
+
+not_some : {A B : Type 0} (x : A) → None ≡ Some x → B
+not_some x e = absurd (subst (λ o. T (is_some o)) (sym e) tt)
+
+some_is : {A : Type 0} (x y : A) → Some x ≡ Some y → x ≡ y
+some_is x y same = cc
+
+each_all : {A : Type 0} (P : A → Type 0) (more : List Call) (f : Answers calls more → Asking A) →
+    ((answers : Answers calls more) → Each P (f answers)) → Each P (asks_all more f)
+each_all P [] f h = h tt
+each_all P (call ∷ more) f h = h
+
+answer_keeps : {A : Type 0} (P : A → Type 0) (call : Call) (more : List Call) (f : Answers calls (call ∷ more) → Asking A)
+    (o : Option (Answer call)) (next : Asking A) →
+    option_map (λ a. asks_all {kind = calls} more (λ answers. f (a, answers))) o ≡ Some next →
+    ((answers : Answers calls (call ∷ more)) → Each P (f answers)) → Each P next
+answer_keeps P call more f None next e h = not_some next e
+answer_keeps P call more f (Some a) next e h =
+    subst (Each P) (some_is (asks_all more (λ answers. f (a, answers))) next e)
+    (each_all P more (λ answers. f (a, answers)) (λ answers. h (a, answers)))
+
+one_keeps : {A : Type 0} (P : A → Type 0) (t next : Asking A) (entry : Entry) → after_one t entry ≡ Some next →
+    Each P t → Each P next
+one_keeps P (Gives x) next entry e h = not_some next e
+one_keeps P (Asks call more f) next entry e h = answer_keeps P call more f (answer_in call entry) next e h
+
 -- ---- the reaction
 
 abbrev OfReply : (Outcome → Type 0) → Reaction → Type 0
 OfReply P (Replies s bytes end used) = P (outcome s bytes end)
 OfReply P (Wants call) = Unit {0}
 
-one_more_keeps : (P : Outcome → Type 0) (r : Reaction) → OfReply P r → OfReply P (one_more r)
-one_more_keeps P (Replies s bytes end used) h = h
-one_more_keeps P (Wants call) h = tt
+further_keeps : (P : Outcome → Type 0) (n : ℕ) (turn : Turn calls Outcome) → OfReply P (reaction turn) → OfReply P (reaction (further n turn))
+further_keeps P n (turns.Gave o used) h = h
+further_keeps P n (turns.Wants call) h = tt
+further_keeps P n (turns.Differs call entry) h = tt
 
-keeps_if : (P : Outcome → Type 0) (b : Bool) (r : Reaction) (call : Call) → OfReply P r →
-    OfReply P (cond b (one_more r) (Wants call))
-keeps_if P true r call h = one_more_keeps P r h
-keeps_if P false r call h = tt
+behind_keeps : (P : Outcome → Type 0) (call : Call) (entry : Entry) (answers : List Entry) (o : Option (Asking Outcome)) →
+    ((s : Asking Outcome) → o ≡ Some s → OfReply P (reaction (run s answers))) → OfReply P (reaction (behind_one call entry (option_map (λ s. run s answers) o)))
+behind_keeps P call entry answers None h = tt
+behind_keeps P call entry answers (Some s) h = further_keeps P 1 (run s answers) (h s refl)
 
-run_keeps : (P : Outcome → Type 0) (t : Asking Outcome) (answers : List Entry) → Each P t → OfReply P (run t answers)
-run_keeps P (Gives o) answers h = h
-run_keeps P (AsksList root f) [] h = tt
-run_keeps P (AsksList root f) (Lists listed found ∷ answers) h =
-    keeps_if P (bytes_eq root listed) (run (f found) answers) (ListCall root) (run_keeps P (f found) answers (h found))
-run_keeps P (AsksList root f) (Reads read found ∷ answers) h = tt
-run_keeps P (AsksRead path f) [] h = tt
-run_keeps P (AsksRead path f) (Lists listed found ∷ answers) h = tt
-run_keeps P (AsksRead path f) (Reads read found ∷ answers) h =
-    keeps_if P (bytes_eq path read) (run (f found) answers) (ReadCall path) (run_keeps P (f found) answers (h found))
+keeps_at : (P : Outcome → Type 0) (t : Asking Outcome) (entry : Entry) (answers : List Entry) → Each P t →
+    ((s : Asking Outcome) → Each P s → OfReply P (reaction (run s answers))) → OfReply P (reaction (run t (entry ∷ answers)))
+keeps_at P (Gives o) entry answers h ih = h
+keeps_at P (Asks call more f) entry answers h ih =
+    behind_keeps P call entry answers (after_one (Asks call more f) entry) (λ s e. ih s (one_keeps P (Asks call more f) s entry e h))
+
+run_keeps : (P : Outcome → Type 0) (t : Asking Outcome) (answers : List Entry) → Each P t → OfReply P (reaction (run t answers))
+run_keeps P (Gives o) [] h = h
+run_keeps P (Asks call more f) [] h = tt
+run_keeps P t (entry ∷ answers) h = keeps_at P t entry answers h (λ s. run_keeps P s answers)
 
 react_fits : (s next : State) (content bytes : List ℕ) (end : Option ℕ) (used : ℕ) (answers : List Entry) →
     react s content answers ≡ Replies next bytes end used → Fits (message content) (outcome next bytes end)
@@ -241,26 +271,6 @@ exit_ended s next content bytes status used answers is =
     (react_fits s next content bytes (Some status) used answers is).1
 
 -- ---- what was handled
-
-not_some : {A B : Type 0} (x : A) → None ≡ Some x → B
-not_some x e = absurd (subst (λ o. T (is_some o)) (sym e) tt)
-
-some_is : {A : Type 0} (x y : A) → Some x ≡ Some y → x ≡ y
-some_is x y same = cc
-
-kept_if : {A : Type 0} (P : A → Type 0) (b : Bool) (s next : Asking A) → cond b (Some s) None ≡ Some next → Each P s →
-    Each P next
-kept_if P true s next e h = subst (Each P) (some_is s next e) h
-kept_if P false s next e h = not_some next e
-
-one_keeps : {A : Type 0} (P : A → Type 0) (t next : Asking A) (entry : Entry) → after_one t entry ≡ Some next →
-    Each P t → Each P next
-one_keeps P (Gives x) next entry e h = not_some next e
-one_keeps P (AsksList root f) next (Lists listed found) e h =
-    kept_if P (bytes_eq root listed) (f found) next e (h found)
-one_keeps P (AsksList root f) next (Reads read found) e h = not_some next e
-one_keeps P (AsksRead path f) next (Lists listed found) e h = not_some next e
-one_keeps P (AsksRead path f) next (Reads read found) e h = kept_if P (bytes_eq path read) (f found) next e (h found)
 
 all_behind : {A : Type 0} (P : A → Type 0) (t : Asking A) (o : Option (Asking A)) (next : Asking A) (x : Entry)
     (xs : List Entry) →

@@ -1,37 +1,42 @@
--- What depends on the store's answers, as a tree: it gives a result, or asks the store for a list or a file, and goes on
--- by the answer.
-use Rattle.std.specs.Prelude.{ℕ, List, [], ◌∷◌, Option, Some, None, option_and_then, if◌then◌else◌}
+-- What depends on the store's answers: what asks (see `asking`), with the calls of a store as its questions, each asked by
+-- itself.
+use Rattle.std.specs.Prelude.{ℕ, Bool, false, List, Option, Some, None, if◌then◌else◌}
 use Rattle.std.specs.Str.{bytes_eq}
+use Rattle.asking.specs.Asking as trees
+pub use Rattle.asking.specs.Asking.{Gives, and_then}
+pub use Rattle.asking.specs.InTurn.{after_all, next_question as next_call}
 use Rattle.io_edges.specs.Store.{Call, ListCall, ReadCall, Entry, Lists, Reads}
 use Rattle.io_edges.specs.declared.ends.Listed.{Listed}
 use Rattle.io_edges.specs.declared.ends.Found.{Found}
 
-pub data Asking (A : Type 0) : Type 0 where
-  Gives : A → Asking A
-  AsksList : List ℕ → (List Listed → Asking A) → Asking A
-  AsksRead : List ℕ → (Found → Asking A) → Asking A
+-- what the store answers to a call
+abbrev pub Answer : Call → Type 0
+Answer (ListCall root) = List Listed
+Answer (ReadCall path) = Found
 
--- what asks, and then goes on with its result
-abbrev pub and_then : {A B : Type 0} → Asking A → (A → Asking B) → Asking B
-and_then (Gives x) k = k x
-and_then (AsksList root f) k = AsksList root (λ found. and_then (f found) k)
-and_then (AsksRead path f) k = AsksRead path (λ found. and_then (f found) k)
+-- the answer to this call that an entry is; none where it is one to another call or path
+abbrev pub answer_in : (call : Call) → Entry → Option (Answer call)
+answer_in (ListCall root) (Lists listed found) = if bytes_eq root listed then Some found else None
+answer_in (ListCall root) (Reads read found) = None
+answer_in (ReadCall path) (Lists listed found) = None
+answer_in (ReadCall path) (Reads read found) = if bytes_eq path read then Some found else None
 
--- the call that is asked next
-abbrev pub next_call : {A : Type 0} → Asking A → Option Call
-next_call (Gives x) = None
-next_call (AsksList root f) = Some (ListCall root)
-next_call (AsksRead path f) = Some (ReadCall path)
+abbrev pub same_call : Call → Call → Bool
+same_call (ListCall root) (ListCall listed) = bytes_eq root listed
+same_call (ListCall root) (ReadCall read) = false
+same_call (ReadCall path) (ListCall listed) = false
+same_call (ReadCall path) (ReadCall read) = bytes_eq path read
 
--- what is left to ask behind one answer; none where the answer is to no call that is asked next
-abbrev pub after_one : {A : Type 0} → Asking A → Entry → Option (Asking A)
-after_one (Gives x) entry = None
-after_one (AsksList root f) (Lists listed found) = if bytes_eq root listed then Some (f found) else None
-after_one (AsksList root f) (Reads read found) = None
-after_one (AsksRead path f) (Lists listed found) = None
-after_one (AsksRead path f) (Reads read found) = if bytes_eq path read then Some (f found) else None
+-- the calls of a store, as a kind of questions
+abbrev pub calls : trees.Kind
+calls = record { Question = Call; Answer = Answer; Entry = Entry; reads = answer_in; same = same_call }
 
--- what is left to ask behind these answers, each of them to the call that is asked in turn
-abbrev pub after_all : {A : Type 0} → Asking A → List Entry → Option (Asking A)
-after_all asking [] = Some asking
-after_all asking (entry ∷ entries) = option_and_then (λ next. after_all next entries) (after_one asking entry)
+abbrev pub Asking : Type 0 → Type 0
+Asking A = trees.Asking calls A
+
+-- the store is asked for a list or a file
+abbrev pub asks_list : {A : Type 0} → List ℕ → (List Listed → Asking A) → Asking A
+asks_list root next = trees.asks_one {kind = calls} (ListCall root) next
+
+abbrev pub asks_read : {A : Type 0} → List ℕ → (Found → Asking A) → Asking A
+asks_read path next = trees.asks_one {kind = calls} (ReadCall path) next

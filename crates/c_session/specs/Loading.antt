@@ -8,7 +8,7 @@ use Rattle.doc_texts.specs.Texts.{Texts, texts_under}
 use Rattle.doc_texts.specs.Docs.{loaded, is_outside, doc_error_name}
 use Rattle.doc_texts.specs.declared.error.DocError.{DocError}
 use Rattle.doc_texts.specs.declared.error.DocError.TheVariants.{OutsideRoot}
-use Rattle.c_session.specs.Asking.{Asking, Gives, AsksList, AsksRead, and_then}
+use Rattle.c_session.specs.Asking.{Asking, Gives, asks_list, asks_read, and_then}
 use Rattle.c_session.specs.Files.{is_loaded, to_load, unreadable_logs, with_found}
 use Rattle.c_session.specs.Params.{FileChange}
 use Rattle.c_session.specs.declared.params.FileChangeKind.{FileChangeKind}
@@ -43,12 +43,12 @@ with_file l path (found.Bytes bytes) = settles (load_log path) l (with_found l.t
 
 abbrev pub loads : Loading → List (List ℕ) → Asking Loading
 loads l [] = Gives l
-loads l (path ∷ paths) = AsksRead path (λ found. loads (with_file l path found) paths)
+loads l (path ∷ paths) = asks_read path (λ found. loads (with_file l path found) paths)
 
 -- the texts of a root: none without one
 abbrev pub loads_root : Option (List ℕ) → Asking Loading
 loads_root None = Gives (record { texts = texts_under None; logs = [] })
-loads_root (Some root) = AsksList root (λ found. loads (record { texts = texts_under (Some root); logs = unreadable_logs found }) (to_load root found))
+loads_root (Some root) = asks_list root (λ found. loads (record { texts = texts_under (Some root); logs = unreadable_logs found }) (to_load root found))
 
 -- ---- the file of a document that is closed
 
@@ -58,7 +58,7 @@ is_read root path = option_map_or (λ r. is_loaded r path) root false
 
 abbrev pub read_back : Loading → List ℕ → Asking Loading
 read_back l path =
-    if is_read l.texts.root path then AsksRead path (λ found. Gives (settles (load_log path) l (with_found l.texts path found)))
+    if is_read l.texts.root path then asks_read path (λ found. Gives (settles (load_log path) l (with_found l.texts path found)))
     else Gives l
 
 -- ---- files that change
@@ -72,8 +72,8 @@ watched_log r = codes "workspace/didChangeWatchedFiles: " ++ reason_text r
 
 -- a file of the root was created or changed, which are the same here, or deleted
 abbrev pub updates : Loading → List ℕ → FileChangeKind → Asking Loading
-updates l path Created = AsksRead path (λ found. Gives (settles (λ e. watched_log (ByTexts e)) l (with_found l.texts path found)))
-updates l path Changed = AsksRead path (λ found. Gives (settles (λ e. watched_log (ByTexts e)) l (with_found l.texts path found)))
+updates l path Created = asks_read path (λ found. Gives (settles (λ e. watched_log (ByTexts e)) l (with_found l.texts path found)))
+updates l path Changed = asks_read path (λ found. Gives (settles (λ e. watched_log (ByTexts e)) l (with_found l.texts path found)))
 updates l path Deleted = Gives (settles (λ e. watched_log (ByTexts e)) l (loaded l.texts path None))
 
 -- one change of a watched file: the first of these that applies

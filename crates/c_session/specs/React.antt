@@ -1,13 +1,14 @@
 -- How the plain server reacts to a content (LSP 3.17, with JSON-RPC 2.0).
-use Rattle.std.specs.Prelude.{ℕ, ◌+◌, ℤ, negsuc, Bool, true, false, List, [], ◌∷◌, ◌++◌, codes, Option, Some, None, Result, Ok, Err, if◌then◌else◌}
+use Rattle.std.specs.Prelude.{ℕ, ℤ, negsuc, Bool, true, false, List, [], ◌∷◌, ◌++◌, codes, Option, Some, None, Result, Ok, Err, if◌then◌else◌}
 use Rattle.std.specs.Str.{bytes_eq}
 use Rattle.serde_json.specs.Data.{Data, null}
-use Rattle.io_edges.specs.Store.{Call, ListCall, ReadCall, Entry, Lists, Reads}
+use Rattle.io_edges.specs.Store.{Call, Entry}
 use Rattle.text_lines.specs.declared.encoding.Encoding.{Encoding}
 use Rattle.uri_paths.specs.Uris.{path_of_uri}
 use Rattle.doc_texts.specs.Texts.{Texts}
 use Rattle.doc_texts.specs.Docs.{opened, changed, closed}
-use Rattle.c_session.specs.Asking.{Asking, Gives, AsksList, AsksRead, and_then}
+use Rattle.asking.specs.InTurn as turns
+use Rattle.c_session.specs.Asking.{Asking, Gives, calls, and_then}
 use Rattle.c_session.specs.Loading.{Loading, loads_root, read_back, did_change_watched, updates_all}
 use Rattle.c_session.specs.Message.{Message, NotJson, Batch, NotObject, Ignored, BadId, BadMethod, Notification, Request, message}
 use Rattle.json_view.specs.declared.id.Id.{Id}
@@ -224,21 +225,12 @@ pub data Reaction : Type 0 where
   -- it wants an answer of the store that isn't there
   Wants : Call → Reaction
 
--- the reaction behind one more answer
-abbrev pub one_more : Reaction → Reaction
-one_more (Replies s bytes end used) = Replies s bytes end (used + 1)
-one_more (Wants call) = Wants call
-
--- an answer to another call or path than the one that is asked is none
-abbrev pub run : Asking Outcome → List Entry → Reaction
-run (Gives o) answers = Replies o.state o.bytes o.end 0
-run (AsksList root f) [] = Wants (ListCall root)
-run (AsksList root f) (Lists listed found ∷ answers) = if bytes_eq root listed then one_more (run (f found) answers) else Wants (ListCall root)
-run (AsksList root f) (Reads read found ∷ answers) = Wants (ListCall root)
-run (AsksRead path f) [] = Wants (ReadCall path)
-run (AsksRead path f) (Lists listed found ∷ answers) = Wants (ReadCall path)
-run (AsksRead path f) (Reads read found ∷ answers) = if bytes_eq path read then one_more (run (f found) answers) else Wants (ReadCall path)
+-- The run in turn, as a reaction: an answer to another call or path than the one that is asked is none.
+abbrev pub reaction : turns.Turn calls Outcome → Reaction
+reaction (turns.Gave o used) = Replies o.state o.bytes o.end used
+reaction (turns.Wants call) = Wants call
+reaction (turns.Differs call entry) = Wants call
 
 -- the reaction to a content, with the store's answers from here on
 unfoldable pub react : State → List ℕ → List Entry → Reaction
-react s content answers = run (asks s content) answers
+react s content answers = reaction (turns.run (asks s content) answers)

@@ -4,9 +4,6 @@ ghost use Rattle.serde_json.specs.View.{view};
 ghost use Rattle.c_session.specs.Message.{value_of, id_of, of_value, of_read};
 ghost use Rattle.c_session.specs.Seen.{seen, seen_id};
 
-#[cfg(test)]
-mod tests;
-
 use serde_json::Value;
 use std::alloc::{AllocError, Global};
 

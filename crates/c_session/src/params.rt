@@ -11,9 +11,6 @@ ghost use Rattle.c_session.specs.Params.{given, each_in, params_of, document_in,
 ghost use Rattle.c_session.specs.Params.{root_uri_in, folder_uri_in, folder_uris_in, first_of, encoding_named, first_named, offers_in, chosen, starting_in};
 ghost use Rattle.c_session.specs.SeenParams.{seen_opening, seen_changing, seen_file_change, seen_starting};
 
-#[cfg(test)]
-mod tests;
-
 use json_view::{ViewError, get_array, get_i32, get_object, get_range, get_str, get_text, get_u32};
 use serde_json::Value;
 use std::alloc::{AllocError, Global};

@@ -39,29 +39,3 @@ pub fn uri_refusal(error: UriError) -> &'static str
         UriError::NoMemory => "",
     }
 }
-
-#[cfg(test)]
-mod tests {
-    use super::uri_refusal;
-    use std::test::Fail;
-    use uri_paths::path_of;
-
-    /// URIs that name no path.
-    static URIS: [(&str, &str); 4] = [
-        ("a.c", "uri: NotUrl"),
-        ("untitled:a.c", "uri: NotFile"),
-        ("file://host/a.c", "uri: HasHost"),
-        ("file:///a/%2F../a.c", "uri: NotText"),
-    ];
-
-    #[test]
-    fn refused_uris_have_texts(rt: HostRuntime) -> Result<(), Fail> {
-        for (uri, wanted) in &URIS {
-            match path_of(rt.alloc(), uri) {
-                Ok(_) => assert_eq!(rt; "a path", *wanted),
-                Err(error) => assert_eq!(rt; uri_refusal(error), *wanted),
-            }
-        }
-        Ok(())
-    }
-}

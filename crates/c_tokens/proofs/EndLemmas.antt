@@ -1,16 +1,19 @@
 -- At the end of a text all was found.
-use Rattle.std.proofs.Common.{◌≡◌, ℕ, Bool, false, List, [], ◌∷◌, ◌++◌, length, refl, ap, sym, ◌∙◌}
-use Rattle.std.proofs.lemmas.List.{append-nil}
+use Rattle.std.proofs.Common.{◌≡◌, ℕ, ◌+◌, ◌<◌, ◌≤◌, Bool, false, List, [], ◌∷◌, ◌++◌, length, Option, Some, None, IfSome, refl, ap, sym, ◌∙◌, subst, arith}
+use Rattle.std.proofs.lemmas.List.{append-nil, length-append}
+use Rattle.tok_data.specs.declared.tokens.PpKind.TheVariants.{Ident, Number, Char, Str, Header, Punct, Stray}
+use Rattle.c_tokens.specs.declared.pieces.Class.{Class}
+use Rattle.c_tokens.specs.declared.pieces.Class.TheVariants.{Blank, LineEnd, Comment, OpenComment, Token, OpenLiteral}
 use Rattle.std.specs.List.{flat_map}
 use Rattle.c_tokens.specs.declared.pieces.Context.{Context}
 use Rattle.c_tokens.specs.declared.pieces.Context.TheVariants.{Fresh}
 use Rattle.tok_data.specs.declared.tokens.PpToken.{PpToken}
 use Rattle.c_tokens.specs.declared.types.LexFault.{LexFault}
 use Rattle.c_tokens.specs.Logical.{Character, logical, characters_of, closing_line_end, ends_in_line_end, end_of}
-use Rattle.c_tokens.specs.Pieces.{pieces}
-use Rattle.c_tokens.specs.Lexed.{token_of, place_of, faults_from, pieces_of}
+use Rattle.c_tokens.specs.Pieces.{Piece, pieces}
+use Rattle.c_tokens.specs.Lexed.{token_of, place_of, fault_as, faults_from, pieces_of}
 use Rattle.c_tokens.specs.Reading.{rest}
-use Rattle.c_tokens.specs.Laws.{Follow, InOrder, ranges}
+use Rattle.c_tokens.specs.Laws.{Follow, InOrder, AreNumbered, ranges}
 use Rattle.c_tokens.proofs.FrontLemmas.{if_cases}
 use Rattle.c_tokens.proofs.FollowLemmas.{text_follows, follow_closed}
 use Rattle.c_tokens.proofs.LawLemmas.{places_in_order, faults_in_order}
@@ -51,3 +54,41 @@ ordered_places text = places_in_order Fresh false 0 (logical text) 0 (length tex
 
 pub ordered_faults : (text : List ℕ) → InOrder 0 (length text) (ranges (faults_from 0 (pieces_of text)))
 ordered_faults text = faults_in_order Fresh false 0 (logical text) 0 0 (length text) (logical_follows text)
+
+-- a fault of some pieces has one of their tokens
+numbered_more : (fs more : List LexFault) (few many : ℕ) → few ≤ many → AreNumbered few fs → AreNumbered many more → AreNumbered many (fs ++ more)
+numbered_more [] more few many h a b = b
+numbered_more (f ∷ fs) more few many h a b = (if_less f.tok a.0, numbered_more fs more few many h a.1 b) where
+  if_less : (o : Option ℕ) → IfSome o (λ number. number < few) → IfSome o (λ number. number < many)
+  if_less None i = tt
+  if_less (Some number) i = omega (arith, i)
+
+one_numbered : (class : Class) (cs : List Character) (number : ℕ) (context : Context) (spaced : Bool)
+    → AreNumbered (number + length (token_of (record { class = class; characters = cs; context = context; spaced = spaced }))) (fault_as class cs number)
+one_numbered OpenComment cs number context spaced = (tt, tt)
+one_numbered (OpenLiteral kind) cs number context spaced = (omega arith, tt)
+one_numbered (Token Stray) cs number context spaced = (omega arith, tt)
+one_numbered (Token Ident) cs number context spaced = tt
+one_numbered (Token Number) cs number context spaced = tt
+one_numbered (Token Char) cs number context spaced = tt
+one_numbered (Token Str) cs number context spaced = tt
+one_numbered (Token Header) cs number context spaced = tt
+one_numbered (Token Punct) cs number context spaced = tt
+one_numbered Blank cs number context spaced = tt
+one_numbered LineEnd cs number context spaced = tt
+one_numbered Comment cs number context spaced = tt
+
+numbered_from : (ps : List Piece) (number : ℕ) → AreNumbered (number + length (flat_map token_of ps)) (faults_from number ps)
+numbered_from [] number = tt
+numbered_from (p ∷ ps) number =
+    let own = token_of p in
+    let n : length (flat_map token_of (p ∷ ps)) ≡ length own + length (flat_map token_of ps) = length-append own (flat_map token_of ps) in
+    let e : (number + length own) + length (flat_map token_of ps) ≡ number + length (flat_map token_of (p ∷ ps)) = omega (arith, n) in
+    numbered_more (fault_as p.class p.characters number) (faults_from (number + length own) ps) (number + length own) (number + length (flat_map token_of (p ∷ ps)))
+    (omega (arith, n)) (one_numbered p.class p.characters number p.context p.spaced)
+    (subst (λ (k : ℕ). AreNumbered k (faults_from (number + length own) ps)) e (numbered_from ps (number + length own)))
+
+pub numbered_faults : (text : List ℕ) → AreNumbered (length (flat_map token_of (pieces_of text))) (faults_from 0 (pieces_of text))
+numbered_faults text =
+    let e : 0 + length (flat_map token_of (pieces_of text)) ≡ length (flat_map token_of (pieces_of text)) = omega arith in
+    subst (λ (k : ℕ). AreNumbered k (faults_from 0 (pieces_of text))) e (numbered_from (pieces_of text) 0)

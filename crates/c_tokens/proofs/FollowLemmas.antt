@@ -31,7 +31,7 @@ prefix_within p [] = omega arith
 prefix_within p (x ∷ xs) = if_cases (λ (n : ℕ). n ≤ length (x ∷ xs)) (p x) _ _ (λ _. omega (arith, prefix_within p xs)) (λ _. omega arith)
 
 -- the bytes of the unit at the front
-abbrev Within : List ℕ → Unit → Type 0
+abbrev pub Within : List ℕ → Unit → Type 0
 Within bytes u = (0 < (source_of u bytes).width) × ((source_of u bytes).width ≤ length bytes)
 
 plain_within : (bytes : List ℕ) → 0 < length bytes → Within bytes (plain bytes)
@@ -46,7 +46,7 @@ replaced_within : (bytes : List ℕ) (o : Option ℕ) → o ≡ trigraph (slice_
 replaced_within bytes None e long = plain_within bytes long
 replaced_within bytes (Some c) e long = (omega arith, omega (arith, within_from_some bytes 2 (trigraph_some (slice_index bytes 2) c e)))
 
-source_within : (bytes : List ℕ) → 0 < length bytes → Within bytes (first_unit bytes)
+pub source_within : (bytes : List ℕ) → 0 < length bytes → Within bytes (first_unit bytes)
 unfolding first_unit
 source_within bytes long = if_cases (Within bytes) (nat_lt 0 (backslash_width bytes) && nat_lt 0 (line_end_width bytes (backslash_width bytes))) _ _
     (λ e. removed_within (backslash_width bytes) (line_end_width bytes (backslash_width bytes)) e (line_end_within bytes (backslash_width bytes)))

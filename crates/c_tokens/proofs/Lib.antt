@@ -20,3 +20,4 @@ pub mod ReadingLemmas
 pub mod RunLemmas
 pub mod WordLemmas
 pub mod WordReads
+mod SlimLemmas

@@ -33,6 +33,7 @@ next_is text at context spaced r front next is =
         own = sym own;
         some = some;
         own_within = omega (arith, own, is.after.starts);
+        own_boundary = next.own_boundary;
         two = λ k. rw is.size (sized.two (sym is.class ∙ k));
       };
       place = refl;

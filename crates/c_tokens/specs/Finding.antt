@@ -5,7 +5,7 @@ use Rattle.c_tokens.specs.declared.pieces.Class.TheVariants.{OpenComment}
 use Rattle.c_tokens.specs.declared.pieces.Context.{Context}
 use Rattle.c_tokens.specs.Pieces.{Piece, pieces, after_piece, is_space, spelling}
 use Rattle.c_tokens.specs.Logical.{start_of}
-use Rattle.c_tokens.specs.Reading.{rest, IsAfter}
+use Rattle.c_tokens.specs.Reading.{rest, IsAfter, KeepsBoundary}
 
 -- the piece that was read
 abbrev pub read_piece : List ℕ → PieceRead → Piece
@@ -17,6 +17,7 @@ pub record IsPiece (text : List ℕ) (p : PieceRead) : Type 0 where
   pub own : p.own ≡ start_of (take p.front.count (rest text p.at))
   pub some : 0 < p.front.count
   pub own_within : p.own ≤ p.front.end
+  pub own_boundary : KeepsBoundary text p.at p.own
   pub two : p.front.class ≡ OpenComment → 2 ≤ p.front.count
 
 -- the piece at the front of what is left

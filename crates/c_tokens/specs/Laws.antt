@@ -1,5 +1,5 @@
 -- What holds of the pieces of every text.
-use Rattle.std.specs.Prelude.{◌≡◌, ◌↔◌, ℕ, ◌≤◌, true, false, List, [], ◌∷◌, length}
+use Rattle.std.specs.Prelude.{◌≡◌, ◌↔◌, ℕ, ◌<◌, ◌≤◌, true, false, List, [], ◌∷◌, length, IfSome}
 use Rattle.std.specs.List.{flat_map}
 use Rattle.c_tokens.specs.declared.types.LexFault.{LexFault}
 use Rattle.tok_data.specs.declared.tokens.PpToken.{PpToken}
@@ -30,6 +30,11 @@ CharactersFollow text = Follow 0 (length text) (logical text)
 abbrev pub InOrder : ℕ → ℕ → List (ℕ × ℕ) → Type 0
 InOrder from limit [] = from ≤ limit
 InOrder from limit (r ∷ rs) = (from ≤ r.0) × (r.0 ≤ r.1) × InOrder r.1 limit rs
+
+-- a fault that has a token has one of the first `count`
+abbrev pub AreNumbered : ℕ → List LexFault → Type 0
+AreNumbered count [] = Unit {0}
+AreNumbered count (f ∷ fs) = IfSome f.tok (λ number. number < count) × AreNumbered count fs
 
 abbrev pub ranges : List LexFault → List (ℕ × ℕ)
 ranges [] = []

@@ -2,7 +2,7 @@
 ghost use Rattle.std.specs.Prelude.{◌≡◌, ℕ, [], ◌+◌, ◌<◌, ◌≤◌, ◌^◌, ◌++◌, length, take, Some, MatchOption, IfOk, OnOk, option_to_list, IsCharBoundary, string_bytes, vec_len};
 ghost use Rattle.std.specs.List.{flat_map};
 ghost use Rattle.c_tokens.specs.Finding.{read_piece, IsPiece, IsNextPiece};
-ghost use Rattle.c_tokens.specs.Laws.{InOrder, ranges};
+ghost use Rattle.c_tokens.specs.Laws.{AreNumbered, InOrder, ranges};
 ghost use Rattle.c_tokens.specs.Lexed.{is_fresh, token_by, place_by, token_of, place_of, fault_as, faults_from, pieces_of};
 ghost use Rattle.c_tokens.specs.Logical.{end_of};
 ghost use Rattle.c_tokens.specs.Pieces;
@@ -69,6 +69,20 @@ fn spelled(alloc: Global, text: &str, at: usize, count: usize) -> Result<String,
         left -= 1;
     }
     Ok(out)
+}
+
+// The spelling of a piece. Where it takes as many bytes as it has characters nothing was removed in it, and that is the
+// text itself.
+fn name_of(alloc: Global, names: &mut Names, text: &str, piece: Piece) -> Result<Name, AllocError>
+    requires piece { IsPiece text.now piece }
+    requires boundary { IsCharBoundary text.now piece.at }
+    ensures { IfOk result (λ name. name ≡ Pieces.spelling (read_piece text.now piece).characters) }
+{
+    if piece.front.end - piece.own == piece.front.count {
+        return names.name(alloc, &text[piece.own..piece.front.end]);
+    }
+    let word = spelled(alloc, text, piece.at, piece.front.count)?;
+    names.name(alloc, word.as_str())
 }
 
 // A text begins with U+FEFF, which is then white space.
@@ -203,8 +217,7 @@ fn add_token(
     ensures places { OnOk result (found.new.places.items ≡ found.old.places.items ++ place_by (Some kind) (read_piece text.now piece)) }
     ensures faults { found.new.faults ≡ found.old.faults }
 {
-    let word = spelled(alloc, text, piece.at, piece.front.count)?;
-    let name = names.name(alloc, word.as_str())?;
+    let name = name_of(alloc, names, text, piece)?;
     let spelling = name.share()?;
     found.tokens.push(PpToken {
         kind,
@@ -284,6 +297,8 @@ pub fn lex(alloc: Global, text: &str) -> Result<Lexed, AllocError>
     ensures places { IfOk result (λ lexed. lexed.places ≡ flat_map place_of (pieces_of text.now)) }
     ensures faults { IfOk result (λ lexed. lexed.faults ≡ faults_from 0 (pieces_of text.now)) }
     ensures paired { IfOk result (λ lexed. length lexed.tokens ≡ length lexed.places) }
+    ensures few { IfOk result (λ lexed. length lexed.tokens ≤ length text.now) }
+    ensures numbered { IfOk result (λ lexed. AreNumbered (length lexed.tokens) lexed.faults) }
     ensures place_order { IfOk result (λ lexed. InOrder 0 (length text.now) lexed.places) }
     ensures fault_order { IfOk result (λ lexed. InOrder 0 (length text.now) (ranges lexed.faults)) }
 {

@@ -15,6 +15,3 @@ pub use laws::{characters_follow, front_is_longest, identifiers_are_tokens, piec
 pub use lexing::lex;
 pub use tok_data::{PpKind, PpToken};
 pub use types::{Faults, LexFault, Lexed, Places, TokenPlaces, Tokens};
-
-#[cfg(test)]
-mod tests;

@@ -103,8 +103,9 @@ fn plain(text: &[u8]) -> Unit
     Unit::Plain(1 + continuing(text.split_at(1).1))
 }
 
+// What stands at the front where that may be a backslash or a trigraph sequence.
 #[tactic(auto, unfolding(crate::specs::Logical::first_unit))]
-fn first_unit(text: &[u8]) -> Unit
+fn marked_unit(text: &[u8]) -> Unit
     requires { 0 < length text.now }
     ensures value { result ≡ Logical.first_unit text.now }
     ensures replacement { Logical.IsReplacement result }
@@ -123,6 +124,22 @@ fn first_unit(text: &[u8]) -> Unit
         if let Some(character) = trigraph(byte_at(text, 2)) {
             return Unit::Trigraph(character);
         }
+    }
+    plain(text)
+}
+
+#[tactic(auto, unfolding(crate::specs::Logical::first_unit, crate::specs::Logical::backslash_width, crate::specs::Logical::begins_trigraph))]
+fn first_unit(text: &[u8]) -> Unit
+    requires { 0 < length text.now }
+    ensures value { result ≡ Logical.first_unit text.now }
+    ensures replacement { Logical.IsReplacement result }
+    ensures some { 0 < (Logical.source_of result text.now).width }
+    ensures within { (Logical.source_of result text.now).width ≤ length text.now }
+    ensures boundary { IsUtf8 text.now → IsCharBoundary text.now (Logical.source_of result text.now).width }
+{
+    let first = byte_at(text, 0);
+    if first == b'\\' || first == b'?' {
+        return marked_unit(text);
     }
     plain(text)
 }

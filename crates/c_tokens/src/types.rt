@@ -3,8 +3,8 @@ ghost use Rattle.std.specs.Prelude.{◌≡◌, ◌≤◌, ℕ, length, IfOk};
 ghost use Rattle.text_lines.specs.Positions.{line_starts};
 ghost use Rattle.c_tokens.specs.Lexed.{lexed};
 
+use shared_list::Listing;
 use std::alloc::{AllocError, Global};
-use std::marker::Model;
 use text_lines::LineTable;
 use tok_data::PpToken;
 
@@ -20,108 +20,13 @@ pub struct LexFault {
 }
 
 /// The tokens of a text, in order.
-#[derive(Debug, Drop)]
-pub struct Tokens {
-    items: Vec<PpToken>,
-}
-
-impl Model for Tokens {
-    ghost use Rattle.std.specs.Prelude.{List};
-    ghost use Rattle.tok_data.specs.declared.tokens.PpToken.{PpToken};
-
-    ghost Value = { List PpToken };
-
-    ghost view = { λ t. t.items.items };
-}
-
-impl Tokens {
-    pub fn from_vec(items: Vec<PpToken>) -> Tokens
-        ensures { result ≡ items.items }
-    {
-        Tokens { items }
-    }
-
-    pub fn as_slice(&self) -> &[PpToken]
-        ensures { result.now ≡ self.now }
-    {
-        self.items.as_slice()
-    }
-
-    pub fn into_vec(self) -> Vec<PpToken>
-        ensures { result.items ≡ self }
-    {
-        self.items
-    }
-}
+pub type Tokens = Listing<PpToken>;
 
 /// The range of each token, in bytes of the text; it begins behind what was removed at its front.
-#[derive(Debug, Drop)]
-pub struct TokenPlaces {
-    items: Vec<(u32, u32)>,
-}
-
-impl Model for TokenPlaces {
-    ghost use Rattle.std.specs.Prelude.{List, ℕ};
-
-    ghost Value = { List (ℕ × ℕ) };
-
-    ghost view = { λ p. p.items.items };
-}
-
-impl TokenPlaces {
-    pub fn from_vec(items: Vec<(u32, u32)>) -> TokenPlaces
-        ensures { result ≡ items.items }
-    {
-        TokenPlaces { items }
-    }
-
-    pub fn as_slice(&self) -> &[(u32, u32)]
-        ensures { result.now ≡ self.now }
-    {
-        self.items.as_slice()
-    }
-
-    pub fn into_vec(self) -> Vec<(u32, u32)>
-        ensures { result.items ≡ self }
-    {
-        self.items
-    }
-}
+pub type TokenPlaces = Listing<(u32, u32)>;
 
 /// The lexical faults of a text, by where they begin.
-#[derive(Debug, Drop)]
-pub struct Faults {
-    items: Vec<LexFault>,
-}
-
-impl Model for Faults {
-    ghost use Rattle.std.specs.Prelude.{List};
-    ghost use Rattle.c_tokens.specs.declared.types.LexFault.{LexFault};
-
-    ghost Value = { List LexFault };
-
-    ghost view = { λ f. f.items.items };
-}
-
-impl Faults {
-    pub fn from_vec(items: Vec<LexFault>) -> Faults
-        ensures { result ≡ items.items }
-    {
-        Faults { items }
-    }
-
-    pub fn as_slice(&self) -> &[LexFault]
-        ensures { result.now ≡ self.now }
-    {
-        self.items.as_slice()
-    }
-
-    pub fn into_vec(self) -> Vec<LexFault>
-        ensures { result.items ≡ self }
-    {
-        self.items
-    }
-}
+pub type Faults = Listing<LexFault>;
 
 /// What lexing gives: the tokens, the place of each, and the faults.
 #[derive(Debug, Drop)]

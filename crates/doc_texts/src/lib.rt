@@ -8,10 +8,6 @@ mod kept;
 mod laws;
 mod path_set;
 mod prior;
-#[cfg(test)]
-mod script;
-#[cfg(test)]
-mod tests;
 
 pub use docs::Docs;
 pub use error::DocError;

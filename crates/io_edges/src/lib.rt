@@ -11,8 +11,6 @@ mod mem_wire;
 mod pieces;
 mod std_ends;
 mod store_fail;
-#[cfg(test)]
-mod tests;
 
 pub use bytes::{FileBytes, PathText};
 pub use dir_store::DirStore;

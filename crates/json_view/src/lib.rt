@@ -5,8 +5,6 @@ mod error;
 mod id;
 mod kinds;
 mod members;
-#[cfg(test)]
-mod tests;
 
 pub use error::ViewError;
 pub use id::{Id, IdText};

@@ -1,5 +1,5 @@
 -- The frames of an input, from the definition alone: where a fault lies, and how long a content is.
-use Rattle.std.proofs.Common.{◌≡◌, ℕ, zero, suc, ◌+◌, ◌-◌, ◌≤◌, Bool, true, false, cond, List, [], ◌∷◌, ◌++◌, length, take, drop, Option, Some, None, Result, Ok, Err, IfOk, IfSome, nat_le, nat_lt, ◌==◌, ◌&&◌, refl, arith, ap, subst}
+use Rattle.std.proofs.Common.{◌≡◌, ℕ, zero, suc, ◌+◌, ◌-◌, ◌≤◌, Bool, true, false, cond, List, [], ◌∷◌, ◌++◌, length, take, drop, Option, Some, None, Result, Ok, Err, IfOk, IfSome, nat_le, nat_lt, ◌==◌, ◌&&◌, refl, arith, ap, subst, sym}
 use Rattle.std.specs.Prelude.{slice_get, position, codes}
 use Rattle.std.specs.List.{AllByRecursion}
 use Rattle.std.specs.Option.{option_map_or}
@@ -9,7 +9,9 @@ use Rattle.std.proofs.lemmas.List.{length-append, length-take}
 use Rattle.std.proofs.lemmas.Bool.Decides.{nat_tests}
 use Rattle.lsp_framing.specs.declared.FrameKind.{FrameKind}
 use Rattle.lsp_framing.specs.declared.FrameKind.TheVariants.{HeaderLong, NoLength, BadLength, BadField, ContentLong}
-use Rattle.lsp_framing.specs.Lines.{Header, Ended, Fault, Unended, header, header_from, lines, lines_from, line_ended, with_number, with_length, with_field, with_line, agrees, is_number, is_name, is_unbroken, trimmed, or_fault, longest_header, longest_content}
+use Rattle.lsp_framing.specs.Lines.{Header, Ended, Fault, Unended, header, header_from, with_number, with_length, with_field, with_line, agrees, is_number, is_name, is_unbroken, trimmed, or_fault, longest_header, longest_content}
+use Rattle.lsp_framing.specs.Scanned.{lines_met, lines_from, line_ended}
+use Rattle.lsp_framing.proofs.Scanning.{header_scans}
 use Rattle.lsp_framing.specs.Frames.{Front, Whole, Faulty, Unfinished, front, front_by, Bad, Framed, frames_by, frames_from, frames}
 use Rattle.lsp_framing.proofs.Reading.{ended_length}
 
@@ -101,9 +103,10 @@ header_within (b ∷ bytes) so_far stated place h =
       by_end (Some text) e on again = by_line text (ended_length so_far text b e) again
 
 header_is_within : (bytes : List ℕ) → HeaderWithin (header bytes) (length bytes)
-unfolding header
 header_is_within bytes =
-    wider (header_from None 0 (lines (take longest_header bytes))) (header_within (take longest_header bytes) [] None 0 tt) where
+    let P : Header → Type 0 = λ h. HeaderWithin h (length bytes) in
+    subst P (sym (header_scans bytes))
+    (wider (header_from None 0 (lines_met (take longest_header bytes))) (header_within (take longest_header bytes) [] None 0 tt)) where
       wider : (h : Header) → HeaderWithin h (0 + length {A = ℕ} [] + length (take longest_header bytes)) → HeaderWithin h (length bytes)
       wider Unended w = tt
       wider (Ended size len) w = (omega (arith, w.0, length-take longest_header bytes), w.1)

@@ -5,7 +5,8 @@ use Rattle.std.proofs.lemmas.List.{take_all, append-nil, length-take-le, length-
 use Rattle.std.proofs.lemmas.Bool.Decides.{nat_tests}
 use Rattle.lsp_framing.specs.declared.FrameKind.{FrameKind}
 use Rattle.lsp_framing.specs.declared.FrameKind.TheVariants.{HeaderLong}
-use Rattle.lsp_framing.specs.Lines.{Header, Ended, Unended, header, header_from, lines, longest_header}
+use Rattle.lsp_framing.specs.Lines.{Header, Ended, Unended, header, header_from, longest_header}
+use Rattle.lsp_framing.specs.Scanned.{lines_met}
 use Rattle.lsp_framing.specs.Frames.{Front, Whole, Faulty, Unfinished, front, front_by, Empty, Open, Bad, Framed, framed, after, frames_by, frames_from, frames}
 use Rattle.lsp_framing.specs.Standing.{Standing, Follows, IsEmptyOrOpen}
 use Rattle.lsp_framing.specs.Known.{KnowsHeader, KnowsContent, KnowsFault, Reads}
@@ -30,7 +31,7 @@ unfinished_header line scanned stated bytes k e =
     let short : length bytes ≤ longest_header = omega (arith, k.short, e) in
     let unended : header bytes ≡ Unended =
     ap header (sym (append-nil bytes)) ∙ header_short bytes [] short
-    ∙ ap (λ t. header_from None 0 (lines (bytes ++ t))) (take_nil (longest_header - length bytes)) ∙ r.goes_on [] in
+    ∙ ap (λ t. header_from None 0 (lines_met (bytes ++ t))) (take_nil (longest_header - length bytes)) ∙ r.goes_on [] in
     let test : nat_le longest_header (length bytes) ≡ false = let s = k.short in grind (arith, nat_tests) in
     front_is bytes Unended unended ∙ ap (λ t. cond t (Faulty 0 HeaderLong) Unfinished) test where
       take_nil : (n : ℕ) → take {A = ℕ} n [] ≡ []

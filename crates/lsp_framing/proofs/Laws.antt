@@ -5,7 +5,9 @@ use Rattle.std.proofs.lemmas.List.{take_at, take-append-le, drop-append-le, leng
 use Rattle.std.proofs.lemmas.Bool.Decides.{nat_tests}
 use Rattle.lsp_framing.specs.declared.FrameKind.{FrameKind}
 use Rattle.lsp_framing.specs.declared.FrameKind.TheVariants.{HeaderLong}
-use Rattle.lsp_framing.specs.Lines.{Header, Ended, Fault, Unended, header, header_from, lines, lines_from, line_ended, with_line, or_fault, longest_header}
+use Rattle.lsp_framing.specs.Lines.{Header, Ended, Fault, Unended, header, header_from, lines, with_line, or_fault, longest_header}
+use Rattle.lsp_framing.specs.Scanned.{lines_met, lines_from, line_ended}
+use Rattle.lsp_framing.proofs.Scanning.{header_scans}
 use Rattle.lsp_framing.specs.Frames.{Front, Whole, Faulty, Unfinished, front, front_by, Empty, Bad, Framed, framed, after, frames_by, frames_from, frames}
 
 -- a header part that ended or has a fault isn't changed by more bytes
@@ -50,11 +52,10 @@ window_more (suc n) [] more = (take (suc n) more, refl)
 window_more (suc n) (b ∷ bytes) more = let w = window_more n bytes more in (w.0, ap (λ t. b ∷ t) w.1)
 
 header_stays : (bytes more : List ℕ) → IsMore (header bytes) (header (bytes ++ more))
-unfolding header
 header_stays bytes more =
     let w = window_more longest_header bytes more in
-    let P : List ℕ → Type 0 = λ t. IsMore (header_from None 0 (lines (take longest_header bytes))) (header_from None 0 (lines t)) in
-    subst P (sym w.1) (header_more (take longest_header bytes) w.0 [] None 0)
+    let P : List ℕ → Type 0 = λ t. IsMore (header_from None 0 (lines_met (take longest_header bytes))) (header_from None 0 (lines_met t)) in
+    rw (header_scans bytes, header_scans (bytes ++ more)) (subst P (sym w.1) (header_more (take longest_header bytes) w.0 [] None 0))
 
 -- a front that is a frame or faulty isn't changed by more bytes
 abbrev FrontStays : Front → Front → Type 0
@@ -104,7 +105,7 @@ unfolding front
 front_stays bytes more = front_by_stays (header bytes) (header (bytes ++ more)) bytes more (header_stays bytes more) (header_same bytes more)
 
 -- a frame lies in the bytes
-abbrev FrontWithin : Front → ℕ → Type 0
+abbrev pub FrontWithin : Front → ℕ → Type 0
 FrontWithin Unfinished n = Unit {0}
 FrontWithin (Whole size content) n = size + length content ≤ n
 FrontWithin (Faulty at kind) n = Unit {0}
@@ -120,7 +121,7 @@ front_by_within (Ended size len) bytes =
 front_by_within Unended bytes =
     elim (nat_le longest_header (length bytes)) as (λ (t : Bool). FrontWithin (cond t (Faulty 0 HeaderLong) Unfinished) (length bytes)) [ true ↦ tt | false ↦ tt ]
 
-front_within : (bytes : List ℕ) → FrontWithin (front bytes) (length bytes)
+pub front_within : (bytes : List ℕ) → FrontWithin (front bytes) (length bytes)
 unfolding front
 front_within bytes = front_by_within (header bytes) bytes
 

@@ -6,3 +6,5 @@ pub mod Follow
 pub mod Answering
 pub mod Bounds
 pub mod Written
+pub mod Scanning
+pub mod Sizes

@@ -5,14 +5,15 @@ use Rattle.std.proofs.lemmas.Bool.Decides.{nat_tests}
 use Rattle.std.specs.Option.{option_map_or}
 use Rattle.lsp_framing.specs.declared.FrameKind.{FrameKind}
 use Rattle.lsp_framing.specs.declared.FrameKind.TheVariants.{NoLength}
-use Rattle.lsp_framing.specs.Lines.{header_from, Ended, lines, lines_from, line_ended, with_line, longest_content}
+use Rattle.lsp_framing.specs.Lines.{header_from, Ended, with_line, longest_content}
+use Rattle.lsp_framing.specs.Scanned.{lines_met, lines_from, line_ended}
 use Rattle.lsp_framing.specs.Known.{Reads, Holds, Fails, FoundIn, end_of}
 
 -- behind the next byte, in the terms of what goes on
 after_byte : (read : List ℕ) (line b : ℕ) (stated : Option ℕ) → Reads read line stated → (more : List ℕ)
-    → header_from None 0 (lines ((read ++ b ∷ []) ++ more))
+    → header_from None 0 (lines_met ((read ++ b ∷ []) ++ more))
     ≡ header_from stated line (option_map_or (λ text. text ∷ lines_from [] more) (line_ended (drop line read) b) (lines_from (drop line read ++ b ∷ []) more))
-after_byte read line b stated r more = ap (λ t. header_from None 0 (lines t)) (append_assoc read (b ∷ []) more) ∙ r.goes_on (b ∷ more)
+after_byte read line b stated r more = ap (λ t. header_from None 0 (lines_met t)) (append_assoc read (b ∷ []) more) ∙ r.goes_on (b ∷ more)
 
 pub ended_length : (so_far text : List ℕ) (b : ℕ) → line_ended so_far b ≡ Some text → length text + 1 ≡ length so_far
 unfolding line_ended
@@ -68,7 +69,7 @@ reads_none read line b at n r e = record {
 
 pub reads_end : (read : List ℕ) (line b len : ℕ) (at : ℕ) → length read ≡ at → Reads read line (Some len)
     → line_ended (drop line read) b ≡ Some []
-    → (more : List ℕ) → header_from None 0 (lines ((read ++ b ∷ []) ++ more)) ≡ Ended (at + 1) len
+    → (more : List ℕ) → header_from None 0 (lines_met ((read ++ b ∷ []) ++ more)) ≡ Ended (at + 1) len
 reads_end read line b len at n r e more =
     let long : length {A = ℕ} [] + 1 ≡ length (drop line read) = ended_length (drop line read) [] b e in
     let place : line + 2 ≡ at + 1 = omega (arith, long, length-drop line read, r.within, n) in
@@ -115,7 +116,7 @@ module _ (window : List ℕ) (line at : ℕ) (stated : Option ℕ) (within : at 
       let f : Fails (take (at + 1) window) line kind = rw byte_is (reads_fault (take at window) line (get_or window at 0) stated kind c cs r (in_line e) said) in
       record {
         within = omega (arith, r.within, long);
-        goes_on = λ more. ap (λ t. header_from None 0 (lines t)) (rest_is more) ∙ f.goes_on (drop (at + 1) window ++ more);
+        goes_on = λ more. ap (λ t. header_from None 0 (lines_met t)) (rest_is more) ∙ f.goes_on (drop (at + 1) window ++ more);
       }
 
 window_end_none : (window : List ℕ) (line at : ℕ) → at < length window → Reads (take at window) line None
@@ -126,7 +127,7 @@ window_end_none window line at within r e =
     (reads_none (take at window) line (get_or window at 0) at (long window line at None within r) r (in_line window line at None within r e)) in
     record {
       within = omega arith;
-      goes_on = λ more. ap (λ t. header_from None 0 (lines t)) (rest_is window line at None within r more) ∙ f.goes_on (drop (at + 1) window ++ more);
+      goes_on = λ more. ap (λ t. header_from None 0 (lines_met t)) (rest_is window line at None within r more) ∙ f.goes_on (drop (at + 1) window ++ more);
     }
 
 window_end_some : (window : List ℕ) (line at len : ℕ) → at < length window → Reads (take at window) line (Some len)
@@ -136,7 +137,7 @@ window_end_some window line at len within r e = record {
   some = omega arith;
   most = r.most;
   goes_on = λ more.
-      ap (λ t. header_from None 0 (lines (t ++ more))) (byte_is window line at (Some len) within r)
+      ap (λ t. header_from None 0 (lines_met (t ++ more))) (byte_is window line at (Some len) within r)
       ∙ reads_end (take at window) line (get_or window at 0) len at (long window line at (Some len) within r) r (in_line window line at (Some len) within r e) more;
 }
 

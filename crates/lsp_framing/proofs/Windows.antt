@@ -7,22 +7,24 @@ use Rattle.lsp_framing.specs.declared.FrameKind.{FrameKind}
 use Rattle.lsp_framing.specs.declared.FrameKind.TheVariants.{HeaderLong}
 use Rattle.lsp_framing.specs.declared.header.State.{State}
 use Rattle.lsp_framing.specs.declared.header.State.TheVariants as state
-use Rattle.lsp_framing.specs.Lines.{header, header_from, lines, Fault, Unended, longest_header}
+use Rattle.lsp_framing.specs.Lines.{header, header_from, Fault, Unended, longest_header}
+use Rattle.lsp_framing.specs.Scanned.{lines_met}
+use Rattle.lsp_framing.proofs.Scanning.{header_scans}
 use Rattle.lsp_framing.specs.Frames.{front, front_by, Faulty, Unfinished}
 use Rattle.lsp_framing.specs.Known.{FoundIn, Known, or_long}
 
 pub header_short : (bytes more : List ℕ) → length bytes ≤ longest_header
-    → header (bytes ++ more) ≡ header_from None 0 (lines (bytes ++ take (longest_header - length bytes) more))
-unfolding header
+    → header (bytes ++ more) ≡ header_from None 0 (lines_met (bytes ++ take (longest_header - length bytes) more))
 header_short bytes more h =
     let e : length bytes + (longest_header - length bytes) ≡ longest_header = omega arith in
-    ap (λ t. header_from None 0 (lines t)) (ap (λ n. take n (bytes ++ more)) (sym e) ∙ take-append-add bytes more (longest_header - length bytes))
+    header_scans (bytes ++ more)
+    ∙ ap (λ t. header_from None 0 (lines_met t)) (ap (λ n. take n (bytes ++ more)) (sym e) ∙ take-append-add bytes more (longest_header - length bytes))
 
 header_long : (bytes more : List ℕ) → longest_header ≤ length bytes
-    → header (bytes ++ more) ≡ header_from None 0 (lines (take longest_header bytes ++ []))
-unfolding header
+    → header (bytes ++ more) ≡ header_from None 0 (lines_met (take longest_header bytes ++ []))
 header_long bytes more h =
-    ap (λ t. header_from None 0 (lines t)) (take-append-le longest_header bytes more h ∙ sym (append-nil (take longest_header bytes)))
+    header_scans (bytes ++ more)
+    ∙ ap (λ t. header_from None 0 (lines_met t)) (take-append-le longest_header bytes more h ∙ sym (append-nil (take longest_header bytes)))
 
 front_fault : (bytes : List ℕ) (at : ℕ) (kind : FrameKind) → header bytes ≡ Fault at kind → front bytes ≡ Faulty at kind
 unfolding front
@@ -71,7 +73,7 @@ known_long bytes (state.Content size len) h f =
       goes_on = λ more.
           let same : take size (take longest_header bytes) ≡ take size bytes = take-take size longest_header bytes (omega (arith, f.within, n)) in
           header_short (take size bytes) more (omega (arith, length-take size bytes, f.within, n))
-          ∙ ap (λ t. header_from None 0 (lines (t ++ take (longest_header - length (take size bytes)) more))) (sym same)
+          ∙ ap (λ t. header_from None 0 (lines_met (t ++ take (longest_header - length (take size bytes)) more))) (sym same)
           ∙ f.goes_on (take (longest_header - length (take size bytes)) more);
     }
 known_long bytes (state.Faulty at kind) h f = record {

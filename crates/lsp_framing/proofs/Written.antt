@@ -10,7 +10,9 @@ use Rattle.std.proofs.lemmas.List.{length-append, append-nil, take_at, get_or_pu
 use Rattle.std.proofs.Math.Seq.{take-append-add}
 use Rattle.std.proofs.lemmas.Bool.Decides.{nat_tests}
 use Rattle.lsp_framing.specs.declared.FrameKind.TheVariants.{BadField}
-use Rattle.lsp_framing.specs.Lines.{Ended, header, header_from, lines, lines_from, line_ended, with_number, with_length, with_field, with_line, is_number, is_name, is_unbroken, is_blank, trimmed, or_fault, longest_header, longest_content}
+use Rattle.lsp_framing.specs.Lines.{Ended, header, header_from, with_number, with_length, with_field, with_line, is_number, is_name, is_unbroken, is_blank, trimmed, or_fault, longest_header, longest_content}
+use Rattle.lsp_framing.specs.Scanned.{lines_met, lines_from, line_ended}
+use Rattle.lsp_framing.proofs.Scanning.{header_scans}
 use Rattle.lsp_framing.specs.Frames.{Whole, Unfinished, front, Empty, framed, after, frames_from, frames}
 use Rattle.lsp_framing.specs.Written.{written}
 use Rattle.lsp_framing.proofs.Follow.{front_is, one_frame}
@@ -119,9 +121,9 @@ with_digits ds h some most =
 
 -- what a line and the empty line behind it give
 head_read : (c : ℕ) (cs rest : List ℕ) (n : ℕ) → HasNoLF (c ∷ cs) → with_line None (c ∷ cs) ≡ Ok (Some n)
-    → header_from None 0 (lines ((c ∷ cs) ++ 13 ∷ 10 ∷ 13 ∷ 10 ∷ rest)) ≡ Ended (length (c ∷ cs) + 4) n
+    → header_from None 0 (lines_met ((c ∷ cs) ++ 13 ∷ 10 ∷ 13 ∷ 10 ∷ rest)) ≡ Ended (length (c ∷ cs) + 4) n
 head_read c cs rest n h e =
-    let first : lines ((c ∷ cs) ++ 13 ∷ 10 ∷ 13 ∷ 10 ∷ rest) ≡ (c ∷ cs) ∷ lines_from [] (13 ∷ 10 ∷ rest) = line_is (c ∷ cs) [] (13 ∷ 10 ∷ rest) h in
+    let first : lines_met ((c ∷ cs) ++ 13 ∷ 10 ∷ 13 ∷ 10 ∷ rest) ≡ (c ∷ cs) ∷ lines_from [] (13 ∷ 10 ∷ rest) = line_is (c ∷ cs) [] (13 ∷ 10 ∷ rest) h in
     let second : lines_from [] (13 ∷ 10 ∷ rest) ≡ [] ∷ lines_from [] rest = line_is [] [] rest tt in
     let size : 0 + length (c ∷ cs) + 2 + 2 ≡ length (c ∷ cs) + 4 = omega arith in
     ap (λ t. header_from None 0 t) (first ∙ ap (λ t. (c ∷ cs) ∷ t) second)
@@ -142,9 +144,9 @@ window_of text rest h =
 
 header_read : (c : ℕ) (cs rest : List ℕ) (n : ℕ) → HasNoLF (c ∷ cs) → with_line None (c ∷ cs) ≡ Ok (Some n) → length (c ∷ cs) + 4 ≤ longest_header
     → header ((c ∷ cs) ++ 13 ∷ 10 ∷ 13 ∷ 10 ∷ rest) ≡ Ended (length (c ∷ cs) + 4) n
-unfolding header
 header_read c cs rest n h e short =
-    ap (λ t. header_from None 0 (lines t)) (window_of (c ∷ cs) rest short)
+    header_scans ((c ∷ cs) ++ 13 ∷ 10 ∷ 13 ∷ 10 ∷ rest)
+    ∙ ap (λ t. header_from None 0 (lines_met t)) (window_of (c ∷ cs) rest short)
     ∙ head_read c cs (take (longest_header - (length (c ∷ cs) + 4)) rest) n h e
 
 front_read : (c : ℕ) (cs content : List ℕ) → HasNoLF (c ∷ cs) → with_line None (c ∷ cs) ≡ Ok (Some (length content)) → length (c ∷ cs) + 4 ≤ longest_header

@@ -37,6 +37,15 @@ framed contents rest = record { contents = contents; rest = rest }
 abbrev pub after : List (List ℕ) → Framed → Framed
 after contents others = framed (contents ++ others.contents) others.rest
 
+-- the same, `by` bytes further on
+abbrev pub shifted_rest : ℕ → Rest → Rest
+shifted_rest by Empty = Empty
+shifted_rest by Open = Open
+shifted_rest by (Bad place kind) = Bad (by + place) kind
+
+abbrev pub shifted : ℕ → Framed → Framed
+shifted by others = framed others.contents (shifted_rest by others.rest)
+
 abbrev pub frames_by : Front → ℕ → (ℕ → Framed) → Framed
 frames_by (Whole size content) place behind = after (content ∷ []) (behind (size + length content - 1))
 frames_by (Faulty at kind) place behind = framed [] (Bad (place + at) kind)

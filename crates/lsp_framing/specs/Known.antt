@@ -6,26 +6,27 @@ use Rattle.lsp_framing.specs.declared.header.State.{State}
 use Rattle.lsp_framing.specs.declared.header.State.TheVariants.{Header, Content, Faulty}
 use Rattle.lsp_framing.specs.Lines as spelled
 use Rattle.lsp_framing.specs.Frames as found
-use Rattle.lsp_framing.specs.Lines.{header, header_from, lines, lines_from, longest_header, longest_content}
+use Rattle.lsp_framing.specs.Lines.{header, header_from, longest_header, longest_content}
+use Rattle.lsp_framing.specs.Scanned.{lines_met, lines_from}
 use Rattle.lsp_framing.specs.Frames.{front}
 
 -- However it goes on behind these bytes, the line that stands last begins at `line`, and those before it state `stated`.
 pub record Reads (read : List ℕ) (line : ℕ) (stated : Option ℕ) : Type 0 where
   pub within : line ≤ length read
   pub most : IfSome stated (λ n. n ≤ longest_content)
-  pub goes_on : (more : List ℕ) → header_from None 0 (lines (read ++ more)) ≡ header_from stated line (lines_from (drop line read) more)
+  pub goes_on : (more : List ℕ) → header_from None 0 (lines_met (read ++ more)) ≡ header_from stated line (lines_from (drop line read) more)
 
 -- However it goes on behind the first `size` of these bytes, they are a header part.
 pub record Holds (read : List ℕ) (size len : ℕ) : Type 0 where
   pub within : size ≤ length read
   pub some : 0 < size
   pub most : len ≤ longest_content
-  pub goes_on : (more : List ℕ) → header_from None 0 (lines (take size read ++ more)) ≡ spelled.Ended size len
+  pub goes_on : (more : List ℕ) → header_from None 0 (lines_met (take size read ++ more)) ≡ spelled.Ended size len
 
 -- However it goes on behind these bytes, the header part has this fault.
 pub record Fails (read : List ℕ) (at : ℕ) (kind : FrameKind) : Type 0 where
   pub within : at ≤ length read
-  pub goes_on : (more : List ℕ) → header_from None 0 (lines (read ++ more)) ≡ spelled.Fault at kind
+  pub goes_on : (more : List ℕ) → header_from None 0 (lines_met (read ++ more)) ≡ spelled.Fault at kind
 
 -- what was found in a window of the header part, of which all bytes were read
 abbrev pub FoundIn : List ℕ → State → Type 0

@@ -1,4 +1,5 @@
 pub mod Lines
+pub mod Scanned
 pub mod Frames
 pub mod Standing
 pub mod Written

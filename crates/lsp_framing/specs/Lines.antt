@@ -1,6 +1,6 @@
 -- The header part of a frame: its lines, and what they state (LSP 3.17, "Base Protocol", "Header Part").
 -- 10 is LF, 13 CR, 58 ':', 32 a blank and 9 a tab.
-use Rattle.std.specs.Prelude.{ℕ, ◌+◌, ◌-◌, Bool, true, if◌then◌else◌, not, ◌&&◌, ◌||◌, ◌==◌, nat_lt, List, [], ◌∷◌, ◌++◌, length, take, drop, slice_index, Option, Some, None, Result, Ok, Err, position, codes}
+use Rattle.std.specs.Prelude.{ℕ, zero, suc, ◌+◌, ◌-◌, Bool, true, false, if◌then◌else◌, not, ◌&&◌, ◌||◌, ◌==◌, nat_lt, List, [], ◌∷◌, length, take, drop, option_map, Option, Some, None, Result, Ok, Err, position, codes}
 use Rattle.std.specs.List.{prefix_len, suffix_len, list_all}
 use Rattle.std.specs.Option.{option_map_or}
 use Rattle.std.specs.Char.{is_ascii_digit}
@@ -10,17 +10,24 @@ use Rattle.std.specs.Str.Parse.{digits_value}
 use Rattle.lsp_framing.specs.declared.FrameKind.{FrameKind}
 use Rattle.lsp_framing.specs.declared.FrameKind.TheVariants.{NoLength, BadLength, BadField, ContentLong}
 
--- The line that a byte ends, behind what stands of the line so far: the byte is an LF that follows a CR.
-unfoldable pub line_ended : List ℕ → ℕ → Option (List ℕ)
-line_ended so_far byte = if byte == 10 && slice_index so_far (length so_far - 1) == 13 then Some (take (length so_far - 1) so_far) else None
+-- the next byte is an LF
+abbrev pub begins_with_lf : List ℕ → Bool
+begins_with_lf [] = false
+begins_with_lf (b ∷ rest) = b == 10
 
--- The lines of a text that have ended, each at the first CR LF from its start. `so_far` is what stands of the first.
-abbrev pub lines_from : List ℕ → List ℕ → List (List ℕ)
-lines_from so_far [] = []
-lines_from so_far (b ∷ rest) = option_map_or (λ line. line ∷ lines_from [] rest) (line_ended so_far b) (lines_from (so_far ++ b ∷ []) rest)
+-- where the first CR LF of a text begins
+abbrev pub line_end : List ℕ → Option ℕ
+line_end [] = None
+line_end (b ∷ rest) = if b == 13 && begins_with_lf rest then Some 0 else option_map (λ n. n + 1) (line_end rest)
+
+-- The lines of a text that have ended, each at the first CR LF from its start. The first `skip` bytes belong to a line before.
+abbrev pub lines_behind : ℕ → List ℕ → List (List ℕ)
+lines_behind skip [] = []
+lines_behind (suc skip) (b ∷ rest) = lines_behind skip rest
+lines_behind zero (b ∷ rest) = option_map_or (λ n. take n (b ∷ rest) ∷ lines_behind (n + 1) rest) (line_end (b ∷ rest)) []
 
 abbrev pub lines : List ℕ → List (List ℕ)
-lines text = lines_from [] text
+lines text = lines_behind 0 text
 
 -- a field's name is one byte or more from 0x21 to 0x7E, other than ':', which ends it
 unfoldable pub is_name : List ℕ → Bool

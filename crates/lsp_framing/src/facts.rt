@@ -1,7 +1,7 @@
 //! What the definition of frames gives alone, whatever the code does. These functions do nothing.
-ghost use Rattle.std.specs.Prelude.{◌≡◌, ℕ, ◌≤◌, List, [], ◌++◌, length, take, slice_get, Some};
+ghost use Rattle.std.specs.Prelude.{◌≡◌, ◌≢◌, ℕ, ◌+◌, ◌*◌, ◌≤◌, List, [], ◌∷◌, ◌++◌, length, take, drop, slice_get, Some};
 ghost use Rattle.lsp_framing.specs.declared.FrameKind.{FrameKind};
-ghost use Rattle.lsp_framing.specs.Frames.{frames, framed, Empty, Bad};
+ghost use Rattle.lsp_framing.specs.Frames.{front, Whole, Faulty, Unfinished, frames, framed, after, shifted, Empty, Open, Bad};
 ghost use Rattle.lsp_framing.specs.Lines.{longest_content};
 ghost use Rattle.lsp_framing.specs.Written.{written};
 ghost use Rattle.std.specs.List.{AllByRecursion, flat_map};
@@ -9,6 +9,27 @@ ghost use Rattle.std.specs.List.{AllByRecursion, flat_map};
 /// No byte is no frame.
 pub fn frames_nil()
     ensures { frames [] ≡ framed [] Empty }
+{}
+
+/// A whole frame in front gives its content, and behind it stand the frames of the bytes that follow it.
+pub fn frame_in_front()
+    ensures { (bytes : List ℕ) (size : ℕ) (content : List ℕ) → front bytes ≡ Whole size content
+        → frames bytes ≡ after (content ∷ []) (shifted (size + length content) (frames (drop (size + length content) bytes))) }
+{}
+
+/// A fault in front is what stands.
+pub fn fault_in_front()
+    ensures { (bytes : List ℕ) (at : ℕ) (kind : FrameKind) → front bytes ≡ Faulty at kind → bytes ≢ [] → frames bytes ≡ framed [] (Bad at kind) }
+{}
+
+/// Bytes that may yet become a frame or a fault are what stands.
+pub fn open_in_front()
+    ensures { (bytes : List ℕ) → front bytes ≡ Unfinished → bytes ≢ [] → frames bytes ≡ framed [] Open }
+{}
+
+/// A frame has twenty bytes at the least, so an input has few contents.
+pub fn contents_few()
+    ensures { (bytes : List ℕ) → length (frames bytes).contents * 20 ≤ length bytes }
 {}
 
 /// More bytes leave the contents that were there.

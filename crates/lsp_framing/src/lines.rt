@@ -4,7 +4,8 @@ ghost use Rattle.std.specs.Char.{is_ascii_digit};
 ghost use Rattle.std.specs.Int.{is_in_range};
 ghost use Rattle.std.specs.List.{list_all, prefix_len, suffix_len};
 ghost use Rattle.std.specs.Str.Parse.{digits_value};
-ghost use Rattle.lsp_framing.specs.Lines.{line_ended, is_name, is_unbroken, is_blank, trimmed, is_number, with_length, with_field, with_line, longest_content};
+ghost use Rattle.lsp_framing.specs.Scanned.{line_ended};
+ghost use Rattle.lsp_framing.specs.Lines.{is_name, is_unbroken, is_blank, trimmed, is_number, with_length, with_field, with_line, longest_content};
 
 use crate::FrameKind;
 
@@ -12,7 +13,7 @@ use crate::FrameKind;
 const LONGEST_CONTENT: u32 = 16_777_216;
 
 /// The line that `byte` ends, behind what stands of the line so far.
-#[tactic(auto, unfolding(crate::specs::Lines::line_ended))]
+#[tactic(auto, unfolding(crate::specs::Scanned::line_ended))]
 pub fn line_ended(so_far: &[u8], byte: u8) -> Option<&[u8]>
     ensures { option_map (λ line. line.now) result ≡ line_ended so_far.now byte }
 {

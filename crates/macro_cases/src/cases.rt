@@ -1,9 +1,9 @@
-// Cases: a line `budget` with the number of replacements that may be made, `#define` lines, and a text of one line. The
-// definitions stand in texts `/m0.h`, `/m1.h` and so on, the text in `/t.c`, and every site is on line 1, but after
+// Cases: a line `budget` with the number of replacements that may be made, where a line `room` stands no more than so
+// many tokens that are wanted, `#define` lines, and a text of one line. The definitions stand in texts `/m0.h`, `/m1.h` and so on, the text in `/t.c`, and every site is on line 1, but after
 // `no lines`, where no line is known.
 use crate::reading::{definition, tokens_of};
 use crate::shown::shown;
-use macro_expand::expand;
+use macro_expand::{Within, expand, expand_within};
 use macro_table::MacroTable;
 use std::alloc::{AllocError, Global};
 use tok_data::{OutToken, TokId};
@@ -14,6 +14,7 @@ pub struct Case {
     table: MacroTable,
     defined: u32,
     budget: u32,
+    room: Option<usize>,
     lines_known: bool,
 }
 
@@ -31,12 +32,17 @@ impl Case {
             table: MacroTable::new(alloc),
             defined: 0,
             budget: budget.parse::<u32>().unwrap_or(0),
+            room: None,
             lines_known: true,
         }
     }
 
     pub fn without_lines(&mut self) {
         self.lines_known = false;
+    }
+
+    pub fn limit(&mut self, room: &str) {
+        self.room = Some(room.parse::<usize>().unwrap_or(0));
     }
 
     /// A `#define` line.
@@ -58,13 +64,23 @@ impl Case {
         } else {
             Vec::new(alloc)
         };
-        let expanded = expand(
-            alloc,
-            tokens.as_slice(),
-            &self.table,
-            lines.as_slice(),
-            self.budget,
-        )?;
-        shown(alloc, &expanded)
+        let within = self.within(alloc, tokens.as_slice(), lines.as_slice())?;
+        shown(alloc, &within)
+    }
+
+    fn within(
+        &self,
+        alloc: Global,
+        tokens: &[OutToken],
+        lines: &[(TokId, u32)],
+    ) -> Result<Within, AllocError> {
+        if let Some(room) = self.room {
+            return expand_within(alloc, tokens, &self.table, lines, self.budget, room);
+        }
+        let expanded = expand(alloc, tokens, &self.table, lines, self.budget)?;
+        Ok(Within {
+            expanded,
+            left_out: None,
+        })
     }
 }

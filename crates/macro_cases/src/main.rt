@@ -1,6 +1,7 @@
 // Macro expansion, case by case: reads cases from standard input and prints what the text of each expands to. With a
 // word, standard input is one text: `#define` lines, and behind them what is expanded; it prints how many tokens came
-// of it, how many replacements were made and how many faults there were. `bench/run` times that.
+// of it, no more than the word says where it is a number, how many replacements were made and how many faults there
+// were. `bench/run` times that.
 #![tactic(auto)]
 
 mod cases;
@@ -8,7 +9,7 @@ mod reading;
 mod shown;
 
 use cases::Case;
-use macro_expand::expand;
+use macro_expand::expand_within;
 use macro_table::MacroTable;
 use reading::{definition, tokens_of};
 use std::alloc::{AllocError, Global};
@@ -28,6 +29,8 @@ fn play(rt: &HostRuntime, text: &str) -> io::Result<()> {
     for line in text.split('\n') {
         if let Some(budget) = line.strip_prefix("budget ") {
             case = Case::begun(alloc, budget);
+        } else if let Some(room) = line.strip_prefix("room ") {
+            case.limit(room);
         } else if line == "no lines" {
             case.without_lines();
         } else if line.starts_with("#define ") {
@@ -55,11 +58,12 @@ fn defined<'a>(alloc: Global, text: &'a str) -> Result<(MacroTable, &'a str), Al
     Ok((table, rest))
 }
 
-fn count(rt: &HostRuntime, text: &str) -> io::Result<()> {
+fn count(rt: &HostRuntime, text: &str, room: usize) -> io::Result<()> {
     let alloc = rt.alloc();
     let (table, rest) = defined(alloc, text)?;
     let tokens = tokens_of(alloc, "/t.c", rest)?;
-    let expanded = expand(alloc, tokens.as_slice(), &table, &[], u32::MAX)?;
+    let within = expand_within(alloc, tokens.as_slice(), &table, &[], u32::MAX, room)?;
+    let expanded = within.expanded;
     let count = expanded.tokens.as_slice().len();
     let used = expanded.used;
     let faults = expanded.faults.as_slice().len();
@@ -69,8 +73,12 @@ fn count(rt: &HostRuntime, text: &str) -> io::Result<()> {
 fn main(rt: HostRuntime) -> io::Result<()> {
     let mut text = String::new(rt.alloc());
     rt.stdin().read_to_string(&mut text)?;
-    if env::args(&rt)?.skip(1).next().is_some() {
-        return count(&rt, text.as_str());
+    if let Some(word) = env::args(&rt)?.skip(1).next() {
+        return count(
+            &rt,
+            text.as_str(),
+            word.parse::<usize>().unwrap_or(usize::MAX),
+        );
     }
     play(&rt, text.as_str())
 }

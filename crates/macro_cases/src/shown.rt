@@ -1,7 +1,8 @@
 // What expansion gives, a line for each thing: the number of replacements behind `=`; a token (its kind, `_` after
 // white space, where it is spelt, its site and its spelling); a fault behind `!`; a token that `#` spelled behind `#`;
-// an occurrence of a macro's name behind `@`; and behind `?` the site whose line isn't known.
-use macro_expand::Expanded;
+// an occurrence of a macro's name behind `@`; behind `?` the site whose line isn't known; and behind `~` the site of the
+// first token that is left out.
+use macro_expand::Within;
 use std::alloc::{AllocError, Global};
 use tok_data::{MacroOcc, MacroRole, OutToken, PpFault, PpKind, Spelt, TokId};
 
@@ -103,7 +104,8 @@ fn push_notes(
 }
 
 /// The lines of an expansion.
-pub fn shown(alloc: Global, expanded: &Expanded) -> Result<String, AllocError> {
+pub fn shown(alloc: Global, within: &Within) -> Result<String, AllocError> {
+    let expanded = &within.expanded;
     let used = expanded.used;
     let mut out = format!(in alloc; "= {used}\n")?;
     push_tokens(
@@ -121,6 +123,10 @@ pub fn shown(alloc: Global, expanded: &Expanded) -> Result<String, AllocError> {
     if let Some(tok) = &expanded.asked {
         let tok = shown_tok(alloc, tok)?;
         out.push_str(format!(in alloc; "? {tok}\n")?.as_str())?;
+    }
+    if let Some(tok) = &within.left_out {
+        let tok = shown_tok(alloc, tok)?;
+        out.push_str(format!(in alloc; "~ {tok}\n")?.as_str())?;
     }
     Ok(out)
 }

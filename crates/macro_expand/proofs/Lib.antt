@@ -7,6 +7,7 @@ pub mod ItemLemmas
 pub mod ElementLemmas
 pub mod SubstitutionLemmas
 pub mod ReadingLemmas
+pub mod ParensLemmas
 pub mod Examples
 pub mod SetLemmas
 pub mod NumberLemmas
@@ -15,3 +16,4 @@ pub mod FindingLemmas
 pub mod JoinLemmas
 pub mod MachineLemmas
 pub mod UnmentionedLemmas
+pub mod KeepingLemmas

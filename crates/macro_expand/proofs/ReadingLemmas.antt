@@ -51,7 +51,7 @@ count_snoc text (u ∷ us) t =
     let last : ℕ = one_if (is_mark text t.token) in
     omega (arith, more)
 
-open_snoc : (d d' : ℕ) (ts : List Marked) (t : Marked) (opens closes : Bool) → IsOpen d ts
+pub open_snoc : (d d' : ℕ) (ts : List Marked) (t : Marked) (opens closes : Bool) → IsOpen d ts
     → is_mark (codes "(") t.token ≡ opens → is_mark (codes ")") t.token ≡ closes
     → d' + one_if closes ≡ d + one_if opens → IsOpen d' (ts ++ t ∷ [])
 open_snoc d d' ts t opens closes stands opens_is closes_is deeper =
@@ -72,7 +72,7 @@ same_test a b d stands =
     (λ e. let same = eqb-true a b e in eq-eqb d 1 (omega (arith, stands, same)))
     (λ e. let differ = eqb-false a b e in ne_eqb d 1 (λ one. differ (omega (arith, stands, one))))
 
-balanced_is : (d : ℕ) (ts : List Marked) → IsOpen d ts → balanced ts ≡ eqb d 1
+pub balanced_is : (d : ℕ) (ts : List Marked) → IsOpen d ts → balanced ts ≡ eqb d 1
 unfolding balanced
 balanced_is d ts stands = same_test (call.count (codes "(") ts) (call.count (codes ")") ts) d stands
 

@@ -4,6 +4,7 @@ pub mod Stands
 pub mod Joins
 pub mod Numbers
 pub mod Tokens
+pub mod Parens
 pub mod Progress
 pub mod Arguments
 pub mod Reading
@@ -14,3 +15,5 @@ pub mod Building
 pub mod Expansion
 pub mod Steps
 pub mod Machine
+pub mod Room
+pub mod Keeping

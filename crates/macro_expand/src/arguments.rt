@@ -1,16 +1,16 @@
 // The arguments of a function-like macro (ISO C11 6.10.3p4, p10 to p12).
 ghost use Rattle.std.specs.Prelude.{◌≡◌, [], ◌++◌, ◌∷◌, ◌≤◌, ◌<◌};
-ghost use Rattle.std.specs.Prelude.{◌^◌, ◌+◌, length, drop, IfOk, IsTrue, ◌↔◌, option_copied};
+ghost use Rattle.std.specs.Prelude.{◌^◌, ◌+◌, length, IfOk, option_copied};
 ghost use Rattle.macro_expand.specs.Arguments as spec;
 ghost use Rattle.macro_expand.specs.Reading as turns;
 
 use crate::hide::HideSet;
+use crate::rest::Rest;
 use crate::tokens::{is_ident, is_mark};
 use crate::types::{Marked, MarkedList};
 use macro_table::MacroDef;
 use shared_text::Name;
 use std::alloc::{AllocError, Global};
-use std::collections::VecDeque;
 use std::marker::Model;
 use tok_data::OutToken;
 
@@ -50,84 +50,6 @@ impl ArgumentList {
         let mut items = self.items;
         items.push(argument)?;
         Ok(ArgumentList { items })
-    }
-}
-
-// A list of tokens that is read from the front and written there.
-#[derive(Debug, Drop)]
-pub(crate) struct Rest {
-    items: VecDeque<Marked>,
-}
-
-impl Model for Rest {
-    ghost use Rattle.std.specs.Prelude.{List};
-    ghost use Rattle.macro_expand.specs.declared.types.Marked.{Marked};
-
-    ghost Value = { List Marked };
-
-    ghost view = { λ r. r.items.items };
-}
-
-impl Rest {
-    pub(crate) fn from_list(list: MarkedList) -> Rest
-        ensures { result ≡ list }
-    {
-        Rest {
-            items: VecDeque::from_vec(list.into_vec()),
-        }
-    }
-
-    pub(crate) fn items(&self) -> &VecDeque<Marked>
-        ensures { result.now.items ≡ self.now }
-    {
-        &self.items
-    }
-
-    pub(crate) fn from_items(items: VecDeque<Marked>) -> Rest
-        ensures { result ≡ items.items }
-    {
-        Rest { items }
-    }
-
-    pub(crate) fn is_empty(&self) -> bool
-        ensures { IsTrue result ↔ (self.now ≡ []) }
-    {
-        self.items.is_empty()
-    }
-
-    // The same in less memory, where most of it is unused: a list may wait while others are expanded.
-    pub(crate) fn slim(self) -> Rest
-        ensures { result ≡ self }
-    {
-        let mut items = self.items;
-        if items.len() < items.capacity() / 4 {
-            items.shrink_to(items.len() * 2);
-        }
-        Rest { items }
-    }
-
-    // Without its first token, where it has one.
-    pub(crate) fn behind(self) -> Rest
-        ensures { result ≡ drop 1 self }
-    {
-        let mut items = self.items;
-        let _first = items.pop_front();
-        Rest { items }
-    }
-
-    // With one token more at the front.
-    pub(crate) fn before(self, token: Marked) -> Result<Rest, AllocError>
-        ensures { IfOk result (λ r. r ≡ token ∷ self) }
-    {
-        let mut items = self.items;
-        items.push_front(token)?;
-        Ok(Rest { items })
-    }
-
-    pub(crate) fn into_items(self) -> VecDeque<Marked>
-        ensures { result.items ≡ self }
-    {
-        self.items
     }
 }
 
@@ -312,10 +234,13 @@ fn at_end(reading: &Reading) -> Called
     }
 }
 
-// The call that the tokens behind a name begin with.
+// The call that the tokens behind a name begin with. One that isn't closed isn't read.
 pub(crate) fn read_call(alloc: Global, def: &MacroDef, rest: &Rest) -> Result<Called, AllocError>
     ensures { IfOk result (λ c. c ≡ spec.called def.now rest.now) }
 {
+    if rest.is_open() {
+        return Ok(Called::Unclosed);
+    }
     let items = rest.items();
     let mut reading = Reading {
         depth: 0,

@@ -6,14 +6,13 @@ ghost use Rattle.macro_expand.specs.Numbers.{real, reals, real_operand, real_bui
 ghost use Rattle.macro_expand.specs.Building as spec;
 ghost use Rattle.macro_expand.specs.Tokens.{last_of};
 
-use crate::arguments::Rest;
 use crate::glue::pasted;
-use crate::lists::TokIds;
 use crate::operands::Operand;
+use crate::rest::Queue;
 use crate::sets::Sets;
 use crate::types::{Marked, MarkedList, Progress};
 use std::alloc::{AllocError, Global};
-use tok_data::TokId;
+use tok_data::{TokId, TokIds};
 
 // What was made of the front of a replacement list.
 #[derive(Debug, Drop)]
@@ -36,7 +35,7 @@ pub(crate) struct Part {
 }
 
 // A list with the rest of another behind it.
-fn appended(list: MarkedList, rest: Rest) -> Result<MarkedList, AllocError>
+fn appended(list: MarkedList, rest: Queue) -> Result<MarkedList, AllocError>
     ensures { IfOk result (λ all. all ≡ list ++ rest) }
 {
     let mut out = list.into_vec();
@@ -82,7 +81,7 @@ impl Building {
             empty: _,
             first: _,
         } = self;
-        let mut items = Rest::from_list(more).into_items();
+        let mut items = Queue::from_list(more).into_items();
         let Some(token) = items.pop_front() else {
             return Ok(Building {
                 progress,
@@ -93,7 +92,7 @@ impl Building {
             });
         };
         let front = tokens.with(token.spaced(space))?;
-        let tokens = appended(front, Rest::from_items(items))?;
+        let tokens = appended(front, Queue::from_items(items))?;
         Ok(Building {
             progress,
             tokens,
@@ -134,11 +133,11 @@ impl Building {
         ensures value { IfOk result (λ b. (f : Names → Names) → Stands f sets.new
             → real_building f b ≡ spec.glued site.now (reals f more) (real_building f self)) }
     {
-        let mut items = Rest::from_list(more).into_items();
+        let mut items = Queue::from_list(more).into_items();
         let Some(right) = items.pop_front() else {
             return Ok(self);
         };
-        let built = self.pasted_to(alloc, sets, site, right, Rest::from_items(items))?;
+        let built = self.pasted_to(alloc, sets, site, right, Queue::from_items(items))?;
         Ok(built)
     }
 
@@ -149,7 +148,7 @@ impl Building {
         sets: &mut Sets,
         site: &TokId,
         right: Marked,
-        behind: Rest,
+        behind: Queue,
     ) -> Result<Building, AllocError>
         ensures grows { OnOk result (Grows sets.old sets.new) }
         ensures value { IfOk result (λ b. (f : Names → Names) → Stands f sets.new

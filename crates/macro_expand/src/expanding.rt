@@ -10,20 +10,23 @@ ghost use Rattle.macro_expand.specs.Progress as made;
 ghost use Rattle.macro_expand.specs.Machine as work;
 ghost use Rattle.macro_expand.specs.Substitution.{Expander};
 ghost use Rattle.macro_expand.specs.Tokens as tokens;
+ghost use Rattle.macro_expand.specs.Keeping as keeping;
+ghost use Rattle.macro_expand.specs.Room.{within};
 
-use crate::arguments::{ArgumentList, Rest};
+use crate::arguments::ArgumentList;
 use crate::finding::{Found, Meaning, line_in, macro_found, meaning_of};
 use crate::hide::HideSet;
-use crate::lists::{MacroOccs, OutTokens, PpFaults, TokIds};
+use crate::keeping::{Held, Kept};
 use crate::machine::expansion;
 use crate::operands::quoted_text;
+use crate::rest::Rest;
 use crate::sets::Sets;
 use crate::splicing::dropped;
-use crate::types::{Expanded, Marked, MarkedList, Outcome, Progress};
+use crate::types::{Expanded, Marked, MarkedList, Progress, Within};
 use macro_table::{MacroDef, MacroTable};
 use shared_text::Name;
 use std::alloc::{AllocError, Global};
-use tok_data::{OutToken, PpKind, Spelt, TokId};
+use tok_data::{MacroOccs, OutToken, OutTokens, PpFaults, PpKind, Spelt, TokId, TokIds};
 
 // What came of the first token of a list: it is kept, or its replacement stands in what is left.
 #[derive(Debug, Drop)]
@@ -229,17 +232,6 @@ fn plain_list(alloc: Global, list: &[OutToken]) -> Result<MarkedList, AllocError
     Ok(MarkedList::from_vec(out))
 }
 
-fn bare_list(alloc: Global, list: MarkedList) -> Result<OutTokens, AllocError>
-    ensures { IfOk result (λ l. l ≡ list_map (λ t. t.token) list) }
-{
-    let tokens = list
-        .into_vec()
-        .into_iter()
-        .map(|marked| marked.token)
-        .collect(alloc)?;
-    Ok(OutTokens::from_vec(tokens))
-}
-
 fn at_first(alloc: Global, budget: u32) -> Progress
     ensures { result ≡ spec.at_first budget }
 {
@@ -253,11 +245,11 @@ fn at_first(alloc: Global, budget: u32) -> Progress
     }
 }
 
-fn told(alloc: Global, budget: u32, outcome: Outcome) -> Result<Expanded, AllocError>
-    requires { outcome.progress.left ≤ budget }
-    ensures { IfOk result (λ e. e ≡ spec.told budget outcome) }
+fn told(alloc: Global, budget: u32, held: Held) -> Within
+    requires { held.progress.left ≤ budget }
+    ensures { result ≡ keeping.told budget held }
 {
-    let Outcome { progress, tokens } = outcome;
+    let Held { progress, kept } = held;
     let Progress {
         left,
         stopped: _,
@@ -266,28 +258,60 @@ fn told(alloc: Global, budget: u32, outcome: Outcome) -> Result<Expanded, AllocE
         macros,
         asked,
     } = progress;
+    let Kept { tokens, left_out } = kept;
     let used = budget - left;
     match asked {
-        None => {
-            let tokens = bare_list(alloc, tokens)?;
-            Ok(Expanded {
+        None => Within {
+            expanded: Expanded {
                 tokens,
                 used,
                 faults,
                 spelled,
                 macros,
                 asked: None,
-            })
-        }
-        Some(site) => Ok(Expanded {
-            tokens: OutTokens::from_vec(Vec::new(alloc)),
-            used,
-            faults: PpFaults::from_vec(Vec::new(alloc)),
-            spelled: TokIds::from_vec(Vec::new(alloc)),
-            macros: MacroOccs::from_vec(Vec::new(alloc)),
-            asked: Some(site),
-        }),
+            },
+            left_out,
+        },
+        Some(site) => Within {
+            expanded: Expanded {
+                tokens: OutTokens::from_vec(Vec::new(alloc)),
+                used,
+                faults: PpFaults::from_vec(Vec::new(alloc)),
+                spelled: TokIds::from_vec(Vec::new(alloc)),
+                macros: MacroOccs::from_vec(Vec::new(alloc)),
+                asked: Some(site),
+            },
+            left_out: None,
+        },
     }
+}
+
+/// What `expand` gives, with no more than its first `room` tokens, and the site of the first one that is left out. The
+/// tokens that are left out take no memory but within an argument, which is expanded before it is put anywhere.
+///
+/// It fails for want of memory alone, and takes the time of the whole expansion.
+pub fn expand_within(
+    alloc: Global,
+    tokens: &[OutToken],
+    table: &MacroTable,
+    lines: &[(TokId, u32)],
+    budget: u32,
+    room: usize,
+) -> Result<Within, AllocError>
+    ensures { IfOk result (λ w. w ≡ within room (spec.expanded (map.get table.now) lines.now budget tokens.now)) }
+{
+    let list = plain_list(alloc, tokens)?;
+    let mut sets = Sets::new(alloc);
+    let held = expansion(
+        alloc,
+        &mut sets,
+        table,
+        lines,
+        room,
+        at_first(alloc, budget),
+        list,
+    )?;
+    Ok(told(alloc, budget, held))
 }
 
 /// The expansion of a list of tokens (ISO C11 6.10.3), with the macros of `table`, by Prosser's algorithm: each token
@@ -299,7 +323,7 @@ fn told(alloc: Global, budget: u32, outcome: Outcome) -> Result<Expanded, AllocE
 /// behind it, 211 warns of an absent variable argument.
 ///
 /// It fails for want of memory alone. Its cost isn't linear in `tokens`: each replacement may bring more tokens, a call
-/// within arguments is read again at each depth, an open one up to the end, and each `__LINE__` goes through `lines`.
+/// within arguments is read again at each depth, and each `__LINE__` goes through `lines`. An open call isn't read.
 pub fn expand(
     alloc: Global,
     tokens: &[OutToken],
@@ -309,16 +333,11 @@ pub fn expand(
 ) -> Result<Expanded, AllocError>
     ensures { IfOk result (λ e. e ≡ spec.expanded (map.get table.now) lines.now budget tokens.now) }
 {
-    let list = plain_list(alloc, tokens)?;
-    let mut sets = Sets::new(alloc);
-    let outcome = expansion(
-        alloc,
-        &mut sets,
-        table,
-        lines,
-        at_first(alloc, budget),
-        list,
-    )?;
-    let expanded = told(alloc, budget, outcome)?;
+    let within = expand_within(alloc, tokens, table, lines, budget, usize::MAX)?;
+    let Within {
+        expanded,
+        left_out: _,
+    } = within;
+    let _count = expanded.tokens.as_slice().len();
     Ok(expanded)
 }

@@ -9,8 +9,9 @@ ghost use Rattle.macro_expand.specs.Steps as steps;
 ghost use Rattle.macro_expand.specs.Progress as made;
 ghost use Rattle.macro_expand.specs.declared.finding.Found.TheVariants.{Stays};
 
-use crate::arguments::{ArgumentList, Called, Rest, fitted, lacks_variable, read_call};
+use crate::arguments::{ArgumentList, Called, fitted, lacks_variable, read_call};
 use crate::hide::HideSet;
+use crate::rest::Rest;
 use crate::sets::Sets;
 use crate::tokens::is_ident;
 use crate::types::{Marked, Progress};

@@ -2,22 +2,25 @@
 ghost use Rattle.std.specs.Prelude.{◌≡◌, ◌≤◌, ◌<◌, ◌+◌, ◌∷◌, length, IfOk, OnOk};
 ghost use Rattle.macro_expand.specs.Codes.{Names};
 ghost use Rattle.macro_expand.specs.Stands.{Stands, Grows};
-ghost use Rattle.macro_expand.specs.Numbers.{reals, real_outcome};
+ghost use Rattle.macro_expand.specs.Numbers.{reals};
 ghost use Rattle.std.specs.FinMap as map;
 ghost use Rattle.macro_expand.specs.Expansion as spec;
 ghost use Rattle.macro_expand.specs.Steps as steps;
 ghost use Rattle.macro_expand.specs.Machine as work;
+ghost use Rattle.macro_expand.specs.Keeping as keeping;
 ghost use Rattle.macro_expand.specs.Substitution.{Expander};
 
 use crate::advancing::{Advance, mentions, read_list};
-use crate::arguments::{ArgumentList, Rest};
+use crate::arguments::ArgumentList;
 use crate::building::Building;
 use crate::expanding::{Step, Taken, take_step};
 use crate::hide::HideSet;
+use crate::keeping::{Held, Kept, keep, nothing_kept};
+use crate::rest::Rest;
 use crate::sets::Sets;
 use crate::splicing::spliced;
 use crate::tokens::is_ident;
-use crate::types::{Marked, MarkedList, Outcome, Progress};
+use crate::types::{Marked, MarkedList, Progress};
 use macro_table::{MacroDef, MacroTable};
 use std::alloc::{AllocError, Global};
 use std::collections::VecDeque;
@@ -91,22 +94,14 @@ fn walk<'a>(
         rest,
     } = walked;
     let mut progress = progress;
-    let mut rest = rest.into_items();
+    let mut rest = rest;
     let mut done = done.into_vec();
     'tokens: while let Some(token) = rest.pop_front() {
         if !is_ident(token.token.kind) {
             done.push(token)?;
             continue;
         }
-        let taken = take_step(
-            alloc,
-            sets,
-            table,
-            lines,
-            progress,
-            token,
-            Rest::from_items(rest),
-        )?;
+        let taken = take_step(alloc, sets, table, lines, progress, token, rest)?;
         match taken {
             Taken::Settled(step) => {
                 let Step {
@@ -122,7 +117,7 @@ fn walk<'a>(
                     }));
                 };
                 progress = after;
-                rest = behind.into_items();
+                rest = behind;
                 done.push(token)?;
             }
             Taken::Called(after, token, def, args, names, behind) => {
@@ -144,7 +139,7 @@ fn walk<'a>(
     Ok(Stop::Level(Walked {
         progress,
         done: MarkedList::from_vec(done),
-        rest: Rest::from_items(rest),
+        rest,
     }))
 }
 
@@ -210,10 +205,11 @@ fn wait<'a>(
         skip,
         behind,
     })?;
+    let rest = Rest::from_list(alloc, argument)?;
     let level = Walked {
         progress,
         done: MarkedList::new(alloc),
-        rest: Rest::from_list(argument),
+        rest,
     };
     Ok(Machine { level, frames })
 }
@@ -405,29 +401,78 @@ pub(crate) fn climb<'a>(
     }
 }
 
-// The expansion of a list of tokens with their hide sets.
+// A machine, and what is kept of the tokens that left it.
+#[derive(Drop)]
+pub(crate) struct Delivered<'a> {
+    machine: Machine<'a>,
+    kept: Kept,
+}
+
+// What is expanded leaves a machine in which nothing waits.
+fn deliver<'a>(
+    alloc: Global,
+    room: usize,
+    machine: Machine<'a>,
+    kept: Kept,
+) -> Result<Delivered<'a>, AllocError>
+    ensures value { IfOk result (λ d. (f : Names → Names) (again : Expander)
+        → keeping.held room d.kept (work.outcome f again d.machine)
+        ≡ keeping.held room kept (work.outcome f again machine.entry)) }
+    ensures progress { IfOk result (λ d. d.machine.level.progress ≡ machine.entry.level.progress) }
+    ensures rest { IfOk result (λ d. d.machine.level.rest ≡ machine.entry.level.rest) }
+    ensures frames { IfOk result (λ d. d.machine.frames.items ≡ machine.entry.frames.items) }
+{
+    let Machine { level, frames } = machine;
+    if !frames.is_empty() {
+        return Ok(Delivered {
+            machine: Machine { level, frames },
+            kept,
+        });
+    }
+    let Walked {
+        progress,
+        done,
+        rest,
+    } = level;
+    let kept = keep(room, done, kept)?;
+    let level = Walked {
+        progress,
+        done: MarkedList::new(alloc),
+        rest,
+    };
+    Ok(Delivered {
+        machine: Machine { level, frames },
+        kept,
+    })
+}
+
+// The expansion of a list of tokens with their hide sets, of which no more than so many are kept.
 pub(crate) fn expansion(
     alloc: Global,
     sets: &mut Sets,
     table: &MacroTable,
     lines: &[(TokId, u32)],
+    room: usize,
     progress: Progress,
     tokens: MarkedList,
-) -> Result<Outcome, AllocError>
+) -> Result<Held, AllocError>
     ensures grows { OnOk result (Grows sets.old sets.new) }
-    ensures value { IfOk result (λ o. (f : Names → Names) → Stands f sets.new
-        → real_outcome f o ≡ spec.expansion (map.get table.now) lines.now progress (reals f tokens)) }
-    ensures fewer { IfOk result (λ o. o.progress.left ≤ progress.left) }
+    ensures value { IfOk result (λ h. (f : Names → Names) → Stands f sets.new
+        → h ≡ keeping.held room keeping.nothing_kept
+        (spec.expansion (map.get table.now) lines.now progress (reals f tokens))) }
+    ensures fewer { IfOk result (λ h. h.progress.left ≤ progress.left) }
 {
+    let rest = Rest::from_list(alloc, tokens)?;
     let level = Walked {
         progress,
         done: MarkedList::new(alloc),
-        rest: Rest::from_list(tokens),
+        rest,
     };
     let mut machine = Machine {
         level,
         frames: VecDeque::new(alloc),
     };
+    let mut kept = nothing_kept(alloc);
     'names: loop {
         if machine.level.rest.is_empty() && machine.frames.is_empty() {
             let Machine { level, frames: _ } = machine;
@@ -436,12 +481,16 @@ pub(crate) fn expansion(
                 done,
                 rest: _,
             } = level;
-            return Ok(Outcome {
-                progress,
-                tokens: done,
-            });
+            let kept = keep(room, done, kept)?;
+            return Ok(Held { progress, kept });
         }
         let next = climb(alloc, sets, table, lines, machine)?;
-        machine = next;
+        let delivered = deliver(alloc, room, next, kept)?;
+        let Delivered {
+            machine: left,
+            kept: more,
+        } = delivered;
+        machine = left;
+        kept = more;
     }
 }

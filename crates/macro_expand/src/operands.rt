@@ -4,13 +4,12 @@ ghost use Rattle.macro_expand.specs.Spelling as spelling;
 ghost use Rattle.macro_expand.specs.Building as spec;
 
 use crate::arguments::arg_of;
-use crate::lists::TokIds;
 use crate::tokens::{is_hash, is_literal};
 use crate::types::{Marked, MarkedList};
 use macro_table::MacroDef;
 use shared_text::Name;
 use std::alloc::{AllocError, Global};
-use tok_data::{OutToken, PpKind, Spelt};
+use tok_data::{OutToken, PpKind, Spelt, TokIds};
 
 // An operand: its tokens as they are written, the source tokens that it spells, the white space before it, and how many
 // tokens of the list it has besides its first.

@@ -7,8 +7,8 @@ ghost use Rattle.macro_expand.specs.Expansion as spec;
 ghost use Rattle.macro_expand.specs.Substitution as subst;
 ghost use Rattle.macro_expand.specs.Tokens as tokens;
 
-use crate::arguments::Rest;
 use crate::hide::HideSet;
+use crate::rest::Rest;
 use crate::sets::Sets;
 use crate::types::{Marked, MarkedList};
 use std::alloc::{AllocError, Global};
@@ -52,13 +52,12 @@ fn marked_by(
 fn passed_on(space: bool, rest: Rest) -> Result<Rest, AllocError>
     ensures { IfOk result (λ r. r ≡ tokens.passed_on space rest) }
 {
-    let mut items = rest.into_items();
-    let Some(token) = items.pop_front() else {
-        return Ok(Rest::from_items(items));
+    let mut rest = rest;
+    let Some(token) = rest.pop_front() else {
+        return Ok(rest);
     };
     let space = token.token.space_before || space;
-    items.push_front(token.spaced(space))?;
-    Ok(Rest::from_items(items))
+    rest.before(token.spaced(space))
 }
 
 // The tokens on a site, hidden from more names, in front of others.
@@ -75,24 +74,24 @@ fn marked_before(
         → reals f r ≡ subst.all_marked site.now (f names.now) (reals f list) ++ reals f rest) }
 {
     let mut front = list.into_vec();
-    let mut items = rest.into_items();
+    let mut rest = rest;
     while let Some(token) = front.pop() {
         let marked = marked_by(alloc, sets, site, names, token)?;
-        items.push_front(marked)?;
+        let more = rest.before(marked)?;
+        rest = more;
     }
-    Ok(Rest::from_items(items))
+    Ok(rest)
 }
 
 // The first token with this white space before it.
 fn respaced(space: bool, rest: Rest) -> Result<Rest, AllocError>
     ensures { IfOk result (λ r. r ≡ tokens.first_spaced space rest) }
 {
-    let mut items = rest.into_items();
-    let Some(token) = items.pop_front() else {
-        return Ok(Rest::from_items(items));
+    let mut rest = rest;
+    let Some(token) = rest.pop_front() else {
+        return Ok(rest);
     };
-    items.push_front(token.spaced(space))?;
-    Ok(Rest::from_items(items))
+    rest.before(token.spaced(space))
 }
 
 // What replaced a name, in front of the rest.

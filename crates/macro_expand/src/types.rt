@@ -5,11 +5,12 @@ ghost use Rattle.macro_expand.specs.Progress as made;
 ghost use Rattle.macro_expand.specs.Tokens.{last_of};
 
 use crate::hide::HideSet;
-use crate::lists::{MacroOccs, OutTokens, PpFaults, TokIds};
 use shared_text::Name;
 use std::alloc::{AllocError, Global};
 use std::marker::Model;
-use tok_data::{MacroOcc, MacroRole, OutToken, PpFault, Spelt, TokId};
+use tok_data::{
+    MacroOcc, MacroOccs, MacroRole, OutToken, OutTokens, PpFault, PpFaults, Spelt, TokId, TokIds,
+};
 
 // A token with the names that it is hidden from.
 #[derive(Debug, Drop)]
@@ -331,4 +332,13 @@ pub struct Expanded {
     pub macros: MacroOccs,
     /// The first site at which `__LINE__` was to be replaced and whose line isn't known.
     pub asked: Option<TokId>,
+}
+
+/// What macro expansion gives where no more than so many output tokens are wanted.
+#[derive(Debug, Drop)]
+pub struct Within {
+    /// The expansion with the first of its tokens, which are all where there is room for them.
+    pub expanded: Expanded,
+    /// The site of the first token that is left out.
+    pub left_out: Option<TokId>,
 }

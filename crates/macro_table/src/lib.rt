@@ -4,8 +4,6 @@
 mod definition;
 mod same;
 mod table;
-#[cfg(test)]
-mod tests;
 
 pub use definition::{Body, MacroDef, Params};
 pub use table::{Defined, MacroTable};

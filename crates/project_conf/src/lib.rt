@@ -3,8 +3,6 @@
 
 mod conf;
 mod options;
-#[cfg(test)]
-mod tests;
 
 pub use conf::{Conf, IncludePaths, UnitConf, UnitConfs};
 pub use options::{Define, Defines, Folder, Folders, Options};

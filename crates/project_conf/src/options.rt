@@ -2,6 +2,7 @@
 ghost use Rattle.std.specs.Prelude.{◌≡◌, string_bytes};
 ghost use Rattle.project_conf.specs.Options.{no_options};
 
+use shared_list::Listing;
 use shared_text::Name;
 use std::alloc::Global;
 use std::marker::Model;
@@ -36,32 +37,7 @@ impl Folder {
 }
 
 /// Folders to search, in order.
-#[derive(Debug, Drop)]
-pub struct Folders {
-    items: Vec<Folder>,
-}
-
-impl Model for Folders {
-    ghost use Rattle.std.specs.Prelude.{ℕ, List};
-
-    ghost Value = { List (List ℕ) };
-
-    ghost view = { λ folders. folders.items.items };
-}
-
-impl Folders {
-    pub fn from_vec(items: Vec<Folder>) -> Folders
-        ensures { result ≡ items.items }
-    {
-        Folders { items }
-    }
-
-    pub fn as_slice(&self) -> &[Folder]
-        ensures { result.now ≡ self.now }
-    {
-        self.items.as_slice()
-    }
-}
+pub type Folders = Listing<Folder>;
 
 /// A definition that is given to a unit before its own text (ISO C11 6.10.3).
 #[derive(Debug, Drop)]
@@ -73,33 +49,7 @@ pub enum Define {
 }
 
 /// Definitions, in order: each is made over what those before it leave.
-#[derive(Debug, Drop)]
-pub struct Defines {
-    items: Vec<Define>,
-}
-
-impl Model for Defines {
-    ghost use Rattle.std.specs.Prelude.{List};
-    ghost use Rattle.project_conf.specs.declared.options.Define.{Define};
-
-    ghost Value = { List Define };
-
-    ghost view = { λ defines. defines.items.items };
-}
-
-impl Defines {
-    pub fn from_vec(items: Vec<Define>) -> Defines
-        ensures { result ≡ items.items }
-    {
-        Defines { items }
-    }
-
-    pub fn as_slice(&self) -> &[Define]
-        ensures { result.now ≡ self.now }
-    {
-        self.items.as_slice()
-    }
-}
+pub type Defines = Listing<Define>;
 
 /// What the words of the command line say.
 #[derive(Debug, Drop)]

@@ -1,6 +1,7 @@
 // Long chains and wide rows of cells: a walk doesn't stand on the machine's stack. Prints the value and the number of runs
 // after each edit. With three numbers as words, a row's length, a count and a value, it makes so many edits over a row of so
-// many cells, each of which sets another input to the value; `bench/run` times these.
+// many cells, each of which sets another input to the value; with a fourth number the row asks for one cell after the other.
+// `bench/run` times these.
 #![tactic(auto)]
 
 ghost use Rattle.std.specs.Prelude.{◌≡◌, ◌<◌, IfOk, length};
@@ -11,7 +12,7 @@ use std::marker::Brand;
 use std::sync::ledger::Blank;
 use std::{env, io};
 
-static EDITS: [Edit; 9] = [
+static EDITS: [Edit; 12] = [
     Edit {
         input: 0,
         value: 4,
@@ -57,6 +58,21 @@ static EDITS: [Edit; 9] = [
         value: 10,
         demand: Cell::All(10_000),
     },
+    Edit {
+        input: 9_999,
+        value: 6,
+        demand: Cell::Each(10_000),
+    },
+    Edit {
+        input: 9,
+        value: 2,
+        demand: Cell::Each(10_000),
+    },
+    Edit {
+        input: 9,
+        value: 3,
+        demand: Cell::Each(10_000),
+    },
 ];
 
 /// The numbers among the words after the program's name.
@@ -71,7 +87,7 @@ fn numbers_asked(rt: &HostRuntime) -> io::Result<Vec<u32>> {
 }
 
 /// Edits of the first inputs, one after the other: each sets its input to the value, and demands the row.
-fn row_edits(alloc: Global, row: u32, count: u32, value: u32) -> Result<Vec<Edit>, AllocError>
+fn row_edits(alloc: Global, row: Cell, count: u32, value: u32) -> Result<Vec<Edit>, AllocError>
     requires { count < 1000 }
     ensures { IfOk result (λ edits. length edits.items ≡ count) }
 {
@@ -80,7 +96,7 @@ fn row_edits(alloc: Global, row: u32, count: u32, value: u32) -> Result<Vec<Edit
         edits.push(Edit {
             input,
             value,
-            demand: Cell::Wide(row),
+            demand: row,
         })?;
     }
     Ok(edits)
@@ -103,7 +119,11 @@ fn main(rt: HostRuntime) -> io::Result<()> {
     let numbers = numbers_asked(&rt)?;
     match numbers.as_slice() {
         [row, count, value] => {
-            let edits = row_edits(rt.alloc(), *row, (*count).min(999), *value)?;
+            let edits = row_edits(rt.alloc(), Cell::Wide(*row), (*count).min(999), *value)?;
+            show(&rt, edits.as_slice())
+        }
+        [row, count, value, _] => {
+            let edits = row_edits(rt.alloc(), Cell::Each(*row), (*count).min(999), *value)?;
             show(&rt, edits.as_slice())
         }
         _ => show(&rt, &EDITS),

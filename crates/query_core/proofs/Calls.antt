@@ -125,7 +125,7 @@ module _ {K V : Type 0} where
     reads_unset h x isnt = ap (λ b. if b then option_map_or (λ (e : Node K V). e.value) (record_of q h x) (q.unset x) else q.unset x) isnt
 
     -- a key that isn't that of the record has the record that it had
-    other_record : (x : K) → q.same r.key x ≡ false → record_of q new x ≡ record_of q old x
+    pub other_record : (x : K) → q.same r.key x ≡ false → record_of q new x ≡ record_of q old x
     other_record x n =
         ap (λ o. option_map_or (at new) o None) (puts.numbers x ∙ ap (λ b. cond b (Some i) (node_of q old x)) n) ∙
         elim (node_of q old x) as (λ o. node_of q old x ≡ o → option_map_or (at new) o None ≡ option_map_or (at old) o None) [

@@ -106,17 +106,17 @@ module _ {K V : Type 0} where
       open_count q g (reach (q.asks (inputs q g0)) (q.rank (inputs q g0) root) root) * (q.rank (inputs q g0) root + 1) + q.rank (inputs q g0) k
 
   -- the walk, with the key at the end of its path and the frames before it, the last first
-  pub record Walk (q : Queries K V) (g0 : Held K V) (root : K) (g : Held K V) (k : K) (path : List (Frame K)) (steps0 steps : ℕ) : Type 0 where
+  pub record Walk {S : Type 0} (q : Queries K V) (has_read : K → S → List (K × V) → Type 0) (g0 : Held K V) (root : K) (g : Held K V) (k : K) (path : List (Frame K S)) (steps0 steps : ℕ) : Type 0 where
     pub sound0 : IsSound q g0
     pub sound : IsSound q g
     pub added : List K
     pub left : Left q g0 g root added
     pub due : Each (IsRun q g0 root) added
     pub counted : steps ≡ steps0 + length added
-    pub leads : Leads q g root k path
+    pub leads : Leads q has_read g root k path
 
-  pub walk_begins : (q : Queries K V) (g : Held K V) (root k : K) (steps : ℕ) → IsSound q g → k ≡ root → Walk q g root g k [] steps steps
-  walk_begins q g root k steps sound e = record {
+  pub walk_begins : {S : Type 0} (q : Queries K V) (has_read : K → S → List (K × V) → Type 0) (g : Held K V) (root k : K) (steps : ℕ) → IsSound q g → k ≡ root → Walk q has_read g root g k [] steps steps
+  walk_begins q has_read g root k steps sound e = record {
     sound0 = sound;
     sound = sound;
     added = [];
@@ -126,21 +126,21 @@ module _ {K V : Type 0} where
     leads = e;
   }
 
-  module _ (q : Queries K V) (laws : AreLawful q) (g0 : Held K V) (root : K) (g : Held K V) (k : K) (path : List (Frame K)) (steps0 steps : ℕ) (w : Walk q g0 root g k path steps0 steps) where
+  module _ {S : Type 0} (q : Queries K V) (has_read : K → S → List (K × V) → Type 0) (laws : AreLawful q) (g0 : Held K V) (root : K) (g : Held K V) (k : K) (path : List (Frame K S)) (steps0 steps : ℕ) (w : Walk q has_read g0 root g k path steps0 steps) where
     -- a key waits for another one
-    pub walk_waits : (g' : Held K V) (steps' : ℕ) (frame : Frame K) (on : K) → g' ≡ g → steps' ≡ steps → frame.key ≡ k → IsFrame q g frame → Has (q.asks (inputs q g) k) on
-        → Walk q g0 root g' on (frame ∷ path) steps0 steps'
+    pub walk_waits : (g' : Held K V) (steps' : ℕ) (frame : Frame K S) (on : K) → g' ≡ g → steps' ≡ steps → frame.key ≡ k → IsFrame q has_read g frame → Has (q.asks (inputs q g) k) on
+        → Walk q has_read g0 root g' on (frame ∷ path) steps0 steps'
     walk_waits g' steps' frame on eg es key is_frame has =
-        let base : Walk q g0 root g on (frame ∷ path) steps0 steps' = record {
+        let base : Walk q has_read g0 root g on (frame ∷ path) steps0 steps' = record {
           sound0 = w.sound0;
           sound = w.sound;
           added = w.added;
           left = w.left;
           due = w.due;
           counted = es ∙ w.counted;
-          leads = (subst (λ x. Has (q.asks (inputs q g) x) on) (sym key) has, is_frame, subst (λ x. Leads q g root x path) (sym key) w.leads);
+          leads = (subst (λ x. Has (q.asks (inputs q g) x) on) (sym key) has, is_frame, subst (λ x. Leads q has_read g root x path) (sym key) w.leads);
         } in
-        subst (λ h. Walk q g0 root h on (frame ∷ path) steps0 steps') (sym eg) base
+        subst (λ h. Walk q has_read g0 root h on (frame ∷ path) steps0 steps') (sym eg) base
 
     pub to_do_waits : (g' : Held K V) (on : K) → g' ≡ g → Has (q.asks (inputs q g) k) on → to_do q g0 root g' on < to_do q g0 root g k
     unfolding to_do
@@ -157,7 +157,7 @@ module _ {K V : Type 0} where
         pub counted : steps' ≡ steps0 + length added
 
       reached_key : IsReached (q.asks (inputs q g0)) root k
-      reached_key = subst (λ I. IsReached (q.asks I) root k) w.left.inputs_same (leads_reached q g root k path w.leads)
+      reached_key = subst (λ I. IsReached (q.asks I) root k) w.left.inputs_same (leads_reached q has_read g root k path w.leads)
 
       pub now : (added : List K) × Now added
       now =
@@ -207,9 +207,9 @@ module _ {K V : Type 0} where
           (q.rank (inputs q g0) k) (q.rank (inputs q g0) x) lt (omega arith)
 
       -- the frame that waited for the key goes on
-      pub walk_goes_on : (frame : Frame K) (rest : List (Frame K)) → path ≡ frame ∷ rest → Walk q g0 root g' frame.key rest steps0 steps' × IsFrame q g' frame
+      pub walk_goes_on : (frame : Frame K S) (rest : List (Frame K S)) → path ≡ frame ∷ rest → Walk q has_read g0 root g' frame.key rest steps0 steps' × IsFrame q has_read g' frame
       walk_goes_on frame rest e =
-          let l = subst (Leads q g root k) e w.leads in
+          let l = subst (Leads q has_read g root k) e w.leads in
           let lt = laws.ranks (inputs q g) frame.key k l.0 in
           let n : frame.key ≢ k = (λ s. let r = ap (q.rank (inputs q g)) s in absurd (omega arith)) in (
             record {
@@ -219,15 +219,15 @@ module _ {K V : Type 0} where
               left = now.1.left;
               due = now.1.due;
               counted = now.1.counted;
-              leads = leads_stay q laws g g' w.sound k i stale f root frame.key rest (omega arith) l.2;
+              leads = leads_stay q has_read laws g g' w.sound k i stale f root frame.key rest (omega arith) l.2;
             },
-            frame_stays q laws g g' w.sound k i stale f frame n l.1,
+            frame_stays q laws g g' w.sound k i stale f has_read frame n l.1,
           )
 
-      pub to_do_goes_on : (frame : Frame K) (rest : List (Frame K)) → path ≡ frame ∷ rest → to_do q g0 root g' frame.key < to_do q g0 root g k
+      pub to_do_goes_on : (frame : Frame K S) (rest : List (Frame K S)) → path ≡ frame ∷ rest → to_do q g0 root g' frame.key < to_do q g0 root g k
       to_do_goes_on frame rest e =
-          let l = subst (Leads q g root k) e w.leads in
-          to_do_done frame.key (subst (λ I. q.rank I frame.key ≤ q.rank I root) w.left.inputs_same (leads_rank q laws g root frame.key rest l.2))
+          let l = subst (Leads q has_read g root k) e w.leads in
+          to_do_done frame.key (subst (λ I. q.rank I frame.key ≤ q.rank I root) w.left.inputs_same (leads_rank q has_read laws g root frame.key rest l.2))
 
   pub leaves_from : (q : Queries K V) (g0 g : Held K V) (root : K) (added : List K) → Left q g0 g root added → Leaves q g0 g root added
   leaves_from q g0 g root added l = record {
@@ -250,18 +250,18 @@ module _ {K V : Type 0} where
       let e = ran_is g0 g added left.runs in
       record { sound = sound; leaves = subst (Leaves q g0 g root) (sym e) (leaves_from q g0 g root added left); due = subst (Each (IsRun q g0 root)) (sym e) due }
 
-module _ {K V : Type 0} (q : Queries K V) (laws : AreLawful q) (g0 : Held K V) (root : K) (g : Held K V) (k : K) (items : List (Frame K)) (steps0 steps : ℕ)
-    (w : Walk q g0 root g k (reverse items) steps0 steps) where
+module _ {K V S : Type 0} (q : Queries K V) (has_read : K → S → List (K × V) → Type 0) (laws : AreLawful q) (g0 : Held K V) (root : K) (g : Held K V) (k : K) (items : List (Frame K S)) (steps0 steps : ℕ)
+    (w : Walk q has_read g0 root g k (reverse items) steps0 steps) where
   -- a step that waits, over the path as it is kept, the last frame at its end
-  pub waits_on : (g' : Held K V) (steps' : ℕ) (frame : Frame K) (on : K) (hint : Option ℕ) (items' : List (Frame K)) (top : Frame K) → IsStep q g g' k steps steps' (Waits frame on hint) → items' ≡ items ++ frame ∷ [] → top.key ≡ on
-      → Walk q g0 root g' top.key (reverse items') steps0 steps'
+  pub waits_on : (g' : Held K V) (steps' : ℕ) (frame : Frame K S) (on : K) (hint : Option ℕ) (items' : List (Frame K S)) (top : Frame K S) → IsStep q has_read g g' k steps steps' (Waits frame on hint) → items' ≡ items ++ frame ∷ [] → top.key ≡ on
+      → Walk q has_read g0 root g' top.key (reverse items') steps0 steps'
   waits_on g' steps' frame on hint items' top s e key =
-      let base = walk_waits q laws g0 root g k (reverse items) steps0 steps w g' steps' frame on s.0 s.1 s.2 s.3 s.4 in
+      let base = walk_waits q has_read laws g0 root g k (reverse items) steps0 steps w g' steps' frame on s.0 s.1 s.2 s.3 s.4 in
       let path : frame ∷ reverse items ≡ reverse items' = sym (ap reverse e ∙ reverse-append items (frame ∷ [])) in
-      subst (λ x. Walk q g0 root g' x (reverse items') steps0 steps') (sym key) (subst (λ l. Walk q g0 root g' on l steps0 steps') path base)
+      subst (λ x. Walk q has_read g0 root g' x (reverse items') steps0 steps') (sym key) (subst (λ l. Walk q has_read g0 root g' on l steps0 steps') path base)
 
-  pub waits_less : (g' : Held K V) (steps' : ℕ) (frame : Frame K) (on : K) (hint : Option ℕ) (top : Frame K) → IsStep q g g' k steps steps' (Waits frame on hint) → top.key ≡ on → to_do q g0 root g' top.key < to_do q g0 root g k
-  waits_less g' steps' frame on hint top s key = subst (λ x. to_do q g0 root g' x < to_do q g0 root g k) (sym key) (to_do_waits q laws g0 root g k (reverse items) steps0 steps w g' on s.0 s.4)
+  pub waits_less : (g' : Held K V) (steps' : ℕ) (frame : Frame K S) (on : K) (hint : Option ℕ) (top : Frame K S) → IsStep q has_read g g' k steps steps' (Waits frame on hint) → top.key ≡ on → to_do q g0 root g' top.key < to_do q g0 root g k
+  waits_less g' steps' frame on hint top s key = subst (λ x. to_do q g0 root g' x < to_do q g0 root g k) (sym key) (to_do_waits q has_read laws g0 root g k (reverse items) steps0 steps w g' on s.0 s.4)
 
   -- after a step that gave nothing, or waits, the graph is as before it
   pub given_up : (g' : Held K V) → g' ≡ g → Walked q g0 root g'
@@ -270,17 +270,17 @@ module _ {K V : Type 0} (q : Queries K V) (laws : AreLawful q) (g0 : Held K V) (
   pub ran_length : (g' : Held K V) → g' ≡ g → steps ≡ steps0 + length (ran g0 g')
   ran_length g' e = w.counted ∙ ap (λ l. steps0 + length l) (sym (ran_is g0 g w.added w.left.runs) ∙ ap (ran g0) (sym e))
 
-  module _ (g' : Held K V) (i steps' : ℕ) (stale : is_verified q g k ≡ false) (s : IsStep q g g' k steps steps' (Done i)) where
-    pub goes_on : (frame : Frame K) (items' : List (Frame K)) → items ≡ items' ++ frame ∷ [] → Walk q g0 root g' frame.key (reverse items') steps0 steps' × IsFrame q g' frame
+  module _ (g' : Held K V) (i steps' : ℕ) (stale : is_verified q g k ≡ false) (s : IsStep q has_read g g' k steps steps' (Done i)) where
+    pub goes_on : (frame : Frame K S) (items' : List (Frame K S)) → items ≡ items' ++ frame ∷ [] → Walk q has_read g0 root g' frame.key (reverse items') steps0 steps' × IsFrame q has_read g' frame
     goes_on frame items' e =
-        walk_goes_on q laws g0 root g k (reverse items) steps0 steps w g' i steps' stale s.1 s.0 s.2 frame (reverse items') (ap reverse e ∙ reverse-append items' (frame ∷ []))
+        walk_goes_on q has_read laws g0 root g k (reverse items) steps0 steps w g' i steps' stale s.1 s.0 s.2 frame (reverse items') (ap reverse e ∙ reverse-append items' (frame ∷ []))
 
-    pub goes_on_less : (frame : Frame K) (items' : List (Frame K)) → items ≡ items' ++ frame ∷ [] → to_do q g0 root g' frame.key < to_do q g0 root g k
+    pub goes_on_less : (frame : Frame K S) (items' : List (Frame K S)) → items ≡ items' ++ frame ∷ [] → to_do q g0 root g' frame.key < to_do q g0 root g k
     goes_on_less frame items' e =
-        to_do_goes_on q laws g0 root g k (reverse items) steps0 steps w g' i steps' stale s.1 s.0 s.2 frame (reverse items') (ap reverse e ∙ reverse-append items' (frame ∷ []))
+        to_do_goes_on q has_read laws g0 root g k (reverse items) steps0 steps w g' i steps' stale s.1 s.0 s.2 frame (reverse items') (ap reverse e ∙ reverse-append items' (frame ∷ []))
 
-    all_done : (added : List K) × Now q laws g0 root g k (reverse items) steps0 steps w g' i steps' stale s.1 s.0 s.2 added
-    all_done = now q laws g0 root g k (reverse items) steps0 steps w g' i steps' stale s.1 s.0 s.2
+    all_done : (added : List K) × Now q has_read laws g0 root g k (reverse items) steps0 steps w g' i steps' stale s.1 s.0 s.2 added
+    all_done = now q has_read laws g0 root g k (reverse items) steps0 steps w g' i steps' stale s.1 s.0 s.2
 
     pub ends_walked : Walked q g0 root g'
     ends_walked = walked_from q g0 root g' all_done.0 s.1 all_done.1.left all_done.1.due
@@ -290,7 +290,7 @@ module _ {K V : Type 0} (q : Queries K V) (laws : AreLawful q) (g0 : Held K V) (
 
     pub ends_holding : items ≡ [] → IsHolding q g0 g' root i
     ends_holding e =
-        let root_is : k ≡ root = subst (λ l. Leads q g root k (reverse l)) e w.leads in
+        let root_is : k ≡ root = subst (λ l. Leads q has_read g root k (reverse l)) e w.leads in
         let cur : is_current q g' s.0.entry ≡ true = same_current q laws g g' w.sound k i stale s.0 s.0.entry ∙ s.0.current in
         let key : s.0.entry.key ≡ root = s.0.key ∙ root_is in (
           s.0.entry,
@@ -303,7 +303,7 @@ module _ {K V : Type 0} (q : Queries K V) (laws : AreLawful q) (g0 : Held K V) (
           ),
         )
 
-  pub waits_counted : (g' : Held K V) (steps' : ℕ) (frame : Frame K) (on : K) (hint : Option ℕ) → IsStep q g g' k steps steps' (Waits frame on hint)
+  pub waits_counted : (g' : Held K V) (steps' : ℕ) (frame : Frame K S) (on : K) (hint : Option ℕ) → IsStep q has_read g g' k steps steps' (Waits frame on hint)
       → (steps0 + length (ran g0 g') ≤ steps') × (steps' ≤ steps0 + length (ran g0 g') + 1)
   waits_counted g' steps' frame on hint s = let e = ran_length g' s.0 in let e' = s.1 in ((omega arith), (omega arith))
 

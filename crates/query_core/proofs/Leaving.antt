@@ -92,12 +92,12 @@ module _ {K V : Type 0} where
         ] refl
 
     -- a run of an outdated key was due at entry
-    pub due_before : (k : K) → is_verified q g k ≡ false → q.is_input k ≡ false → IsOutdated q g k → IsDue q g0 k
+    pub due_before : (k : K) → is_verified q g k ≡ false → q.is_input k ≡ false → IsOutdated q g k → IsDue q g0 (inputs q g0) k
     due_before k stale isnt out =
         elim out [
           | inl none ↦ inl (no_record_before k none)
           | inr h ↦
-              elim (node_of q g k) as (λ o. node_of q g k ≡ o → IsDue q g0 k) [
+              elim (node_of q g k) as (λ o. node_of q g k ≡ o → IsDue q g0 (inputs q g0) k) [
                 | None ↦ (λ n. let e = record_none q g k n in let e' = h.1.0 in let bad : ⊥ = cc in absurd bad)
                 | Some i ↦ (λ n.
                     let r = h.0 in

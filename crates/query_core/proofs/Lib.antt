@@ -10,3 +10,4 @@ pub mod Walking
 pub mod Leaving
 pub mod Ending
 pub mod Answering
+pub mod Setting

@@ -1,12 +1,12 @@
 -- What a run's next step means, and what a look at a stale read means.
-use Rattle.std.proofs.Common.{◌≡◌, ℕ, zero, suc, ◌-◌, ◌<◌, ◌≤◌, false, List, [], ◌∷◌, ◌++◌, length, take, ap, sym, ◌∙◌, subst, inr, Some, append_assoc, append-nil, arith}
+use Rattle.std.proofs.Common.{◌≡◌, ℕ, zero, suc, ◌-◌, ◌<◌, ◌≤◌, false, List, [], ◌∷◌, ◌++◌, length, take, refl, ap, sym, ◌∙◌, subst, inr, Some, append_assoc, append-nil, arith}
 use Rattle.std.proofs.lemmas.List.{length-append}
 use Rattle.std.specs.List.{slice_get}
 use Rattle.query_core.specs.Lists.{Has, Each}
-use Rattle.query_core.specs.Queries.{Queries, AreLawful, GoesOn}
+use Rattle.query_core.specs.Queries.{Queries, AreLawful, GoesOn, answers, HasReadFirst}
 use Rattle.query_core.specs.Graph.{Held, at, inputs, is_verified}
 use Rattle.query_core.specs.Soundness.{kept, IsUnchanged, IsSound}
-use Rattle.query_core.specs.Walk.{IsSettled, IsSettledTo, IsOutdated, AreAnswered, IsRunning, IsChecking, IsLook}
+use Rattle.query_core.specs.Walk.{IsSettled, IsSettledTo, IsOutdated, AreAnswered, IsRunning, IsChecking, IsLook, HasBegun}
 use Rattle.query_core.specs.declared.frame.Checked.TheVariants.{Changed, Stale}
 use Rattle.query_core.specs.declared.store.Node.{Node}
 use Rattle.query_core.specs.declared.rules.Step.{Step}
@@ -124,3 +124,23 @@ pub stale_within : {K V : Type 0} (q : Queries K V) (g : Held K V) (k : K) (node
     → (r : Node K V) × ((at g node ≡ Some r) × (p < length r.reads))
 stale_within q g k node place checking p look =
     let l = look checking.1.0 checking.1.1.1 in (checking.1.0, (checking.1.1.1, get_within checking.1.0.reads p l.1.0 l.1.1.1.0))
+
+answers_append : {K V : Type 0} (value : K → V) (xs ys : List K) → answers value (xs ++ ys) ≡ answers value xs ++ answers value ys
+answers_append value [] ys = refl
+answers_append value (x ∷ xs) ys = ap (λ l. (x, value x) ∷ l) (answers_append value xs ys)
+
+-- what a run has read before and after a round
+module _ {K V S : Type 0} (q : Queries K V) (has_read : K → S → List (K × V) → Type 0) (laws : AreLawful q) (g : Held K V) (sound : IsSound q g) (k : K) (run : S) (asked : List K) where
+  pub begun_round : (answered : List ℕ) → AreAnswered q g asked answered × (length answered ≡ length asked) → HasBegun q has_read g k run asked → HasReadFirst has_read k run (kept g answered)
+  begun_round answered col h = (
+    answers (q.val (inputs q g)) h.0,
+    answers (q.val (inputs q g)) h.1,
+    (answered_kept q g laws sound answered asked col.0 col.1 ∙ ap (answers (q.val (inputs q g))) h.2.0 ∙ answers_append (q.val (inputs q g)) h.0 h.1, h.2.1),
+  )
+
+  pub begun_more : (asked' keys : List K) (answered : List ℕ) → AreAnswered q g asked answered × (length answered ≡ length asked) → has_read k run (kept g answered) → asked' ≡ asked ++ keys
+      → HasBegun q has_read g k run asked'
+  begun_more asked' keys answered col h e = (asked, keys, (e, subst (has_read k run) (answered_kept q g laws sound answered asked col.0 col.1) h))
+
+  pub begun_all : (answered : List ℕ) → AreAnswered q g asked answered × (length answered ≡ length asked) → has_read k run (kept g answered) → HasBegun q has_read g k run asked
+  begun_all answered col h = begun_more asked [] answered col h (sym (append-nil asked))

@@ -3,12 +3,12 @@ use Rattle.std.proofs.Common.{◌≡◌, ◌≢◌, ℕ, ◌≤◌, true, false,
 use Rattle.std.proofs.lemmas.Bool.{cases_eq}
 use Rattle.std.specs.Option.{option_map_or}
 use Rattle.query_core.specs.Lists.{Has}
-use Rattle.query_core.specs.Queries.{Queries, AreLawful}
+use Rattle.query_core.specs.Queries.{Queries, AreLawful, answers}
 use Rattle.query_core.specs.Graph.{Held, at, node_of, record_of, inputs, is_current, is_verified}
 use Rattle.query_core.specs.Soundness.{IsSound}
 use Rattle.query_core.specs.Changes.{IsReached}
 use Rattle.query_core.specs.Changes.IsReached.{itself, along}
-use Rattle.query_core.specs.Walk.{IsSettled, HasMoved, IsOutdated, AreAnswered, IsStage, IsFrame, Leads, Finishes, IsRunning}
+use Rattle.query_core.specs.Walk.{IsSettled, HasMoved, IsOutdated, AreAnswered, IsStage, IsFrame, Leads, Finishes, IsRunning, HasBegun}
 use Rattle.query_core.specs.declared.frame.Frame.{Frame}
 use Rattle.query_core.specs.declared.frame.Stage.{Stage}
 use Rattle.query_core.specs.declared.frame.Stage.TheVariants.{Unset, Start, Check, Run}
@@ -128,9 +128,12 @@ module _ {K V : Type 0} (q : Queries K V) (laws : AreLawful q) (g g' : Held K V)
   running_stays x asked answered n h =
       (h.0, outdated_stays x n h.1, (h.2.0, ap (λ I. q.asks I x) inputs_stay ∙ h.2.1), answered_stays asked answered h.3)
 
-  stage_stays : (x : K) (stage : Stage K) → x ≢ k → IsStage q g x stage → IsStage q g' x stage
-  stage_stays x Unset n h = (h.0, other_record x n ∙ h.1)
-  stage_stays x (Check node place) n h =
+  begun_stays : {S : Type 0} (has_read : K → S → List (K × V) → Type 0) (x : K) (run : S) (asked : List K) → HasBegun q has_read g x run asked → HasBegun q has_read g' x run asked
+  begun_stays has_read x run asked h = (h.0, h.1, (h.2.0, subst (λ I. has_read x run (answers (q.val I) h.0)) (sym inputs_stay) h.2.1))
+
+  stage_stays : {S : Type 0} (has_read : K → S → List (K × V) → Type 0) (x : K) (stage : Stage K S) → x ≢ k → IsStage q has_read g x stage → IsStage q has_read g' x stage
+  stage_stays has_read x Unset n h = (h.0, other_record x n ∙ h.1)
+  stage_stays has_read x (Check node place) n h =
       let r = h.1.0 in
       let st = sound.numbers x node h.1.1.0 in
       let own : r.key ≡ x = (let e = h.1.1.1 in let p = st.1 in let s : st.0 ≡ r = cc in subst (λ (y : Node K V). y.key ≡ x) s st.2) in (
@@ -144,30 +147,30 @@ module _ {K V : Type 0} (q : Queries K V) (laws : AreLawful q) (g g' : Held K V)
           ),
         ),
       )
-  stage_stays x Start n h = running_stays x [] [] n h
-  stage_stays x (Run running) n h = running_stays x running.value.asked running.value.answered n h
+  stage_stays has_read x Start n h = running_stays x [] [] n h
+  stage_stays has_read x (Run running) n h = (running_stays x running.value.asked running.value.answered n h.0, begun_stays has_read x running.value.run running.value.asked h.1)
 
-  pub frame_stays : (p : Frame K) → p.key ≢ k → IsFrame q g p → IsFrame q g' p
-  frame_stays p n h = record { stale = other_verified p.key n ∙ h.stale; stage = stage_stays p.key p.stage n h.stage }
+  pub frame_stays : {S : Type 0} (has_read : K → S → List (K × V) → Type 0) (p : Frame K S) → p.key ≢ k → IsFrame q has_read g p → IsFrame q has_read g' p
+  frame_stays has_read p n h = record { stale = other_verified p.key n ∙ h.stale; stage = stage_stays has_read p.key p.stage n h.stage }
 
-module _ {K V : Type 0} where
+module _ {K V S : Type 0} where
   -- how ranks fall along a path, and how it reaches its end
-  pub leads_rank : (q : Queries K V) (laws : AreLawful q) (g : Held K V) (root k : K) (fs : List (Frame K)) → Leads q g root k fs → q.rank (inputs q g) k ≤ q.rank (inputs q g) root
-  leads_rank q laws g root k [] l = let e = ap (q.rank (inputs q g)) l in omega arith
-  leads_rank q laws g root k (f ∷ fs) l = let lt = laws.ranks (inputs q g) f.key k l.0 in let le = leads_rank q laws g root f.key fs l.2 in omega arith
+  pub leads_rank : (q : Queries K V) (has_read : K → S → List (K × V) → Type 0) (laws : AreLawful q) (g : Held K V) (root k : K) (fs : List (Frame K S)) → Leads q has_read g root k fs → q.rank (inputs q g) k ≤ q.rank (inputs q g) root
+  leads_rank q has_read laws g root k [] l = let e = ap (q.rank (inputs q g)) l in omega arith
+  leads_rank q has_read laws g root k (f ∷ fs) l = let lt = laws.ranks (inputs q g) f.key k l.0 in let le = leads_rank q has_read laws g root f.key fs l.2 in omega arith
 
-  pub leads_reached : (q : Queries K V) (g : Held K V) (root k : K) (fs : List (Frame K)) → Leads q g root k fs → IsReached (q.asks (inputs q g)) root k
-  leads_reached q g root k [] l = subst (IsReached (q.asks (inputs q g)) root) (sym l) itself
-  leads_reached q g root k (f ∷ fs) l = along f.key k (leads_reached q g root f.key fs l.2) l.0
+  pub leads_reached : (q : Queries K V) (has_read : K → S → List (K × V) → Type 0) (g : Held K V) (root k : K) (fs : List (Frame K S)) → Leads q has_read g root k fs → IsReached (q.asks (inputs q g)) root k
+  leads_reached q has_read g root k [] l = subst (IsReached (q.asks (inputs q g)) root) (sym l) itself
+  leads_reached q has_read g root k (f ∷ fs) l = along f.key k (leads_reached q has_read g root f.key fs l.2) l.0
 
   -- a path whose keys stand above the finished one stands as before
-  pub leads_stay : (q : Queries K V) (laws : AreLawful q) (g g' : Held K V) (sound : IsSound q g) (k : K) (i : ℕ) (stale : is_verified q g k ≡ false) → Finishes q g g' k i
-      → (root x : K) (fs : List (Frame K)) → q.rank (inputs q g) k ≤ q.rank (inputs q g) x → Leads q g root x fs → Leads q g' root x fs
-  leads_stay q laws g g' sound k i stale f root x [] le l = l
-  leads_stay q laws g g' sound k i stale f root x (p ∷ ps) le l =
+  pub leads_stay : (q : Queries K V) (has_read : K → S → List (K × V) → Type 0) (laws : AreLawful q) (g g' : Held K V) (sound : IsSound q g) (k : K) (i : ℕ) (stale : is_verified q g k ≡ false) → Finishes q g g' k i
+      → (root x : K) (fs : List (Frame K S)) → q.rank (inputs q g) k ≤ q.rank (inputs q g) x → Leads q has_read g root x fs → Leads q has_read g' root x fs
+  leads_stay q has_read laws g g' sound k i stale f root x [] le l = l
+  leads_stay q has_read laws g g' sound k i stale f root x (p ∷ ps) le l =
       let lt = laws.ranks (inputs q g) p.key x l.0 in
       let n : p.key ≢ k = (λ s. let e = ap (q.rank (inputs q g)) s in absurd (omega arith)) in (
         subst (λ I. Has (q.asks I p.key) x) (sym (inputs_stay q laws g g' sound k i stale f)) l.0,
-        frame_stays q laws g g' sound k i stale f p n l.1,
-        leads_stay q laws g g' sound k i stale f root p.key ps (omega arith) l.2,
+        frame_stays q laws g g' sound k i stale f has_read p n l.1,
+        leads_stay q has_read laws g g' sound k i stale f root p.key ps (omega arith) l.2,
       )

@@ -25,7 +25,7 @@ module _ {K V : Type 0} where
   pub record IsRun (q : Queries K V) (g : Held K V) (root k : K) : Type 0 where
     pub reached : IsReached (q.asks (inputs q g)) root k
     pub stale : is_verified q g k ≡ false
-    pub due : IsDue q g k
+    pub due : IsDue q g (inputs q g) k
 
   -- the stamp of change moves to now exactly where the value differs
   abbrev pub Moves : ℕ → Node K V → Node K V → Type 0

@@ -42,6 +42,10 @@ module _ {K V : Type 0} where
   GoesOn left value (Ask keys) = (0 < length keys) × ((more : List K) × (left ≡ keys ++ more))
   GoesOn left value (Done v) = (left ≡ []) × (v ≡ value)
 
+  -- the run of the key has read the first of these answers
+  abbrev pub HasReadFirst : {S : Type 0} → (K → S → List (K × V) → Type 0) → K → S → List (K × V) → Type 0
+  HasReadFirst has_read k run had = (first more : List (K × V)) × ((had ≡ first ++ more) × has_read k run first)
+
   -- how often a call of `next` with this result counts: once where it is done
   abbrev pub ticks : {E : Type 0} → Result (Step K V) E → ℕ
   ticks (Ok (Ask keys)) = 0

@@ -1,7 +1,7 @@
 -- The walk of a demand: what stands in each frame of its path, and what one step does.
 use Rattle.std.specs.Prelude.{◌≡◌, ℕ, ◌<◌, ◌≤◌, ◌+◌, true, false, List, [], ◌∷◌, ◌++◌, length, take, Option, Some, None, ◌⊎◌, slice_get, Result, Ok, Err}
 use Rattle.query_core.specs.Lists.{Has, Each}
-use Rattle.query_core.specs.Queries.{Queries}
+use Rattle.query_core.specs.Queries.{Queries, answers}
 use Rattle.query_core.specs.Graph.{Held, at, node_of, record_of, inputs, is_current, is_verified}
 use Rattle.query_core.specs.Soundness.{IsSound}
 use Rattle.query_core.specs.Changes.{Puts, IsStamped}
@@ -57,23 +57,6 @@ module _ {K V : Type 0} (q : Queries K V) (g : Held K V) where
   abbrev pub IsRunning : K → List K → List ℕ → Type 0
   IsRunning k asked answered = (q.is_input k ≡ false) × IsOutdated k × AreAsked k asked × AreAnswered asked answered
 
-  -- how far the work on a key has come
-  abbrev pub IsStage : K → Stage K → Type 0
-  IsStage k Unset = (q.is_input k ≡ true) × (record_of q g k ≡ None)
-  IsStage k (Check node place) = IsChecking k node place
-  IsStage k Start = IsRunning k [] []
-  IsStage k (Run running) = IsRunning k running.value.asked running.value.answered
-
-  -- the key of the frame isn't verified now
-  pub record IsFrame (frame : Frame K) : Type 0 where
-    pub stale : is_verified q g frame.key ≡ false
-    pub stage : IsStage frame.key frame.stage
-
-  -- the frames, the last first, lead from the root to the key
-  abbrev pub Leads : K → K → List (Frame K) → Type 0
-  Leads root k [] = k ≡ root
-  Leads root k (f ∷ fs) = Has (q.asks (inputs q g) f.key) k × IsFrame f × Leads root f.key fs
-
   -- what a look at one read says
   abbrev pub IsLookAt : ℕ → ℕ → Look → Type 0
   IsLookAt since j Settled = IsSettled since j
@@ -105,6 +88,28 @@ module _ {K V : Type 0} (q : Queries K V) (g : Held K V) where
     pub all : length reads ≡ length (q.asks (inputs q g) k)
     pub value_is : value ≡ q.val (inputs q g) k
 
+module _ {K V S : Type 0} (q : Queries K V) (has_read : K → S → List (K × V) → Type 0) (g : Held K V) where
+  -- the run of the key has read the answers of the first of these keys
+  abbrev pub HasBegun : K → S → List K → Type 0
+  HasBegun k run asked = (first more : List K) × ((asked ≡ first ++ more) × has_read k run (answers (q.val (inputs q g)) first))
+
+  -- how far the work on a key has come
+  abbrev pub IsStage : K → Stage K S → Type 0
+  IsStage k Unset = (q.is_input k ≡ true) × (record_of q g k ≡ None)
+  IsStage k (Check node place) = IsChecking q g k node place
+  IsStage k Start = IsRunning q g k [] []
+  IsStage k (Run running) = IsRunning q g k running.value.asked running.value.answered × HasBegun k running.value.run running.value.asked
+
+  -- the key of the frame isn't verified now
+  pub record IsFrame (frame : Frame K S) : Type 0 where
+    pub stale : is_verified q g frame.key ≡ false
+    pub stage : IsStage frame.key frame.stage
+
+  -- the frames, the last first, lead from the root to the key
+  abbrev pub Leads : K → K → List (Frame K S) → Type 0
+  Leads root k [] = k ≡ root
+  Leads root k (f ∷ fs) = Has (q.asks (inputs q g) f.key) k × IsFrame f × Leads root f.key fs
+
 module _ {K V : Type 0} where
   -- how a key was finished: its record was verified, its run gave a value, or it became an input that isn't set
   abbrev pub HowFinished : Queries K V → Held K V → Held K V → ℕ → Node K V → Type 0
@@ -132,7 +137,7 @@ module _ {K V : Type 0} where
   IsGivenUp old new steps steps' = (new ≡ old) × (steps ≤ steps') × (steps' ≤ steps + 1)
 
   -- what a step of the walk on a frame gives, with the counter before and after
-  abbrev pub IsStep : Queries K V → Held K V → Held K V → K → ℕ → ℕ → Moved K → Type 0
-  IsStep q old new k steps steps' (Waits frame on at_node) =
-      (new ≡ old) × (steps' ≡ steps) × (frame.key ≡ k) × IsFrame q old frame × Has (q.asks (inputs q old) k) on × (is_verified q old on ≡ false)
-  IsStep q old new k steps steps' (Done node) = Finishes q old new k node × IsSound q new × (steps' + length old.runs ≡ steps + length new.runs)
+  abbrev pub IsStep : {S : Type 0} → Queries K V → (K → S → List (K × V) → Type 0) → Held K V → Held K V → K → ℕ → ℕ → Moved K S → Type 0
+  IsStep q has_read old new k steps steps' (Waits frame on at_node) =
+      (new ≡ old) × (steps' ≡ steps) × (frame.key ≡ k) × IsFrame q has_read old frame × Has (q.asks (inputs q old) k) on × (is_verified q old on ≡ false)
+  IsStep q has_read old new k steps steps' (Done node) = Finishes q old new k node × IsSound q new × (steps' + length old.runs ≡ steps + length new.runs)

@@ -4,14 +4,15 @@ use crate::keys::{Answered, Keys};
 
 /// A key whose value is being worked out.
 #[derive(Drop)]
-pub(crate) struct Frame<K> {
+pub(crate) struct Frame<K, S> {
     pub(crate) key: K,
-    pub(crate) stage: Stage<K>,
+    pub(crate) stage: Stage<K, S>,
 }
 
-/// A run that waits: the keys that it asked for, and the nodes that hold the values of the first of them.
+/// A run that waits: what it keeps, the keys that it asked for, and the nodes that hold the values of the first of them.
 #[derive(Drop)]
-pub(crate) struct Running<K> {
+pub(crate) struct Running<K, S> {
+    pub(crate) run: S,
     pub(crate) asked: Keys<K>,
     pub(crate) answered: Answered,
 }
@@ -19,22 +20,22 @@ pub(crate) struct Running<K> {
 /// How far the work on a key has come. What a run holds stands apart, so that a frame is small.
 
 #[derive(Drop)]
-pub(crate) enum Stage<K> {
+pub(crate) enum Stage<K, S> {
     /// It is an input without a record.
     Unset,
-    /// It has no record, and runs from its first round.
+    /// It has no record, and its run isn't begun.
     Start,
     /// The reads of its record, which stands at the node, are verified and unchanged before the place.
     Check(usize, usize),
     /// It runs, and waits for a key that it asked for.
-    Run(Box<Running<K>>),
+    Run(Box<Running<K, S>>),
 }
 
 /// What a step of the walk gives.
 #[derive(Drop)]
-pub(crate) enum Moved<K> {
+pub(crate) enum Moved<K, S> {
     /// The frame waits for this key, which isn't verified; where its node is known, that stands here.
-    Waits(Frame<K>, K, Option<usize>),
+    Waits(Frame<K, S>, K, Option<usize>),
     /// The key of the frame was verified at this node.
     Done(usize),
 }

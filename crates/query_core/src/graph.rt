@@ -7,6 +7,7 @@ ghost use Rattle.std.specs.Option.{option_map};
 ghost use Rattle.query_core.specs.Graph.{Held, at, node_of};
 ghost use Rattle.query_core.specs.Soundness.{IsSound};
 ghost use Rattle.query_core.specs.Changes.{IsFresh, SetsInput};
+ghost use Rattle.query_core.specs.Due.{WasDue};
 
 use crate::keys::{Reads, TryCopy};
 use crate::rules::Rules;
@@ -81,6 +82,7 @@ impl<R: Rules> Graph<R> {
         requires input { R.queries.is_input key ≡ true }
         requires fresh { IsFresh R.queries self.old }
         ensures ok { OnOk result (SetsInput R.queries self.old self.new key value) }
+        ensures due { OnOk result ((given : R.Key → R.Value) → given key ≡ value → WasDue R.queries self.old self.new given) }
         ensures err { OnErr result (self.new ≡ self.old) }
         ensures sound { IsSound R.queries self.new }
         ensures still_fresh { IsFresh R.queries self.new }
@@ -101,6 +103,7 @@ impl<R: Rules> Graph<R> {
         requires input { R.queries.is_input key.now ≡ true }
         requires fresh { IsFresh R.queries self.old }
         ensures ok { OnOk result (SetsInput R.queries self.old self.new key.now (R.queries.unset key.now)) }
+        ensures due { OnOk result ((given : R.Key → R.Value) → given key.now ≡ R.queries.unset key.now → WasDue R.queries self.old self.new given) }
         ensures err { OnErr result (self.new ≡ self.old) }
         ensures sound { IsSound R.queries self.new }
         ensures still_fresh { IsFresh R.queries self.new }
@@ -114,6 +117,7 @@ impl<R: Rules> Graph<R> {
     pub fn next_revision(&mut self)
         requires { self.old.revision < 2 ^ 63 }
         ensures kept { self.new ≡ record self.old { revision = self.old.revision + 1; runs = [] } }
+        ensures due { (given : R.Key → R.Value) → WasDue R.queries self.old self.new given }
         ensures sound { IsSound R.queries self.new }
         ensures fresh { IsFresh R.queries self.new }
     {

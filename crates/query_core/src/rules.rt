@@ -1,10 +1,10 @@
 // The rules of a graph, and the answers that a run has so far.
 
-ghost use Rattle.std.specs.Prelude.{◌≡◌, ◌+◌, List, IfOk, Option, true};
+ghost use Rattle.std.specs.Prelude.{◌≡◌, ◌+◌, List, [], IfOk, OnOk, Option, true};
 ghost use Rattle.std.specs.Map.{lookup};
 ghost use Rattle.std.specs.Option.{option_copied};
 ghost use Rattle.query_core.specs.Answering.{pairs_at, IsNumbered};
-ghost use Rattle.query_core.specs.Queries.{Queries, AreLawful, ticks};
+ghost use Rattle.query_core.specs.Queries.{Queries, AreLawful, HasReadFirst, ticks};
 
 use crate::keys::{Answered, Keys, TryCopy};
 use crate::store::Store;
@@ -66,14 +66,19 @@ impl<'a, K: Eq + Hash + TryCopy + Drop, V: Drop> Answers<'a, K, V> {
 
 /// What a graph computes: which keys are inputs, and how the value of each other key follows from the values of keys that its run asks for.
 ///
-/// The meaning is `queries`. It belongs to the type, and not to the value of it that is handed in.
+/// The meaning is `queries`. It belongs to the type, and not to the value of it that is handed in. `has_read` says that what a run of
+/// a key keeps comes from these answers, in the order of asking.
 pub trait Rules {
     /// A question.
     type Key: Eq + Hash + TryCopy + Drop;
     /// Its answer.
     type Value: Eq + Drop;
+    /// What a run keeps between its rounds, so that it goes on where it stopped; `()` where it keeps nothing.
+    type Run: Drop;
 
     ghost queries: { Queries Self.Key Self.Value };
+
+    ghost has_read: { Self.Key → Self.Run → List (Self.Key × Self.Value) → Type 0 };
 
     /// Whether the key is an input.
     fn is_input(&self, key: &Self::Key) -> bool
@@ -83,15 +88,23 @@ pub trait Rules {
     fn unset(&self, alloc: Global, key: &Self::Key) -> Result<Self::Value, AllocError>
         ensures { IfOk result (λ value. value ≡ queries.unset key.now) };
 
-    /// What a run of this key does next, after these answers. It counts one step where it is done, and none otherwise.
+    /// A run of this key, which has read nothing.
+    fn begin(&self, alloc: Global, key: &Self::Key) -> Result<Self::Run, AllocError>
+        ensures { IfOk result (λ run. has_read key.now run []) };
+
+    /// What a run of this key does next, after these answers. It has read the first of them, and then has read all. It counts one
+    /// step where it is done, and none otherwise. After want of memory it is dropped.
     fn next<L: Ledger>(
         &self,
         alloc: Global,
         key: &Self::Key,
+        run: &mut Self::Run,
         answers: &Answers<'_, Self::Key, Self::Value>,
         steps: &mut Steps<L>,
     ) -> Result<Step<Self::Key, Self::Value>, AllocError>
+        requires { HasReadFirst has_read key.now run.old answers.now }
         ensures step { IfOk result (λ s. s ≡ queries.step key.now answers.now) }
+        ensures read { OnOk result (has_read key.now run.new answers.now) }
         ensures ticks { steps.new ≡ steps.old + ticks result };
 
     ghost same_keys: { (a b : Self.Key) → Self.Key.eq a b ≡ queries.same a b };

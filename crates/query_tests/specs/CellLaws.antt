@@ -1,19 +1,22 @@
 -- The cells keep the laws of queries.
-use Rattle.std.proofs.Common.{◌≡◌, ◌≢◌, ℕ, zero, suc, ◌+◌, ◌-◌, ◌<◌, ◌==◌, ◌/◌, true, false, if◌then◌else◌, List, [], ◌∷◌, ◌++◌, length, cond, Some, None, refl, sym, ap, subst, ◌∙◌, inl, inr, ◌⊎◌, arith, eq-eqb, append-nil, get_or, drop, is_some}
+use Rattle.std.proofs.Common.{◌≡◌, ◌≢◌, ℕ, zero, suc, ◌+◌, ◌-◌, ◌<◌, ◌≤◌, ◌==◌, ◌/◌, true, false, if◌then◌else◌, List, [], ◌∷◌, ◌++◌, length, cond, Some, None, refl, sym, ap, subst, ◌∙◌, inl, inr, ◌⊎◌, arith, eq-eqb, append-nil, append_assoc, get_or, drop, is_some, Result, Ok, Err, OnOk}
+use Rattle.std.proofs.lemmas.Bool.{cases_eq}
 use Rattle.std.proofs.lemmas.List.{drop_more}
 use Rattle.std.specs.Map.{lookup}
 use Rattle.query_core.specs.Lists.{Has, IsOnce}
-use Rattle.query_core.specs.Queries.{AreLawful, GoesOn, answers}
+use Rattle.query_core.specs.Queries.{AreLawful, GoesOn, answers, HasReadFirst}
+use Rattle.query_core.specs.declared.rules.Step.TheVariants.{Ask, Done}
 use Rattle.query_tests.specs.contracts.cells.CellPartialEq.TheImpl.{eq-value}
 use Rattle.query_tests.specs.declared.cells.Cell.{Cell}
-use Rattle.query_tests.specs.declared.cells.Cell.TheVariants.{Input, Half, Chain, Wide, Share, All, Left, Right, Top}
-use Rattle.query_tests.specs.Cells.{cells, same_cell, is_input_cell, halves, shares, reads_of, worth, level, rest_of, answer_or_zero, final, step_with}
+use Rattle.query_tests.specs.declared.cells.Cell.TheVariants.{Input, Half, Chain, Wide, Each, Share, All, Left, Right, Top}
+use Rattle.query_tests.specs.Cells.{cells, same_cell, is_input_cell, halves, shares, reads_of, worth, level, rest_of, answer_or_zero, final, step_with, step_one, one_by_one, AreAnswered, has_read_cell}
 
 pub same_cell_is : (a b : Cell) → eq-value.it a b ≡ same_cell a b
 same_cell_is (Input a) (Input b) = refl
 same_cell_is (Input a) (Half b) = refl
 same_cell_is (Input a) (Chain b) = refl
 same_cell_is (Input a) (Wide b) = refl
+same_cell_is (Input a) (Each b) = refl
 same_cell_is (Input a) (Share b) = refl
 same_cell_is (Input a) (All b) = refl
 same_cell_is (Input a) Left = refl
@@ -23,6 +26,7 @@ same_cell_is (Half a) (Input b) = refl
 same_cell_is (Half a) (Half b) = refl
 same_cell_is (Half a) (Chain b) = refl
 same_cell_is (Half a) (Wide b) = refl
+same_cell_is (Half a) (Each b) = refl
 same_cell_is (Half a) (Share b) = refl
 same_cell_is (Half a) (All b) = refl
 same_cell_is (Half a) Left = refl
@@ -32,6 +36,7 @@ same_cell_is (Chain a) (Input b) = refl
 same_cell_is (Chain a) (Half b) = refl
 same_cell_is (Chain a) (Chain b) = refl
 same_cell_is (Chain a) (Wide b) = refl
+same_cell_is (Chain a) (Each b) = refl
 same_cell_is (Chain a) (Share b) = refl
 same_cell_is (Chain a) (All b) = refl
 same_cell_is (Chain a) Left = refl
@@ -41,15 +46,27 @@ same_cell_is (Wide a) (Input b) = refl
 same_cell_is (Wide a) (Half b) = refl
 same_cell_is (Wide a) (Chain b) = refl
 same_cell_is (Wide a) (Wide b) = refl
+same_cell_is (Wide a) (Each b) = refl
 same_cell_is (Wide a) (Share b) = refl
 same_cell_is (Wide a) (All b) = refl
 same_cell_is (Wide a) Left = refl
 same_cell_is (Wide a) Right = refl
 same_cell_is (Wide a) Top = refl
+same_cell_is (Each a) (Input b) = refl
+same_cell_is (Each a) (Half b) = refl
+same_cell_is (Each a) (Chain b) = refl
+same_cell_is (Each a) (Wide b) = refl
+same_cell_is (Each a) (Each b) = refl
+same_cell_is (Each a) (Share b) = refl
+same_cell_is (Each a) (All b) = refl
+same_cell_is (Each a) Left = refl
+same_cell_is (Each a) Right = refl
+same_cell_is (Each a) Top = refl
 same_cell_is (Share a) (Input b) = refl
 same_cell_is (Share a) (Half b) = refl
 same_cell_is (Share a) (Chain b) = refl
 same_cell_is (Share a) (Wide b) = refl
+same_cell_is (Share a) (Each b) = refl
 same_cell_is (Share a) (Share b) = refl
 same_cell_is (Share a) (All b) = refl
 same_cell_is (Share a) Left = refl
@@ -59,6 +76,7 @@ same_cell_is (All a) (Input b) = refl
 same_cell_is (All a) (Half b) = refl
 same_cell_is (All a) (Chain b) = refl
 same_cell_is (All a) (Wide b) = refl
+same_cell_is (All a) (Each b) = refl
 same_cell_is (All a) (Share b) = refl
 same_cell_is (All a) (All b) = refl
 same_cell_is (All a) Left = refl
@@ -68,6 +86,7 @@ same_cell_is Left (Input b) = refl
 same_cell_is Left (Half b) = refl
 same_cell_is Left (Chain b) = refl
 same_cell_is Left (Wide b) = refl
+same_cell_is Left (Each b) = refl
 same_cell_is Left (Share b) = refl
 same_cell_is Left (All b) = refl
 same_cell_is Left Left = refl
@@ -77,6 +96,7 @@ same_cell_is Right (Input b) = refl
 same_cell_is Right (Half b) = refl
 same_cell_is Right (Chain b) = refl
 same_cell_is Right (Wide b) = refl
+same_cell_is Right (Each b) = refl
 same_cell_is Right (Share b) = refl
 same_cell_is Right (All b) = refl
 same_cell_is Right Left = refl
@@ -86,6 +106,7 @@ same_cell_is Top (Input b) = refl
 same_cell_is Top (Half b) = refl
 same_cell_is Top (Chain b) = refl
 same_cell_is Top (Wide b) = refl
+same_cell_is Top (Each b) = refl
 same_cell_is Top (Share b) = refl
 same_cell_is Top (All b) = refl
 same_cell_is Top Left = refl
@@ -97,6 +118,7 @@ same_means (Input a) (Input b) e = ap Input (grind (arith, e))
 same_means (Input a) (Half b) e = let bad : ⊥ = cc in absurd bad
 same_means (Input a) (Chain b) e = let bad : ⊥ = cc in absurd bad
 same_means (Input a) (Wide b) e = let bad : ⊥ = cc in absurd bad
+same_means (Input a) (Each b) e = let bad : ⊥ = cc in absurd bad
 same_means (Input a) (Share b) e = let bad : ⊥ = cc in absurd bad
 same_means (Input a) (All b) e = let bad : ⊥ = cc in absurd bad
 same_means (Input a) Left e = let bad : ⊥ = cc in absurd bad
@@ -106,6 +128,7 @@ same_means (Half a) (Input b) e = let bad : ⊥ = cc in absurd bad
 same_means (Half a) (Half b) e = ap Half (grind (arith, e))
 same_means (Half a) (Chain b) e = let bad : ⊥ = cc in absurd bad
 same_means (Half a) (Wide b) e = let bad : ⊥ = cc in absurd bad
+same_means (Half a) (Each b) e = let bad : ⊥ = cc in absurd bad
 same_means (Half a) (Share b) e = let bad : ⊥ = cc in absurd bad
 same_means (Half a) (All b) e = let bad : ⊥ = cc in absurd bad
 same_means (Half a) Left e = let bad : ⊥ = cc in absurd bad
@@ -115,6 +138,7 @@ same_means (Chain a) (Input b) e = let bad : ⊥ = cc in absurd bad
 same_means (Chain a) (Half b) e = let bad : ⊥ = cc in absurd bad
 same_means (Chain a) (Chain b) e = ap Chain (grind (arith, e))
 same_means (Chain a) (Wide b) e = let bad : ⊥ = cc in absurd bad
+same_means (Chain a) (Each b) e = let bad : ⊥ = cc in absurd bad
 same_means (Chain a) (Share b) e = let bad : ⊥ = cc in absurd bad
 same_means (Chain a) (All b) e = let bad : ⊥ = cc in absurd bad
 same_means (Chain a) Left e = let bad : ⊥ = cc in absurd bad
@@ -124,15 +148,27 @@ same_means (Wide a) (Input b) e = let bad : ⊥ = cc in absurd bad
 same_means (Wide a) (Half b) e = let bad : ⊥ = cc in absurd bad
 same_means (Wide a) (Chain b) e = let bad : ⊥ = cc in absurd bad
 same_means (Wide a) (Wide b) e = ap Wide (grind (arith, e))
+same_means (Wide a) (Each b) e = let bad : ⊥ = cc in absurd bad
 same_means (Wide a) (Share b) e = let bad : ⊥ = cc in absurd bad
 same_means (Wide a) (All b) e = let bad : ⊥ = cc in absurd bad
 same_means (Wide a) Left e = let bad : ⊥ = cc in absurd bad
 same_means (Wide a) Right e = let bad : ⊥ = cc in absurd bad
 same_means (Wide a) Top e = let bad : ⊥ = cc in absurd bad
+same_means (Each a) (Input b) e = let bad : ⊥ = cc in absurd bad
+same_means (Each a) (Half b) e = let bad : ⊥ = cc in absurd bad
+same_means (Each a) (Chain b) e = let bad : ⊥ = cc in absurd bad
+same_means (Each a) (Wide b) e = let bad : ⊥ = cc in absurd bad
+same_means (Each a) (Each b) e = ap Each (grind (arith, e))
+same_means (Each a) (Share b) e = let bad : ⊥ = cc in absurd bad
+same_means (Each a) (All b) e = let bad : ⊥ = cc in absurd bad
+same_means (Each a) Left e = let bad : ⊥ = cc in absurd bad
+same_means (Each a) Right e = let bad : ⊥ = cc in absurd bad
+same_means (Each a) Top e = let bad : ⊥ = cc in absurd bad
 same_means (Share a) (Input b) e = let bad : ⊥ = cc in absurd bad
 same_means (Share a) (Half b) e = let bad : ⊥ = cc in absurd bad
 same_means (Share a) (Chain b) e = let bad : ⊥ = cc in absurd bad
 same_means (Share a) (Wide b) e = let bad : ⊥ = cc in absurd bad
+same_means (Share a) (Each b) e = let bad : ⊥ = cc in absurd bad
 same_means (Share a) (Share b) e = ap Share (grind (arith, e))
 same_means (Share a) (All b) e = let bad : ⊥ = cc in absurd bad
 same_means (Share a) Left e = let bad : ⊥ = cc in absurd bad
@@ -142,6 +178,7 @@ same_means (All a) (Input b) e = let bad : ⊥ = cc in absurd bad
 same_means (All a) (Half b) e = let bad : ⊥ = cc in absurd bad
 same_means (All a) (Chain b) e = let bad : ⊥ = cc in absurd bad
 same_means (All a) (Wide b) e = let bad : ⊥ = cc in absurd bad
+same_means (All a) (Each b) e = let bad : ⊥ = cc in absurd bad
 same_means (All a) (Share b) e = let bad : ⊥ = cc in absurd bad
 same_means (All a) (All b) e = ap All (grind (arith, e))
 same_means (All a) Left e = let bad : ⊥ = cc in absurd bad
@@ -151,6 +188,7 @@ same_means Left (Input b) e = let bad : ⊥ = cc in absurd bad
 same_means Left (Half b) e = let bad : ⊥ = cc in absurd bad
 same_means Left (Chain b) e = let bad : ⊥ = cc in absurd bad
 same_means Left (Wide b) e = let bad : ⊥ = cc in absurd bad
+same_means Left (Each b) e = let bad : ⊥ = cc in absurd bad
 same_means Left (Share b) e = let bad : ⊥ = cc in absurd bad
 same_means Left (All b) e = let bad : ⊥ = cc in absurd bad
 same_means Left Left e = refl
@@ -160,6 +198,7 @@ same_means Right (Input b) e = let bad : ⊥ = cc in absurd bad
 same_means Right (Half b) e = let bad : ⊥ = cc in absurd bad
 same_means Right (Chain b) e = let bad : ⊥ = cc in absurd bad
 same_means Right (Wide b) e = let bad : ⊥ = cc in absurd bad
+same_means Right (Each b) e = let bad : ⊥ = cc in absurd bad
 same_means Right (Share b) e = let bad : ⊥ = cc in absurd bad
 same_means Right (All b) e = let bad : ⊥ = cc in absurd bad
 same_means Right Left e = let bad : ⊥ = cc in absurd bad
@@ -169,6 +208,7 @@ same_means Top (Input b) e = let bad : ⊥ = cc in absurd bad
 same_means Top (Half b) e = let bad : ⊥ = cc in absurd bad
 same_means Top (Chain b) e = let bad : ⊥ = cc in absurd bad
 same_means Top (Wide b) e = let bad : ⊥ = cc in absurd bad
+same_means Top (Each b) e = let bad : ⊥ = cc in absurd bad
 same_means Top (Share b) e = let bad : ⊥ = cc in absurd bad
 same_means Top (All b) e = let bad : ⊥ = cc in absurd bad
 same_means Top Left e = let bad : ⊥ = cc in absurd bad
@@ -180,6 +220,7 @@ same_itself (Input a) = eq-eqb a a refl
 same_itself (Half a) = eq-eqb a a refl
 same_itself (Chain a) = eq-eqb a a refl
 same_itself (Wide a) = eq-eqb a a refl
+same_itself (Each a) = eq-eqb a a refl
 same_itself (Share a) = eq-eqb a a refl
 same_itself (All a) = eq-eqb a a refl
 same_itself Left = refl
@@ -191,6 +232,7 @@ input_value given (Input a) e = refl
 input_value given (Half a) e = let bad : ⊥ = cc in absurd bad
 input_value given (Chain a) e = let bad : ⊥ = cc in absurd bad
 input_value given (Wide a) e = let bad : ⊥ = cc in absurd bad
+input_value given (Each a) e = let bad : ⊥ = cc in absurd bad
 input_value given (Share a) e = let bad : ⊥ = cc in absurd bad
 input_value given (All a) e = let bad : ⊥ = cc in absurd bad
 input_value given Left e = let bad : ⊥ = cc in absurd bad
@@ -202,6 +244,7 @@ input_reads given (Input a) e = refl
 input_reads given (Half a) e = let bad : ⊥ = cc in absurd bad
 input_reads given (Chain a) e = let bad : ⊥ = cc in absurd bad
 input_reads given (Wide a) e = let bad : ⊥ = cc in absurd bad
+input_reads given (Each a) e = let bad : ⊥ = cc in absurd bad
 input_reads given (Share a) e = let bad : ⊥ = cc in absurd bad
 input_reads given (All a) e = let bad : ⊥ = cc in absurd bad
 input_reads given Left e = let bad : ⊥ = cc in absurd bad
@@ -294,6 +337,7 @@ once_reads (Input n) = tt
 once_reads (Half n) = ((λ h. h), tt)
 once_reads (Chain n) = ((λ h. h), tt)
 once_reads (Wide n) = once_halves n
+once_reads (Each n) = once_halves n
 once_reads (Share n) = ((λ h. h), tt)
 once_reads (All n) = once_shares n
 once_reads Left = ((λ h. h), tt)
@@ -322,6 +366,9 @@ final_is given (Chain n) e =
 final_is given (Wide n) e =
     elim (n == 0) as (λ b. (n == 0) ≡ b → (if b then 0 else answer_or_zero (answers (worth given) (halves n)) (Half (n - 1))) ≡ (if b then 0 else given (Input (n - 1)) / 2))
     [ true ↦ (λ _. refl) | false ↦ (λ s. found (worth given) (halves n) (Half (n - 1)) (last_half n s)) ] refl
+final_is given (Each n) e =
+    elim (n == 0) as (λ b. (n == 0) ≡ b → (if b then 0 else answer_or_zero (answers (worth given) (halves n)) (Half (n - 1))) ≡ (if b then 0 else given (Input (n - 1)) / 2))
+    [ true ↦ (λ _. refl) | false ↦ (λ s. found (worth given) (halves n) (Half (n - 1)) (last_half n s)) ] refl
 final_is given (Share n) e = found (worth given) (Half 0 ∷ []) (Half 0) (inl refl)
 final_is given (All n) e =
     elim (n == 0) as (λ b. (n == 0) ≡ b → (if b then 0 else answer_or_zero (answers (worth given) (shares n)) (Share (n - 1))) ≡ (if b then 0 else given (Input 0) / 2))
@@ -335,10 +382,19 @@ goes given c e first [] s =
     let whole : reads_of c ≡ first = s ∙ append-nil first in (refl, subst (λ l. final c (answers (worth given) l) ≡ worth given c) whole (final_is given c e))
 goes given c e first (d ∷ left) s = ((omega arith), ([], sym (append-nil (d ∷ left))))
 
+goes_one : (given : Cell → ℕ) (c : Cell) → is_input_cell c ≡ false → (first left : List Cell) → reads_of c ≡ first ++ left → GoesOn left (worth given c) (step_one c (answers (worth given) first) left)
+goes_one given c e first [] s =
+    let whole : reads_of c ≡ first = s ∙ append-nil first in (refl, subst (λ l. final c (answers (worth given) l) ≡ worth given c) whole (final_is given c e))
+goes_one given c e first (d ∷ left) s = ((omega arith), (left, refl))
+
 cell_steps : (given : Cell → ℕ) (c : Cell) → is_input_cell c ≡ false → (first left : List Cell) → reads_of c ≡ first ++ left → GoesOn left (worth given c) (cells.step c (answers (worth given) first))
 cell_steps given c e first left s =
-    let rest : rest_of (answers (worth given) first) (reads_of c) ≡ left = ap (rest_of (answers (worth given) first)) s ∙ rest_is (worth given) first left (subst IsOnce s (once_reads c)) in
-    subst (λ l. GoesOn left (worth given c) (step_with c (answers (worth given) first) l)) (sym rest) (goes given c e first left s)
+    let had = answers (worth given) first in
+    let rest : rest_of had (reads_of c) ≡ left = ap (rest_of had) s ∙ rest_is (worth given) first left (subst IsOnce s (once_reads c)) in
+    elim (one_by_one c) as (λ b. GoesOn left (worth given c) (if b then step_one c had (rest_of had (reads_of c)) else step_with c had (rest_of had (reads_of c)))) [
+      | true ↦ subst (λ l. GoesOn left (worth given c) (step_one c had l)) (sym rest) (goes_one given c e first left s)
+      | false ↦ subst (λ l. GoesOn left (worth given c) (step_with c had l)) (sym rest) (goes given c e first left s)
+    ]
 
 level_before : (n : ℕ) → level (if n == 0 then Half 0 else Chain (n - 1)) < n + 2
 level_before n =
@@ -352,6 +408,7 @@ cell_ranks given (Half n) d (inr x) = absurd x
 cell_ranks given (Chain n) d (inl e) = subst (λ x. level x < n + 2) e (level_before n)
 cell_ranks given (Chain n) d (inr x) = absurd x
 cell_ranks given (Wide n) d h = let r = in_halves n d h in subst (λ x. level x < 2) r.1.1 (omega arith)
+cell_ranks given (Each n) d h = let r = in_halves n d h in subst (λ x. level x < 2) r.1.1 (omega arith)
 cell_ranks given (Share n) d (inl e) = subst (λ x. level x < 2) e (omega arith)
 cell_ranks given (Share n) d (inr x) = absurd x
 cell_ranks given (All n) d h = let r = in_shares n d h in subst (λ x. level x < 3) r.1.1 (omega arith)
@@ -395,3 +452,53 @@ stops_at had cs place c lt e none so_far =
       | Some v ↦ (λ s. let z = ap is_some s in let bad : ⊥ = cc in absurd bad)
       | None ↦ (λ n. let more = one_more had cs place c lt e in more ∙ sym (stops had c (drop (place + 1) cs) n) ∙ sym (ap (rest_of had) more) ∙ so_far)
     ] refl
+
+-- what a run knows of its answers
+more_answered : (first more : List (Cell × ℕ)) (c : Cell) → is_some (lookup (same_cell c) first) ≡ true → is_some (lookup (same_cell c) (first ++ more)) ≡ true
+more_answered [] more c h = let bad : ⊥ = cc in absurd bad
+more_answered (p ∷ first) more c h =
+    elim (same_cell c p.0) as (λ b. is_some (cond b (Some p.1) (lookup (same_cell c) first)) ≡ true → is_some (cond b (Some p.1) (lookup (same_cell c) (first ++ more))) ≡ true)
+    [ true ↦ (λ _. refl) | false ↦ (λ r. more_answered first more c r) ] h
+
+-- a run that has read the first answers knows as much of all
+pub read_answered : (c : Cell) (number : ℕ) (had : List (Cell × ℕ)) → HasReadFirst has_read_cell c number had → AreAnswered had number
+read_answered c number had h = subst (λ l. AreAnswered l number) (sym h.2.0) (λ i lt. more_answered h.0 h.1 (Half i) (h.2.1 i lt))
+
+pub one_more_answered : (had : List (Cell × ℕ)) (number : ℕ) → AreAnswered had number → is_some (lookup (same_cell (Half number)) had) ≡ true → AreAnswered had (number + 1)
+one_more_answered had number a e i lt =
+    elim (cases_eq i number) [ inl s ↦ subst (λ n. is_some (lookup (same_cell (Half n)) had) ≡ true) (sym s) e | inr n ↦ a i (omega arith) ]
+
+answered_halves : (had : List (Cell × ℕ)) (number : ℕ) → AreAnswered had number → (c : Cell) → Has (halves number) c → (v : ℕ) × (lookup (same_cell c) had ≡ Some v)
+answered_halves had number a c h =
+    let r = in_halves number c h in
+    let e : is_some (lookup (same_cell c) had) ≡ true = subst (λ x. is_some (lookup (same_cell x) had) ≡ true) r.1.1 (a r.0 r.1.0) in
+    elim (lookup (same_cell c) had) as (λ o. is_some o ≡ true → (v : ℕ) × (o ≡ Some v)) [ None ↦ (λ n. let bad : ⊥ = cc in absurd bad) | Some v ↦ (λ _. (v, refl)) ] e
+
+halves_at : (number place : ℕ) → place < number → (more : List Cell) × (halves number ≡ halves place ++ Half place ∷ more)
+halves_at zero place lt = absurd (omega arith)
+halves_at (suc n) place lt =
+    elim (cases_eq place n) [
+      | inl s ↦ ([], subst (λ p. halves (suc n) ≡ halves p ++ Half p ∷ []) (sym s) refl)
+      | inr ne ↦ (let r = halves_at n place (omega arith) in
+          (r.0 ++ Half n ∷ [], ap (λ l. l ++ Half n ∷ []) r.1 ∙ append_assoc (halves place) (Half place ∷ r.0) (Half n ∷ [])))
+    ]
+
+-- the next step of a cell that asks for one half after the other
+pub step_open : (had : List (Cell × ℕ)) (number place : ℕ) → AreAnswered had place → place < number → is_some (lookup (same_cell (Half place)) had) ≡ false → cells.step (Each number) had ≡ Ask (Half place ∷ [])
+step_open had number place a lt none =
+    let cut = halves_at number place lt in
+    let missing : lookup (same_cell (Half place)) had ≡ None =
+    elim (lookup (same_cell (Half place)) had) as (λ o. is_some o ≡ false → o ≡ None) [ None ↦ (λ _. refl) | Some v ↦ (λ n. let bad : ⊥ = cc in absurd bad) ] none in
+    let rest : rest_of had (halves number) ≡ Half place ∷ cut.0 =
+    ap (rest_of had) cut.1 ∙ passes had (halves place) (Half place ∷ cut.0) (answered_halves had place a) ∙ stops had (Half place) cut.0 missing in
+    ap (step_one (Each number) had) rest
+
+pub step_done : (had : List (Cell × ℕ)) (number place : ℕ) → AreAnswered had place → number ≤ place → cells.step (Each number) had ≡ Done (final (Each number) had)
+step_done had number place a le =
+    let rest : rest_of had (halves number) ≡ [] =
+    ap (rest_of had) (sym (append-nil (halves number))) ∙ passes had (halves number) [] (answered_halves had number (λ i lt. a i (omega arith))) in
+    ap (step_one (Each number) had) rest
+
+pub on_ok_from : {A E : Type 0} (r : Result A E) (P : Type 0) → P → OnOk r P
+on_ok_from (Ok x) P p = p
+on_ok_from (Err e) P p = tt

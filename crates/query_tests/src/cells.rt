@@ -1,9 +1,10 @@
 // Cells over halved inputs: a diamond, a chain, a row over many inputs and a row over one. An edit that leaves the half of an input stops there.
 
-ghost use Rattle.std.specs.Prelude.{◌≡◌, ◌-◌, ◌<◌, ◌≤◌, [], ◌∷◌, drop, length, IfOk, ◌==◌, if◌then◌else◌, is_some};
+ghost use Rattle.std.specs.Prelude.{◌≡◌, ◌+◌, ◌-◌, ◌<◌, ◌≤◌, [], ◌∷◌, drop, length, IfOk, IfSome, None, false, ◌==◌, if◌then◌else◌, is_some};
 ghost use Rattle.std.specs.Map.{lookup};
-ghost use Rattle.query_tests.specs.declared.cells.Cell.TheVariants.{Half, Chain};
-ghost use Rattle.query_tests.specs.Cells.{cells, reads_of, rest_of, final, halves, shares, answer_or_zero, same_cell};
+ghost use Rattle.query_tests.specs.declared.cells.Cell.TheVariants.{Half, Chain, Each};
+ghost use Rattle.query_core.specs.Queries.{ticks};
+ghost use Rattle.query_tests.specs.Cells.{cells, reads_of, rest_of, final, halves, shares, answer_or_zero, same_cell, one_by_one, step_with, AreAnswered, has_read_cell};
 ghost use Rattle.query_tests.specs.CellLaws.{cells_lawful, same_cell_is};
 ghost use Rattle.query_tests.specs.PickLaws.{same_number_is};
 
@@ -23,6 +24,8 @@ pub enum Cell {
     Chain(u32),
     /// Reads so many halves, and is the last of them.
     Wide(u32),
+    /// Reads so many halves, one after the other, and is the last of them.
+    Each(u32),
     /// The half of input 0, which all of these share.
     Share(u32),
     /// Reads so many shares, and is the last of them.
@@ -95,7 +98,7 @@ fn reads(alloc: Global, cell: Cell) -> Result<Vec<Cell>, AllocError>
         Cell::Input(_) => Ok(Vec::new(alloc)),
         Cell::Half(number) => one(alloc, Cell::Input(number)),
         Cell::Chain(number) => one(alloc, before(number)),
-        Cell::Wide(number) => first_halves(alloc, number),
+        Cell::Wide(number) | Cell::Each(number) => first_halves(alloc, number),
         Cell::Share(_) => one(alloc, Cell::Half(0)),
         Cell::All(number) => first_shares(alloc, number),
         Cell::Left => one(alloc, Cell::Half(0)),
@@ -146,7 +149,7 @@ fn value(cell: Cell, answers: &Answers<'_, Cell, u32>) -> u32
         Cell::Input(_) => 0,
         Cell::Half(number) => answer(answers, Cell::Input(number)) / 2,
         Cell::Chain(number) => answer(answers, before(number)),
-        Cell::Wide(number) => {
+        Cell::Wide(number) | Cell::Each(number) => {
             if number == 0 {
                 0
             } else {
@@ -167,17 +170,89 @@ fn value(cell: Cell, answers: &Answers<'_, Cell, u32>) -> u32
     }
 }
 
+/// How many halves a cell reads that asks for one after the other.
+fn length_of(cell: Cell) -> Option<u32>
+    ensures some { IfSome result (λ number. cell ≡ Each number) }
+    ensures none { result ≡ None → one_by_one cell ≡ false }
+{
+    match cell {
+        Cell::Each(number) => Some(number),
+        Cell::Input(_) | Cell::Half(_) | Cell::Chain(_) | Cell::Wide(_) => None,
+        Cell::Share(_) | Cell::All(_) | Cell::Left | Cell::Right | Cell::Top => None,
+    }
+}
+
+/// Goes past the halves that are answered, from those on that the run knows.
+fn go_past(number: u32, run: &mut u32, answers: &Answers<'_, Cell, u32>)
+    requires { AreAnswered answers.now run.old }
+    ensures answered { AreAnswered answers.now run.new }
+    ensures open { run.new < number → is_some (lookup (same_cell (Half run.new)) answers.now) ≡ false }
+{
+    'halves: while *run < number {
+        if !is_answered(answers, &Cell::Half(*run)) {
+            return;
+        }
+        *run += 1;
+    }
+}
+
+/// The next step of a cell that asks for one half after the other.
+fn next_half<L: Ledger>(
+    alloc: Global,
+    number: u32,
+    run: &mut u32,
+    answers: &Answers<'_, Cell, u32>,
+    steps: &mut Steps<L>,
+) -> Result<Step<Cell, u32>, AllocError>
+    requires { AreAnswered answers.now run.old }
+    ensures step { IfOk result (λ s. s ≡ cells.step (Each number) answers.now) }
+    ensures read { AreAnswered answers.now run.new }
+    ensures ticks { steps.new ≡ steps.old + ticks result }
+{
+    go_past(number, run, answers);
+    if *run < number {
+        let next = one(alloc, Cell::Half(*run))?;
+        return Ok(Step::Ask(Keys::from_vec(next)));
+    }
+    steps.tick();
+    Ok(Step::Done(value(Cell::Each(number), answers)))
+}
+
+/// The next step of a cell that asks for all at once.
+fn next_reads<L: Ledger>(
+    alloc: Global,
+    cell: Cell,
+    answers: &Answers<'_, Cell, u32>,
+    steps: &mut Steps<L>,
+) -> Result<Step<Cell, u32>, AllocError>
+    ensures step { IfOk result (λ s. s ≡ step_with cell answers.now (rest_of answers.now (reads_of cell))) }
+    ensures ticks { steps.new ≡ steps.old + ticks result }
+{
+    let mut reads = reads(alloc, cell)?;
+    let missing = first_missing(&reads, answers);
+    if missing < reads.len() {
+        let rest = reads.split_off(missing)?;
+        return Ok(Step::Ask(Keys::from_vec(rest)));
+    }
+    steps.tick();
+    Ok(Step::Done(value(cell, answers)))
+}
+
 impl Rules for CellRules {
     type Key = Cell;
 
     type Value = u32;
 
+    type Run = u32;
+
     ghost queries = { cells };
+
+    ghost has_read = { has_read_cell };
 
     fn is_input(&self, key: &Cell) -> bool {
         match key {
             Cell::Input(_) => true,
-            Cell::Half(_) | Cell::Chain(_) | Cell::Wide(_) => false,
+            Cell::Half(_) | Cell::Chain(_) | Cell::Wide(_) | Cell::Each(_) => false,
             Cell::Share(_) | Cell::All(_) | Cell::Left | Cell::Right | Cell::Top => false,
         }
     }
@@ -186,21 +261,22 @@ impl Rules for CellRules {
         Ok(0)
     }
 
+    fn begin(&self, _alloc: Global, _key: &Cell) -> Result<u32, AllocError> {
+        Ok(0)
+    }
+
     fn next<L: Ledger>(
         &self,
         alloc: Global,
         key: &Cell,
+        run: &mut u32,
         answers: &Answers<'_, Cell, u32>,
         steps: &mut Steps<L>,
     ) -> Result<Step<Cell, u32>, AllocError> {
-        let mut reads = reads(alloc, *key)?;
-        let missing = first_missing(&reads, answers);
-        if missing < reads.len() {
-            let rest = reads.split_off(missing)?;
-            return Ok(Step::Ask(Keys::from_vec(rest)));
+        match length_of(*key) {
+            Some(number) => next_half(alloc, number, run, answers, steps),
+            None => next_reads(alloc, *key, answers, steps),
         }
-        steps.tick();
-        Ok(Step::Done(value(*key, answers)))
     }
 
     ghost same_keys = { same_cell_is };

@@ -88,7 +88,7 @@ mod tests {
         }
     }
 
-    static EDITS: [Edit; 14] = [
+    static EDITS: [Edit; 17] = [
         // a diamond: both sides and the top run once, and an edit that leaves the half stops there
         Edit {
             input: 0,
@@ -163,9 +163,25 @@ mod tests {
             value: 14,
             demand: Cell::All(10),
         },
+        // a row of twenty, asked for one after the other
+        Edit {
+            input: 5,
+            value: 8,
+            demand: Cell::Each(20),
+        },
+        Edit {
+            input: 5,
+            value: 9,
+            demand: Cell::Each(20),
+        },
+        Edit {
+            input: 19,
+            value: 9,
+            demand: Cell::Each(20),
+        },
     ];
 
-    static SHOWN: [Shown; 14] = [
+    static SHOWN: [Shown; 17] = [
         Shown { value: 2, runs: 4 },
         Shown { value: 2, runs: 1 },
         Shown { value: 4, runs: 4 },
@@ -180,6 +196,9 @@ mod tests {
         Shown { value: 6, runs: 12 },
         Shown { value: 6, runs: 1 },
         Shown { value: 7, runs: 12 },
+        Shown { value: 3, runs: 2 },
+        Shown { value: 3, runs: 1 },
+        Shown { value: 4, runs: 2 },
     ];
 
     #[test]

@@ -53,7 +53,11 @@ impl Rules for PickRules {
 
     type Value = u32;
 
+    type Run = ();
+
     ghost queries = { pick };
+
+    ghost has_read = { λ key run had. Unit {0} };
 
     fn is_input(&self, key: &PickKey) -> bool {
         match key {
@@ -66,10 +70,15 @@ impl Rules for PickRules {
         Ok(0)
     }
 
+    fn begin(&self, _alloc: Global, _key: &PickKey) -> Result<(), AllocError> {
+        Ok(())
+    }
+
     fn next<L: Ledger>(
         &self,
         alloc: Global,
         key: &PickKey,
+        _run: &mut (),
         answers: &Answers<'_, PickKey, u32>,
         steps: &mut Steps<L>,
     ) -> Result<Step<PickKey, u32>, AllocError> {

@@ -7,10 +7,6 @@ mod encoding;
 mod pos;
 mod seek;
 mod table;
-#[cfg(test)]
-mod tests;
-#[cfg(test)]
-mod vectors;
 mod walk;
 
 pub use edit::{Change, ChangeText, EditError, apply};

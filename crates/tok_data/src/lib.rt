@@ -3,14 +3,14 @@
 
 mod faults;
 mod keywords;
+mod lists;
 mod macros;
 mod sources;
-#[cfg(test)]
-mod tests;
 mod tokens;
 
 pub use faults::{Placed, PpFault, ShownFault};
 pub use keywords::is_keyword;
+pub use lists::{MacroOccs, OutTokens, PpFaults, TokIds};
 pub use macros::{MacroOcc, MacroRole};
 pub use sources::{FileId, TokId};
 pub use tokens::{OutToken, PpKind, PpToken, Spelt};

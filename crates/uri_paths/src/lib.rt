@@ -5,11 +5,7 @@ mod error;
 mod parts;
 mod path;
 mod place;
-#[cfg(test)]
-mod tests;
 mod uri;
-#[cfg(test)]
-mod vectors;
 
 pub use error::UriError;
 pub use path::Path;

@@ -4,8 +4,8 @@ ghost use Rattle.std.specs.Prelude.{◌≡◌, ℕ, ◌+◌, ◌<◌, ◌≤◌,
 ghost use Rattle.std.specs.Option.{option_copied};
 ghost use Rattle.query_core.specs.Graph.{at, node_of, record_of, is_current, is_verified};
 ghost use Rattle.query_core.specs.Soundness.{IsSound, kept};
-ghost use Rattle.query_core.specs.Queries.{ticks};
-ghost use Rattle.query_core.specs.Walk.{IsFrame, IsStage, IsChecking, IsRunning, IsHalt, IsGivenUp, halted, IsLook, IsLookAt, IsSettledTo, IsCollected, IsEntry, IsStep, Finishes, AreAnswered};
+ghost use Rattle.query_core.specs.Queries.{HasReadFirst, ticks};
+ghost use Rattle.query_core.specs.Walk.{IsFrame, IsStage, IsChecking, IsRunning, HasBegun, IsHalt, IsGivenUp, halted, IsLook, IsLookAt, IsSettledTo, IsCollected, IsEntry, IsStep, Finishes, AreAnswered};
 ghost use Rattle.query_core.specs.Lists.{Each, IsOnce};
 ghost use Rattle.query_core.specs.Changes.{IsHolding, IsRun, Leaves, Walked, ran};
 ghost use Rattle.query_core.specs.declared.store.Node.{Node};
@@ -15,7 +15,7 @@ use crate::frame::{Checked, Frame, Halt, Look, Moved, Running, Stage};
 use crate::keys::{Answered, Keys, Reads, TryCopy};
 use crate::rules::{Answers, Rules, Step};
 use crate::store::Node;
-use std::alloc::AllocError;
+use std::alloc::{AllocError, Global};
 use std::sync::ledger::Ledger;
 use steps::Steps;
 
@@ -88,9 +88,9 @@ impl<R: Rules> Graph<R> {
     }
 
     /// How the work on a key that isn't verified begins.
-    fn first_stage(&self, rules: &R, key: &R::Key, at_node: Option<usize>) -> Stage<R::Key>
+    fn first_stage(&self, rules: &R, key: &R::Key, at_node: Option<usize>) -> Stage<R::Key, R::Run>
         requires { is_verified R.queries self.now key.now ≡ false }
-        ensures { IsStage R.queries self.now key.now result }
+        ensures { IsStage R.queries R.has_read self.now key.now result }
     {
         let found = self.find(key, at_node);
         if rules.is_input(key) {
@@ -103,10 +103,10 @@ impl<R: Rules> Graph<R> {
     }
 
     /// A frame for a key that isn't verified.
-    fn begin(&self, rules: &R, key: R::Key, at_node: Option<usize>) -> Frame<R::Key>
+    fn begin(&self, rules: &R, key: R::Key, at_node: Option<usize>) -> Frame<R::Key, R::Run>
         requires { is_verified R.queries self.now key ≡ false }
         ensures key { result.key ≡ key }
-        ensures frame { IsFrame R.queries self.now result }
+        ensures frame { IsFrame R.queries R.has_read self.now result }
     {
         let stage = self.first_stage(rules, &key, at_node);
         Frame { key, stage }
@@ -134,7 +134,8 @@ impl<R: Rules> Graph<R> {
     fn look(&self, rules: &R, node: usize, place: usize) -> Checked
         requires stands { IsSome (at self.now node) }
         requires so_far { (r : Node R.Key R.Value) → at self.now node ≡ Some r → IsSettledTo R.queries self.now r place }
-        ensures { (r : Node R.Key R.Value) → at self.now node ≡ Some r → IsLook R.queries self.now r result }
+        ensures look { (r : Node R.Key R.Value) → at self.now node ≡ Some r → IsLook R.queries self.now r result }
+        ensures sound { IsSound R.queries self.now }
     {
         let Some(kept) = self.node(node) else {
             unreachable!()
@@ -198,17 +199,21 @@ impl<R: Rules> Graph<R> {
     /// Asks the rules what a run does next.
     fn round<L: Ledger>(
         &self,
+        alloc: Global,
         rules: &R,
         key: &R::Key,
+        run: &mut R::Run,
         answered: &Answered,
         steps: &mut Steps<L>,
     ) -> Result<Step<R::Key, R::Value>, AllocError>
+        requires { HasReadFirst R.has_read key.now run.old (kept self.now answered.now) }
+        ensures read { OnOk result (R.has_read key.now run.new (kept self.now answered.now)) }
         ensures step { IfOk result (λ s. s ≡ R.queries.step key.now (kept self.now answered.now)) }
         ensures ticks { steps.new ≡ steps.old + ticks result }
         ensures sound { IsSound R.queries self.now }
     {
         let answers = Answers::new(&self.store, answered);
-        rules.next(self.alloc, key, &answers, steps)
+        rules.next(alloc, key, run, &answers, steps)
     }
 
     /// Marks the record of a key as verified: all its reads are verified and unchanged.
@@ -271,12 +276,15 @@ impl<R: Rules> Graph<R> {
         &self,
         rules: &R,
         key: &R::Key,
+        run: &mut R::Run,
         asked: &mut Keys<R::Key>,
         answered: &mut Answered,
         steps: &mut Steps<L>,
     ) -> Result<Halt<R::Key, R::Value>, AllocError>
-        requires { IsRunning R.queries self.now key.now asked.old answered.old }
+        requires running { IsRunning R.queries self.now key.now asked.old answered.old }
+        requires begun { HasBegun R.queries R.has_read self.now key.now run.old asked.old }
         ensures halt { IfOk result (IsHalt R.queries self.now key.now asked.new answered.new) }
+        ensures begun { OnOk result (HasBegun R.queries R.has_read self.now key.now run.new asked.new) }
         ensures ticks { steps.new ≡ steps.old + halted result }
     {
         'rounds: loop {
@@ -285,7 +293,7 @@ impl<R: Rules> Graph<R> {
                 Some(on) => return Ok(Halt::Pauses(on)),
                 None => {}
             }
-            let step = self.round(rules, key, answered, steps)?;
+            let step = self.round(self.alloc, rules, key, run, answered, steps)?;
             match step {
                 Step::Ask(more) => asked.append(more)?,
                 Step::Done(value) => return Ok(Halt::Ends(value)),
@@ -298,21 +306,29 @@ impl<R: Rules> Graph<R> {
         &mut self,
         rules: &R,
         key: R::Key,
+        run: R::Run,
         asked: Keys<R::Key>,
         answered: Answered,
         steps: &mut Steps<L>,
-    ) -> Result<Moved<R::Key>, AllocError>
+    ) -> Result<Moved<R::Key, R::Run>, AllocError>
         requires stale { is_verified R.queries self.old key ≡ false }
         requires running { IsRunning R.queries self.old key asked answered }
-        ensures ok { IfOk result (IsStep R.queries self.old self.new key steps.old steps.new) }
+        requires begun { HasBegun R.queries R.has_read self.old key run asked }
+        ensures ok { IfOk result (IsStep R.queries R.has_read self.old self.new key steps.old steps.new) }
         ensures err { OnErr result (IsGivenUp self.old self.new steps.old steps.new) }
     {
+        let mut run = run;
         let mut asked = asked;
         let mut answered = answered;
-        let halt = self.go_on(rules, &key, &mut asked, &mut answered, steps)?;
+        let halt = self.go_on(rules, &key, &mut run, &mut asked, &mut answered, steps)?;
         match halt {
             Halt::Pauses(on) => {
-                let running = Box::new(self.alloc, Running { asked, answered })?;
+                let running = Running {
+                    run,
+                    asked,
+                    answered,
+                };
+                let running = Box::new(self.alloc, running)?;
                 let stage = Stage::Run(running);
                 Ok(Moved::Waits(Frame { key, stage }, on, None))
             }
@@ -323,6 +339,24 @@ impl<R: Rules> Graph<R> {
         }
     }
 
+    /// The first step of the walk on a key that runs.
+    fn start<L: Ledger>(
+        &mut self,
+        rules: &R,
+        key: R::Key,
+        steps: &mut Steps<L>,
+    ) -> Result<Moved<R::Key, R::Run>, AllocError>
+        requires stale { is_verified R.queries self.old key ≡ false }
+        requires running { IsRunning R.queries self.old key [] [] }
+        ensures ok { IfOk result (IsStep R.queries R.has_read self.old self.new key steps.old steps.new) }
+        ensures err { OnErr result (IsGivenUp self.old self.new steps.old steps.new) }
+    {
+        let run = rules.begin(self.alloc, &key)?;
+        let asked = Keys::new(self.alloc);
+        let answered = Answered::new(self.alloc);
+        self.run(rules, key, run, asked, answered, steps)
+    }
+
     /// A step of the walk on a key whose record is looked at.
     fn check<L: Ledger>(
         &mut self,
@@ -331,10 +365,10 @@ impl<R: Rules> Graph<R> {
         node: usize,
         place: usize,
         steps: &mut Steps<L>,
-    ) -> Result<Moved<R::Key>, AllocError>
+    ) -> Result<Moved<R::Key, R::Run>, AllocError>
         requires stale { is_verified R.queries self.old key ≡ false }
         requires checking { IsChecking R.queries self.old key node place }
-        ensures ok { IfOk result (IsStep R.queries self.old self.new key steps.old steps.new) }
+        ensures ok { IfOk result (IsStep R.queries R.has_read self.old self.new key steps.old steps.new) }
         ensures err { OnErr result (IsGivenUp self.old self.new steps.old steps.new) }
     {
         match self.look(rules, node, place) {
@@ -342,11 +376,7 @@ impl<R: Rules> Graph<R> {
                 self.touch(&key, node);
                 Ok(Moved::Done(node))
             }
-            Checked::Changed => {
-                let asked = Keys::new(self.alloc);
-                let answered = Answered::new(self.alloc);
-                self.run(rules, key, asked, answered, steps)
-            }
+            Checked::Changed => self.start(rules, key, steps),
             Checked::Stale(place) => {
                 let on = self.read_key(node, place)?;
                 let at_node = self.read_at(node, place);
@@ -360,11 +390,11 @@ impl<R: Rules> Graph<R> {
     fn advance<L: Ledger>(
         &mut self,
         rules: &R,
-        frame: Frame<R::Key>,
+        frame: Frame<R::Key, R::Run>,
         steps: &mut Steps<L>,
-    ) -> Result<Moved<R::Key>, AllocError>
-        requires { IsFrame R.queries self.old frame }
-        ensures ok { IfOk result (IsStep R.queries self.old self.new frame.key steps.old steps.new) }
+    ) -> Result<Moved<R::Key, R::Run>, AllocError>
+        requires { IsFrame R.queries R.has_read self.old frame }
+        ensures ok { IfOk result (IsStep R.queries R.has_read self.old self.new frame.key steps.old steps.new) }
         ensures err { OnErr result (IsGivenUp self.old self.new steps.old steps.new) }
     {
         let Frame { key, stage } = frame;
@@ -374,14 +404,14 @@ impl<R: Rules> Graph<R> {
                 Ok(Moved::Done(node))
             }
             Stage::Check(node, place) => self.check(rules, key, node, place, steps),
-            Stage::Start => {
-                let asked = Keys::new(self.alloc);
-                let answered = Answered::new(self.alloc);
-                self.run(rules, key, asked, answered, steps)
-            }
+            Stage::Start => self.start(rules, key, steps),
             Stage::Run(running) => {
-                let Running { asked, answered } = Box::into_inner(running);
-                self.run(rules, key, asked, answered, steps)
+                let Running {
+                    run,
+                    asked,
+                    answered,
+                } = Box::into_inner(running);
+                self.run(rules, key, run, asked, answered, steps)
             }
         }
     }
@@ -398,7 +428,7 @@ impl<R: Rules> Graph<R> {
         ensures ok { IfOk result (λ id. IsHolding R.queries self.old self.new key id × (steps.new ≡ steps.old + length (ran self.old self.new))) }
         ensures err { OnErr result ((steps.old + length (ran self.old self.new) ≤ steps.new) × (steps.new ≤ steps.old + length (ran self.old self.new) + 1)) }
     {
-        let mut path: Vec<Frame<R::Key>> = Vec::new(self.alloc);
+        let mut path: Vec<Frame<R::Key, R::Run>> = Vec::new(self.alloc);
         let mut top = self.begin(rules, key, None);
         'steps: loop {
             let moved = self.advance(rules, top, steps)?;

@@ -8,7 +8,7 @@ use Rattle.c_tokens.specs.Lexed.{pieces_of}
 use Rattle.c_tokens.specs.Laws.{InOrder, ranges}
 use Rattle.c_tokens.specs.Reading.{rest}
 use Rattle.c_tokens.proofs.LexingLemmas.{goes_begins}
-use Rattle.c_tokens.proofs.EndLemmas.{ended_tokens, ended_places, ended_faults, ordered_places, ordered_faults}
+use Rattle.c_tokens.proofs.EndLemmas.{ended_tokens, ended_places, ended_faults, ordered_places, ordered_faults, numbered_faults}
 use Rattle.c_tokens.proofs.LawLemmas.{paired}
 use Rattle.c_tokens.proofs.lexing.lex.Goals as goal
 
@@ -53,3 +53,13 @@ returns-clause-fault_order c =
     let none : rest c.args.text.now c.loop-piece.at ≡ [] = subst (λ (t : List ℕ). rest t c.loop-piece.at ≡ []) c.as_bytes.ensures.value c.in_default.ensures in
     let faults = c.from_vec-3.ensures ∙ ended_faults _ _ _ c.args.text.now c.loop-piece.at c.loop-piece.context c.loop-piece.spaced none c.loop-piece.invariant.goes in
     subst (λ (fs : List LexFault). InOrder 0 (length c.args.text.now) (ranges fs)) (sym faults) (ordered_faults c.args.text.now)
+
+pub returns-clause-few : goal.returns-clause-few
+returns-clause-few c = omega (arith, ap length c.from_vec.ensures, c.loop-piece.invariant.numbered, c.loop-piece.invariant.within)
+
+pub returns-clause-numbered : goal.returns-clause-numbered
+returns-clause-numbered c =
+    let none : rest c.args.text.now c.loop-piece.at ≡ [] = subst (λ (t : List ℕ). rest t c.loop-piece.at ≡ []) c.as_bytes.ensures.value c.in_default.ensures in
+    let tokens = c.from_vec.ensures ∙ ended_tokens _ _ _ c.args.text.now c.loop-piece.at c.loop-piece.context c.loop-piece.spaced none c.loop-piece.invariant.goes in
+    let faults = c.from_vec-3.ensures ∙ ended_faults _ _ _ c.args.text.now c.loop-piece.at c.loop-piece.context c.loop-piece.spaced none c.loop-piece.invariant.goes in
+    rw (tokens, faults) (numbered_faults c.args.text.now)

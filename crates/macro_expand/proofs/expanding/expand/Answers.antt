@@ -1,11 +1,12 @@
-use Rattle.std.proofs.Common.{◌∙◌}
+use Rattle.std.proofs.Common.{rules, length, ◌<◌}
 use Rattle.std.specs.FinMap as map
-use Rattle.macro_expand.proofs.WalkLemmas.{expanded_is}
+use Rattle.macro_expand.specs.Expansion.{expanded}
+use Rattle.macro_expand.proofs.KeepingLemmas.{all_within}
 use Rattle.macro_expand.proofs.expanding.expand.Goals as goal
 
 pub returns : goal.returns
 returns c =
-    c.in_ok-expanded.ensures
-    ∙ expanded_is (map.get c.args.table.now) c.args.lines.now c.args.budget c.args.tokens.now c.expansion.new.sets
-    c.in_ok-list.list c.at_first.result c.in_ok-outcome.outcome c.in_ok-list.ensures c.at_first.ensures
-    c.in_ok-outcome.ensures.value
+    let few : length c.in_ok-within.within.expanded.tokens < 18446744073709551615 = search rules in
+    all_within 18446744073709551615
+    (expanded (map.get c.args.table.now) c.args.lines.now c.args.budget c.args.tokens.now) c.in_ok-within.within
+    c.in_ok-within.ensures few

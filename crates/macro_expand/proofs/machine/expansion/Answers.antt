@@ -6,8 +6,10 @@ use Rattle.std.specs.FinMap as map
 use Rattle.macro_expand.specs.declared.machine.Frame.{Frame}
 use Rattle.macro_expand.specs.Substitution.{Expander}
 use Rattle.macro_expand.specs.Expansion as spec
+use Rattle.macro_expand.specs.Keeping.{held}
 use Rattle.macro_expand.specs.Steps as steps
 use Rattle.macro_expand.specs.Machine as work
+use Rattle.macro_expand.proofs.KeepingLemmas.{kept_last}
 use Rattle.macro_expand.proofs.WalkLemmas.{whole_done}
 use Rattle.macro_expand.proofs.machine.expansion.Goals as goal
 
@@ -17,14 +19,21 @@ returns-then-is_empty-2-clause-value c = λ f h.
     let again : Expander = spec.expansion table c.args.lines.now in
     let short : length c.names.machine.frames.items ≡ 0 = grind (arith, common_steps) in
     let none : c.names.machine.frames.items ≡ [] = nil_from_length c.names.machine.frames.items short in
-    sym (whole_done f table c.args.lines.now c.names.machine.level (c.is_empty.ensures.0 c.if-is_empty.true))
+    kept_last f c.args.room c.names.kept c.in_ok-kept.kept c.names.machine.level.progress c.names.machine.level.done
+    (work.outcome f again c.names.machine) c.in_ok-kept.ensures
+    (sym (whole_done f table c.args.lines.now c.names.machine.level (c.is_empty.ensures.0 c.if-is_empty.true))
     ∙ ap (λ (l : List Frame). work.resume f again l (steps.whole f table c.args.lines.now c.names.machine.level))
-    (sym none)
+    (sym none))
     ∙ c.names.invariant.same f h
 
 pub names-preserved : goal.names-preserved
 names-preserved c = record {
   grows = λ f h. c.names.invariant.grows f (c.in_ok-next.ensures.grows f h);
-  same = λ f h. c.in_ok-next.ensures.value f h ∙ c.names.invariant.same f (c.in_ok-next.ensures.grows f h);
-  fewer = let next = c.in_ok-next.ensures.fewer in omega (arith, next, c.names.invariant.fewer);
+  same = λ f h.
+      c.in_ok-delivered.ensures.value f (spec.expansion (map.get c.args.table.now) c.args.lines.now)
+      ∙ ap (held c.args.room c.names.kept) (c.in_ok-next.ensures.value f h)
+      ∙ c.names.invariant.same f (c.in_ok-next.ensures.grows f h);
+  fewer = let next = c.in_ok-next.ensures.fewer in
+      let same = ap (λ p. p.left) c.in_ok-delivered.ensures.progress in
+      omega (arith, next, same, c.names.invariant.fewer);
 }

@@ -5,6 +5,7 @@ use Rattle.macro_expand.specs.Codes.{Names}
 use Rattle.macro_expand.specs.Stands.{Stands, Grows}
 use Rattle.macro_expand.specs.Numbers.{reals}
 use Rattle.macro_expand.specs.Expansion as spec
+use Rattle.macro_expand.specs.Keeping.{held, nothing_kept}
 use Rattle.macro_expand.specs.Machine as work
 use Rattle.macro_expand.proofs.machine.expansion.Given as goal
 
@@ -12,8 +13,8 @@ abbrev pub invariant-names : goal.invariant-names
 invariant-names l = record {
   grows : Grows l.fn.sets l.sets;
   same : (f : Names → Names) → Stands f l.sets
-      → work.outcome f (spec.expansion (map.get l.table) l.lines) l.machine
-      ≡ spec.expansion (map.get l.table) l.lines l.fn.progress (reals f l.fn.tokens);
+      → held l.room l.kept (work.outcome f (spec.expansion (map.get l.table) l.lines) l.machine)
+      ≡ held l.room nothing_kept (spec.expansion (map.get l.table) l.lines l.fn.progress (reals f l.fn.tokens));
   fewer : l.machine.level.progress.left ≤ l.fn.progress.left;
 }
 

@@ -1,9 +1,8 @@
 -- A walk goes by steps.
-use Rattle.std.proofs.Common.{List, [], ◌∷◌, ap, sym, ◌∙◌, subst, arith}
+use Rattle.std.proofs.Common.{[], ◌∷◌, refl, ap, sym, ◌∙◌, subst, arith}
 use Rattle.std.specs.Prelude.{option_map}
 use Rattle.std.specs.FinMap as map
 use Rattle.std.proofs.lemmas.List.{map-append}
-use Rattle.macro_expand.specs.declared.types.Marked.{Marked}
 use Rattle.macro_expand.specs.declared.expanding.Taken.{Taken}
 use Rattle.macro_expand.specs.Substitution.{Expander}
 use Rattle.macro_expand.specs.Expansion as spec
@@ -17,24 +16,23 @@ pub tokens-preserved : goal.tokens-preserved
 tokens-preserved c =
     let table = map.get c.args.table.now in
     let again : Expander = spec.expansion table c.args.lines.now in
-    let left = kept_nearer c.in-Settled.step c.tokens.progress.left c.from_items.result c.in-Some-kept.token
-    (subst (λ (s : Taken). work.IsTaken s c.tokens.progress.left c.from_items.result) c.in-Settled.is
+    let left = kept_nearer c.in-Settled.step c.tokens.progress.left c.pop_front.new.self c.in-Some-kept.token
+    (subst (λ (s : Taken). work.IsTaken s c.tokens.progress.left c.pop_front.new.self) c.in-Settled.is
     c.in_ok-taken.ensures.nearer) c.in-Some-kept.is in
     record {
       grows = λ f h. c.tokens.invariant.grows f (c.in_ok-taken.ensures.grows f h);
       same = λ f h.
           whole_kept table c.args.lines.now c.tokens.progress (reals f c.tokens.done.items)
-          (reals f c.push-in-Settled.new.self.items) (real f c.in-Some.token) (reals f c.from_items.result)
-          (reals f c.tokens.rest.items) (reals f c.into_items-rest-in-Settled.result.items)
+          (reals f c.push-in-Settled.new.self.items) (real f c.in-Some.token) (reals f c.pop_front.new.self)
+          (reals f c.tokens.rest) (reals f c.in-Settled.step.rest)
           (steps.real_step f c.in-Settled.step) (real f c.in-Some-kept.token)
           (steps.whole f table c.args.lines.now c.args.walked)
-          (ap (reals f) (c.in-Some.ensures.items
-          ∙ ap (λ (l : List Marked). c.in-Some.token ∷ l) (sym c.from_items.ensures)))
+          (ap (reals f) c.in-Some.ensures.items)
           (ap (work.taken_outcome f again) (sym c.in-Settled.is) ∙ c.in_ok-taken.ensures.value f h again)
           (ap (option_map (real f)) c.in-Some-kept.is)
           (ap (reals f) c.in_ok-push-in-Settled.ensures.items
           ∙ map-append (real f) c.tokens.done.items (c.in-Some-kept.token ∷ []))
-          (ap (reals f) c.into_items-rest-in-Settled.ensures)
+          refl
           (c.tokens.invariant.same f (c.in_ok-taken.ensures.grows f h));
       fewer = omega (arith, left, c.tokens.invariant.fewer);
     }
@@ -45,8 +43,8 @@ tokens-preserved-then-not-is_ident c =
       grows = c.tokens.invariant.grows;
       same = λ f h.
           whole_plain (map.get c.args.table.now) c.args.lines.now c.tokens.progress (reals f c.tokens.done.items)
-          (reals f c.push.new.self.items) (real f c.in-Some.token) (reals f c.pop_front.new.self.items)
-          (reals f c.tokens.rest.items) (steps.whole f (map.get c.args.table.now) c.args.lines.now c.args.walked)
+          (reals f c.push.new.self.items) (real f c.in-Some.token) (reals f c.pop_front.new.self)
+          (reals f c.tokens.rest) (steps.whole f (map.get c.args.table.now) c.args.lines.now c.args.walked)
           (sym c.is_ident.ensures ∙ c.if-not-is_ident.true) (ap (reals f) c.in-Some.ensures.items)
           (ap (reals f) c.in_ok-push.ensures.items ∙ map-append (real f) c.tokens.done.items (c.in-Some.token ∷ []))
           (c.tokens.invariant.same f h);
@@ -61,10 +59,9 @@ returns-in_default-kept-clause-value c = λ f h.
     let table = map.get c.args.table.now in
     let again : Expander = spec.expansion table c.args.lines.now in
     whole_put table c.args.lines.now c.tokens.progress (reals f c.tokens.done.items) (reals f c.from_vec.result)
-    (real f c.in-Some.token) (reals f c.from_items.result) (reals f c.tokens.rest.items)
+    (real f c.in-Some.token) (reals f c.pop_front.new.self) (reals f c.tokens.rest)
     (steps.real_step f c.in-Settled.step) (steps.whole f table c.args.lines.now c.args.walked)
-    (ap (reals f) (c.in-Some.ensures.items
-    ∙ ap (λ (l : List Marked). c.in-Some.token ∷ l) (sym c.from_items.ensures)))
+    (ap (reals f) c.in-Some.ensures.items)
     (ap (work.taken_outcome f again) (sym c.in-Settled.is) ∙ c.in_ok-taken.ensures.value f h again)
     (ap (option_map (real f)) c.in_default-kept.is) (ap (reals f) c.from_vec.ensures)
     (c.tokens.invariant.same f (c.in_ok-taken.ensures.grows f h))
@@ -77,11 +74,10 @@ returns-in-Called-clause-value c = λ f h.
     let table = map.get c.args.table.now in
     let again : Expander = spec.expansion table c.args.lines.now in
     whole_turns table c.args.lines.now c.tokens.progress (reals f c.tokens.done.items) (reals f c.from_vec-done.result)
-    (real f c.in-Some.token) (reals f c.from_items.result) (reals f c.tokens.rest.items)
+    (real f c.in-Some.token) (reals f c.pop_front.new.self) (reals f c.tokens.rest)
     (steps.again_with again (real f c.in-Called.token) (f c.in-Called.names) (reals f c.in-Called.behind)
     (steps.built again c.in-Called.after (real f c.in-Called.token) c.in-Called.def.now (real_args f c.in-Called.args)))
     (steps.whole f table c.args.lines.now c.args.walked)
-    (ap (reals f) (c.in-Some.ensures.items
-    ∙ ap (λ (l : List Marked). c.in-Some.token ∷ l) (sym c.from_items.ensures)))
+    (ap (reals f) c.in-Some.ensures.items)
     (ap (work.taken_outcome f again) (sym c.in-Called.is) ∙ c.in_ok-taken.ensures.value f h again)
     (ap (reals f) c.from_vec-done.ensures) (c.tokens.invariant.same f (c.in_ok-taken.ensures.grows f h))

@@ -9,8 +9,8 @@ abbrev pub invariant-loop-token : goal.invariant-loop-token
 invariant-loop-token l = record {
   grows : Grows l.fn.sets l.sets;
   goes : (f : Names → Names) → Stands f l.sets
-      → all_marked l.site (f l.names) (reals f l.front.items) ++ reals f l.items.items
-      ≡ all_marked l.site (f l.names) (reals f l.initial.front.items) ++ reals f l.initial.items.items;
+      → all_marked l.site (f l.names) (reals f l.front.items) ++ reals f l.rest
+      ≡ all_marked l.site (f l.names) (reals f l.initial.front.items) ++ reals f l.initial.rest;
 }
 
 abbrev pub decreases-loop-token : goal.decreases-loop-token

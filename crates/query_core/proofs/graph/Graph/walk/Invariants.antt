@@ -5,8 +5,8 @@ use Rattle.query_core.proofs.graph.Graph.walk.Given as goal
 
 abbrev pub invariant-steps : goal.invariant-steps
 invariant-steps g l = record {
-  walk : Walk g.R.Rules.queries l.fn.self l.fn.key l.self l.top.key (reverse l.path.items) l.fn.steps l.steps;
-  frame : IsFrame g.R.Rules.queries l.self l.top;
+  walk : Walk g.R.Rules.queries g.R.Rules.has_read l.fn.self l.fn.key l.self l.top.key (reverse l.path.items) l.fn.steps l.steps;
+  frame : IsFrame g.R.Rules.queries g.R.Rules.has_read l.self l.top;
 }
 
 abbrev pub decreases-steps : goal.decreases-steps

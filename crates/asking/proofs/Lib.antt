@@ -1,0 +1,4 @@
+mod InOrder
+mod InTurn
+mod LookUps
+mod Translations

@@ -1,0 +1,15 @@
+// Constants of C (ISO C11 6.4.4), and what operators and conversions make of their values (6.3.1, 6.5, 6.6).
+#![tactic(auto)]
+
+mod arith;
+mod digits;
+mod floatings;
+mod integers;
+mod literal;
+mod ops;
+mod ranges;
+mod suffixes;
+
+pub use floatings::integer;
+pub use literal::Literal;
+pub use ops::{Op, convert, value_op};

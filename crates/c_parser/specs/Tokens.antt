@@ -1,0 +1,51 @@
+-- The kinds of tokens of a unit, under names that are typedef names (ISO C11 6.4.1, 6.4.6, 6.7.8).
+use Rattle.std.specs.Prelude.{ℕ, ◌||◌, List, [], ◌∷◌, map, bytes_eq, codes, if◌then◌else◌}
+use Rattle.std.specs.List.{list_any}
+use Rattle.tok_data.specs.declared.tokens.OutToken.{OutToken}
+use Rattle.tok_data.specs.declared.tokens.PpKind.{PpKind}
+use Rattle.tok_data.specs.declared.tokens.PpKind.TheVariants as pp
+use Rattle.tok_data.specs.Keywords.{is_keyword}
+use Rattle.c_parser.specs.declared.kinds.Kind.{Kind}
+use Rattle.c_parser.specs.declared.kinds.Kind.TheVariants.{Identifier, Constant, Text, OpenParen, CloseParen, OpenBracket, CloseBracket, OpenBrace, CloseBrace, Member, Step, Ampersand, Star, Sign, Complement, Quotient, Shift, Relation, Equality, Caret, Bar, And, Or, Question, Colon, Assignment, Comma, Other}
+
+-- punctuators, digraphs as what they stand for
+unfoldable pub marks : List (List ℕ × Kind)
+marks =
+    (codes "(", OpenParen) ∷ (codes ")", CloseParen) ∷ (codes ",", Comma) ∷ (codes "=", Assignment)
+    ∷ (codes "->", Member) ∷ (codes ".", Member) ∷ (codes "[", OpenBracket) ∷ (codes "]", CloseBracket)
+    ∷ (codes "*", Star) ∷ (codes "&", Ampersand) ∷ (codes "+", Sign) ∷ (codes "-", Sign)
+    ∷ (codes "==", Equality) ∷ (codes "!=", Equality) ∷ (codes "<", Relation) ∷ (codes ">", Relation)
+    ∷ (codes "<=", Relation) ∷ (codes ">=", Relation) ∷ (codes "&&", And) ∷ (codes "||", Or)
+    ∷ (codes "!", Complement) ∷ (codes "~", Complement) ∷ (codes "++", Step) ∷ (codes "--", Step)
+    ∷ (codes "/", Quotient) ∷ (codes "%", Quotient) ∷ (codes "<<", Shift) ∷ (codes ">>", Shift)
+    ∷ (codes "|", Bar) ∷ (codes "^", Caret) ∷ (codes "?", Question) ∷ (codes ":", Colon)
+    ∷ (codes "+=", Assignment) ∷ (codes "-=", Assignment) ∷ (codes "*=", Assignment) ∷ (codes "/=", Assignment)
+    ∷ (codes "%=", Assignment) ∷ (codes "&=", Assignment) ∷ (codes "|=", Assignment) ∷ (codes "^=", Assignment)
+    ∷ (codes "<<=", Assignment) ∷ (codes ">>=", Assignment) ∷ (codes "{", OpenBrace) ∷ (codes "}", CloseBrace)
+    ∷ (codes "<:", OpenBracket) ∷ (codes ":>", CloseBracket) ∷ (codes "<%", OpenBrace) ∷ (codes "%>", CloseBrace) ∷ []
+
+abbrev pub lookup : List (List ℕ × Kind) → List ℕ → Kind
+lookup [] text = Other
+lookup (e ∷ es) text = if bytes_eq e.0 text then e.1 else lookup es text
+
+unfoldable pub mark_of : List ℕ → Kind
+mark_of = lookup marks
+
+-- an identifier that is a typedef name, or a keyword, is no primary expression
+unfoldable pub word_of : List (List ℕ) → List ℕ → Kind
+word_of names text = if is_keyword text || list_any (λ name. bytes_eq name text) names then Other else Identifier
+
+abbrev pub pp_kind_of : List (List ℕ) → PpKind → List ℕ → Kind
+pp_kind_of names pp.Ident text = word_of names text
+pp_kind_of names pp.Number text = Constant
+pp_kind_of names pp.Char text = Constant
+pp_kind_of names pp.Str text = Text
+pp_kind_of names pp.Header text = Other
+pp_kind_of names pp.Punct text = mark_of text
+pp_kind_of names pp.Stray text = Other
+
+abbrev pub kind_of : List (List ℕ) → OutToken → Kind
+kind_of names t = pp_kind_of names t.kind t.spelling
+
+abbrev pub kinds_of : List (List ℕ) → List OutToken → List Kind
+kinds_of names tokens = map (kind_of names) tokens

@@ -1,0 +1,4 @@
+pub mod Items
+pub mod Labels
+pub mod Marks
+pub mod Progress

@@ -1,0 +1,84 @@
+// The parentheses of a list that is read and written at its front.
+ghost use Rattle.std.specs.Prelude.{◌≡◌, [], ◌∷◌, ◌++◌, ◌<◌, ◌≤◌, ◌+◌, ◌^◌, ℕ, List, IfOk, IsTrue};
+ghost use Rattle.macro_expand.specs.Parens as spec;
+
+use crate::tokens::is_mark;
+use std::alloc::{AllocError, Global};
+use std::marker::Model;
+use tok_data::OutToken;
+
+// How many closing parentheses no opening one of the list takes, and how many these were behind each opening one, the
+// first of the list last.
+#[derive(Debug, Drop)]
+pub(crate) struct Parens {
+    free: usize,
+    behind: Vec<usize>,
+}
+
+impl Model for Parens {
+    ghost use Rattle.std.specs.Prelude.{List, ℕ};
+
+    ghost Value = { ℕ × List ℕ };
+
+    ghost view = { λ p. (p.free, p.behind.items) };
+}
+
+impl Parens {
+    pub(crate) fn new(alloc: Global) -> Parens
+        ensures { result ≡ (0, []) }
+    {
+        Parens {
+            free: 0,
+            behind: Vec::new(alloc),
+        }
+    }
+
+    // With a token more at the front.
+    #[tactic(auto, unfolding(crate::specs::Parens::before))]
+    pub(crate) fn before(self, token: &OutToken) -> Result<Parens, AllocError>
+        requires { self.0 < 2 ^ 63 }
+        ensures value { IfOk result (λ p. p ≡ spec.before token.now self) }
+        ensures free { IfOk result (λ p. p.0 ≤ self.0 + 1) }
+    {
+        let Parens { free, behind } = self;
+        if is_mark("(", token) {
+            let mut behind = behind;
+            behind.push(free)?;
+            return Ok(Parens {
+                free: free.saturating_sub(1),
+                behind,
+            });
+        }
+        if is_mark(")", token) {
+            return Ok(Parens {
+                free: free + 1,
+                behind,
+            });
+        }
+        Ok(Parens { free, behind })
+    }
+
+    // Without the first token.
+    #[tactic(auto, unfolding(crate::specs::Parens::before))]
+    pub(crate) fn leave(&mut self, token: &OutToken)
+        ensures { (p : ℕ × List ℕ) → self.old ≡ spec.before token.now p → self.new ≡ p }
+    {
+        if is_mark("(", token) {
+            self.free = self.behind.pop().unwrap_or(0);
+            return;
+        }
+        if is_mark(")", token) {
+            self.free = self.free.saturating_sub(1);
+        }
+    }
+
+    // Nothing was free behind the first opening parenthesis.
+    pub(crate) fn is_first_open(&self) -> bool
+        ensures { IsTrue result → (ns : List ℕ) (n : ℕ) → self.now.1 ≡ ns ++ n ∷ [] → n ≡ 0 }
+    {
+        match self.behind.last() {
+            Some(free) => *free == 0,
+            None => false,
+        }
+    }
+}

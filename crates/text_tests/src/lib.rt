@@ -1,0 +1,19 @@
+// Tests of the crates on texts: positions and edits, paths and URIs, members of JSON, the current texts, options.
+#![tactic(auto)]
+
+#[cfg(test)]
+mod document_script;
+#[cfg(test)]
+mod documents;
+#[cfg(test)]
+mod members;
+#[cfg(test)]
+mod options;
+#[cfg(test)]
+mod path_vectors;
+#[cfg(test)]
+mod paths;
+#[cfg(test)]
+mod position_vectors;
+#[cfg(test)]
+mod positions;

@@ -1,0 +1,13 @@
+use Rattle.std.proofs.Common.{ap, sym, ◌∙◌}
+use Rattle.tree_data.specs.declared.expr.Expr.TheOpen as layer
+use Rattle.tree_data.specs.declared.expr.Expr.TheFolds.{fold-roll-Expr}
+use Rattle.tree_data.specs.declared.expr.Expr.TheVariants.{rolls-Paren}
+use Rattle.tree_data.specs.Trees.{Tree, Paren_of, tree_of, tree_step}
+use Rattle.tree_data.proofs.expr.Expr.paren.Goals as goal
+
+pub returns : goal.returns
+unfolding tree_of tree_step
+returns c =
+    ap tree_of (sym (rolls-Paren c.args.opening c.in_ok-inner.inner c.args.closing))
+    ∙ fold-roll-Expr Tree tree_step (layer.Paren c.args.opening c.in_ok-inner.inner c.args.closing)
+    ∙ ap (λ x. Paren_of c.args.opening (tree_of x) c.args.closing) c.in_ok-inner.ensures.ok

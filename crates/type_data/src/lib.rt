@@ -1,0 +1,10 @@
+// Types of C and the values of constants (ISO C11 6.2.5, 6.6), as data.
+#![tactic(auto)]
+
+mod basics;
+mod integers;
+mod values;
+
+pub use basics::Basic;
+pub use integers::IntTy;
+pub use values::Value;
