@@ -4,7 +4,7 @@ ghost use Rattle.c_literals.specs.Floating;
 
 use crate::digits::{begins_with, behind, byte_at, run};
 use crate::integers::{has_prefix, integer_constant};
-use crate::literal::Literal;
+use crate::literal::{BAD_NUMBER, Literal};
 use type_data::Basic;
 
 #[tactic(auto, unfolding(crate::specs::Floating::floating_suffix))]
@@ -117,6 +117,6 @@ pub fn integer(spelling: &str) -> Literal
     }
     match floating_constant(text) {
         Some(ty) => Literal::Floating(ty),
-        None => Literal::Bad(312),
+        None => Literal::Bad(BAD_NUMBER),
     }
 }

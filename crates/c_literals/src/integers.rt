@@ -6,7 +6,7 @@ ghost use Rattle.c_literals.specs.Digits;
 ghost use Rattle.c_literals.specs.Integer;
 
 use crate::digits::{begins_with, behind, byte_at, number, run};
-use crate::literal::Literal;
+use crate::literal::{Literal, TOO_LARGE};
 use crate::suffixes::{Long, Suffix, suffix_of};
 use type_data::IntTy;
 
@@ -89,7 +89,7 @@ fn typed(value: u64, ty: Option<IntTy>) -> Literal
 {
     match ty {
         Some(ty) => Literal::Int(ty, value as i128),
-        None => Literal::Bad(311),
+        None => Literal::Bad(TOO_LARGE),
     }
 }
 
@@ -98,7 +98,7 @@ fn of_number(decimal: bool, suffix: Suffix, value: Option<u64>) -> Literal
 {
     match value {
         Some(value) => typed(value, first_type(decimal, suffix, value)),
-        None => Literal::Bad(311),
+        None => Literal::Bad(TOO_LARGE),
     }
 }
 

@@ -1,6 +1,12 @@
 // The constant that a token is (ISO C11 6.4.4).
 use type_data::{Basic, IntTy};
 
+/// The rule that an integer constant breaks whose value no type of its list has.
+pub(crate) const TOO_LARGE: u16 = 311;
+
+/// The rule that a preprocessing number breaks which is no constant.
+pub(crate) const BAD_NUMBER: u16 = 312;
+
 /// A constant.
 #[derive(Clone, Copy, Debug, PartialEq, Eq, Drop)]
 pub enum Literal {

@@ -59,15 +59,10 @@ pub fn convert(to: IntTy, a: Value) -> Value
     }
 }
 
-#[tactic(auto, unfolding(crate::specs::Conversions::truth))]
 fn negation(number: i128) -> Value
     ensures { result ≡ Operators.negation number }
 {
-    if number == 0 {
-        Value::Known(1)
-    } else {
-        Value::Known(0)
-    }
+    one_if(number == 0)
 }
 
 fn applied_unary(op: Op, ty: IntTy, x: i128) -> Value

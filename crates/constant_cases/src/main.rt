@@ -3,15 +3,13 @@
 // SPELLING` asks what a preprocessing number is as a constant.
 #![tactic(auto)]
 
-mod names;
 mod words;
 
 use c_literals::{Literal, convert, integer, value_op};
-use names::{basic_name, type_name};
 use std::io;
 use std::io::Read;
 use type_data::Value;
-use words::{op_named, type_named, value_read};
+use words::{floating_name, op_named, type_name, type_named, value_read};
 
 /// The answer to a call's words, or none where they aren't a call.
 fn answered(line: &str) -> Option<Value> {
@@ -33,7 +31,7 @@ fn show_literal(rt: &HostRuntime, line: &str, literal: Literal) -> io::Result<()
             println!(rt; "{line} = Int {name} {value}")
         }
         Literal::Floating(ty) => {
-            let name = basic_name(ty);
+            let name = floating_name(ty);
             println!(rt; "{line} = Floating {name}")
         }
         Literal::Bad(rule) => println!(rt; "{line} = Bad {rule}"),

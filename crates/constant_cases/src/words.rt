@@ -1,6 +1,6 @@
-// What the words of a line stand for.
+// What the words of a line stand for, and the words for types.
 use c_literals::Op;
-use type_data::{IntTy, Value};
+use type_data::{Basic, IntTy, Value};
 
 static OPS: [(&str, Op); 22] = [
     ("Plus", Op::Plus),
@@ -42,6 +42,12 @@ static TYPES: [(&str, IntTy); 12] = [
     ("ULongLong", IntTy::ULongLong),
 ];
 
+static FLOATING_TYPES: [(&str, Basic); 3] = [
+    ("Float", Basic::Float),
+    ("Double", Basic::Double),
+    ("LongDouble", Basic::LongDouble),
+];
+
 pub fn op_named(word: &str) -> Option<Op> {
     for (name, op) in OPS.as_slice() {
         if *name == word {
@@ -58,6 +64,24 @@ pub fn type_named(word: &str) -> Option<IntTy> {
         }
     }
     None
+}
+
+pub fn type_name(ty: IntTy) -> &'static str {
+    for (name, named) in TYPES.as_slice() {
+        if *named == ty {
+            return name;
+        }
+    }
+    "no integer type"
+}
+
+pub fn floating_name(ty: Basic) -> &'static str {
+    for (name, named) in FLOATING_TYPES.as_slice() {
+        if *named == ty {
+            return name;
+        }
+    }
+    "no floating type"
 }
 
 pub fn value_read(word: &str) -> Option<Value> {

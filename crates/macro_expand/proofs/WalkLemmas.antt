@@ -1,5 +1,5 @@
 -- A walk goes by steps. Each lemma has the shape of a loop's invariant: what is done and what is left make an outcome.
-use Rattle.std.proofs.Common.{◌≡◌, ℕ, ◌-◌, ◌<◌, ◌≤◌, subst, map, refl, List, [], ◌∷◌, ◌++◌, ap, sym, ◌∙◌, append_assoc}
+use Rattle.std.proofs.Common.{◌≡◌, ℕ, ◌<◌, ◌≤◌, subst, map, refl, List, [], ◌∷◌, ◌++◌, ap, sym, ◌∙◌, append_assoc}
 use Rattle.std.proofs.Common.{Option, Bool, false, not, if◌then◌else◌}
 use Rattle.std.proofs.lemmas.List.{append-nil}
 use Rattle.std.specs.Prelude.{Some, None, MatchOption}
@@ -11,10 +11,8 @@ use Rattle.macro_expand.specs.declared.types.Outcome.{Outcome}
 use Rattle.macro_expand.specs.declared.expanding.Step.{Step}
 use Rattle.macro_expand.specs.declared.machine.Walked.{Walked}
 use Rattle.macro_expand.specs.declared.machine.Frame.{Frame}
-use Rattle.macro_expand.specs.declared.types.Expanded.{Expanded}
 use Rattle.macro_expand.specs.Codes.{Names}
-use Rattle.macro_expand.specs.Stands.{Stands}
-use Rattle.macro_expand.specs.Numbers.{reals, real_outcome}
+use Rattle.macro_expand.specs.Numbers.{reals}
 use Rattle.macro_expand.specs.HideSets.{hides}
 use Rattle.macro_expand.specs.Tokens.{is_ident, plain}
 use Rattle.macro_expand.specs.Expansion as spec
@@ -22,8 +20,6 @@ use Rattle.macro_expand.specs.Steps as steps
 use Rattle.macro_expand.specs.Machine as work
 use Rattle.macro_expand.proofs.Cases.{if_cases}
 use Rattle.macro_expand.proofs.Bounds.{expansion_steps}
-use Rattle.macro_expand.proofs.SetLemmas.{stands_for, table_stands}
-use Rattle.macro_expand.proofs.NumberLemmas.{plains_real}
 
 -- an outcome with some tokens
 abbrev pub told : Progress → List Marked → Outcome
@@ -137,34 +133,3 @@ pub bare_real : (f : Names → Names) (ts : List Marked)
     → map (λ (t : Marked). t.token) (reals f ts) ≡ map (λ (t : Marked). t.token) ts
 bare_real f [] = refl
 bare_real f (t ∷ ts) = ap (λ (more : List OutToken). t.token ∷ more) (bare_real f ts)
-
-told_by_real : (f : Names → Names) (budget : ℕ) (o : Outcome) (asked : Option TokId)
-    → spec.told_by budget (real_outcome f o) asked ≡ spec.told_by budget o asked
-told_by_real f budget o None =
-    ap (λ (ts : List OutToken). (let all : Expanded = record {
-      tokens = ts;
-      used = budget - o.progress.left;
-      faults = o.progress.faults;
-      spelled = o.progress.spelled;
-      macros = o.progress.macros;
-      asked = None;
-    } in all)) (bare_real f o.tokens)
-told_by_real f budget o (Some site) = refl
-
-pub told_real : (f : Names → Names) (budget : ℕ) (o : Outcome)
-    → spec.told budget (real_outcome f o) ≡ spec.told budget o
-told_real f budget o = told_by_real f budget o o.progress.asked
-
-pub expanded_is : (table : spec.Definitions) (lines : List (TokId × ℕ)) (budget : ℕ) (tokens : List OutToken)
-    (sets : List Names) (list : List Marked) (p : Progress) (o : Outcome)
-    → list ≡ map plain tokens → p ≡ spec.at_first budget
-    → ((f : Names → Names) → Stands f sets
-    → real_outcome f o ≡ spec.expansion table lines p (reals f list))
-    → spec.told budget o ≡ spec.expanded table lines budget tokens
-expanded_is table lines budget tokens sets list p o list_is begun is =
-    let f : Names → Names = stands_for sets in
-    sym (told_real f budget o)
-    ∙ ap (spec.told budget) (is f (table_stands sets)
-    ∙ ap (λ (q : Progress). spec.expansion table lines q (reals f list)) begun
-    ∙ ap (λ (ts : List Marked). spec.expansion table lines (spec.at_first budget) (reals f ts)) list_is
-    ∙ ap (spec.expansion table lines (spec.at_first budget)) (plains_real f refl tokens))

@@ -338,6 +338,7 @@ pub fn expand(
         expanded,
         left_out: _,
     } = within;
+    // Nothing was left out: for the proof, that a list has fewer elements than there was room for.
     let _count = expanded.tokens.as_slice().len();
     Ok(expanded)
 }

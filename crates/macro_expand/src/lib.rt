@@ -20,5 +20,4 @@ mod tokens;
 mod types;
 
 pub use expanding::{expand, expand_within};
-pub use tok_data::{MacroOccs, OutTokens, PpFaults, TokIds};
 pub use types::{Expanded, Within};
