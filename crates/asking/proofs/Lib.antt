@@ -1,4 +1,4 @@
 mod InOrder
-mod InTurn
+pub mod InTurn
 mod LookUps
 mod Translations

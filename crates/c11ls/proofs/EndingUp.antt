@@ -12,7 +12,7 @@ use Rattle.lsp_framing.specs.declared.FrameKind.TheVariants.{Cut}
 use Rattle.c11ls.specs.Going.{Going, Settled, Moves, Ended, Outcome, Plays, moved, through}
 use Rattle.c11ls.specs.Plain.{Played, Plain, Exited, Lacks, Through, Verdict, Done, Unclean, Faulty, play, played, plain, plain_of, verdict_of, go_on}
 use Rattle.c_session.specs.React.{Reaction, Replies, Wants, react}
-use Rattle.c11ls.specs.Serve.{WouldGoOn, IsThrough, Begins}
+use Rattle.c11ls.specs.Serve.{WouldGoOn, IsThrough, IsInterrupted, Begins}
 use Rattle.project_conf.specs.declared.options.Options.{Options}
 use Rattle.c_session.specs.State.{State, fresh}
 use Rattle.c11ls.specs.Turn.{Wrote, WroteFront, WroteUnclean, GaveUp, Lacked}
@@ -22,7 +22,9 @@ use Rattle.c11ls.proofs.Framing.{ContentsStay, BadStays}
 use Rattle.c11ls.proofs.Reacting.{used_by, used_within, handled_reacts, failed_wants}
 use Rattle.c11ls.proofs.Moving.{moves_writing}
 use Rattle.c11ls.proofs.Playing.{IsComplete, play-append, play_stays, play_one_more, play_one_wants, played_to, after_reply, then_play}
-use Rattle.c11ls.proofs.GoingOn.{Gave, next_wanted, whatever_left, first_more, first_stays, all_handled, settled_played}
+use Rattle.c11ls.proofs.Interrupting.{interrupted_between}
+use Rattle.c11ls.proofs.Wanting.{split_at}
+use Rattle.c11ls.proofs.GoingOn.{Gave, next_wanted, interrupted_at, whatever_left, first_more, first_stays, all_handled, settled_played}
 
 -- an outcome at the end of the input
 nothing_left : (w0 w : Option Traffic) (options : Options) (ended : Status) (taken out : List ℕ) (moments : List Mark) (answers : List Entry) →
@@ -61,10 +63,6 @@ ends_bad stays options w0 w a0 a s standing size place kind stands going =
           (ap (λ (f : Framed). f.rest) same ∙ at_end.1));
     }
 
-complete_to : (cs : List (List ℕ)) (s : State) (answers : List Entry) (out : List ℕ) (used : ℕ) (next : State) →
-    play cs s answers ≡ played_to out used (Through next) → IsComplete (play cs s answers).stop
-complete_to cs s answers out used next plays = subst (λ (p : Played). IsComplete p.stop) (sym plays) tt
-
 nothing_written : (w : Option Traffic) → w ≡ option_map (after_write []) w
 nothing_written None = refl
 nothing_written (Some t) = ap (λ (written : List ℕ). Some (record { left = t.left; taken = t.taken; written = written; marks = t.marks })) (sym (append-nil t.written))
@@ -82,13 +80,9 @@ ends_giving_up options w0 w w' a0 a a' s content standing standing' size gave ga
       did = moves_writing options going.taken going.out [] going.moments going.answers reached.added w0 w w' a0 a a' going.did (gave_up.told ∙ nothing_written w) reached.answered
           (next_wanted options w0 w a0 a s content standing standing' size gave_up.gave_up.next reached.added gave reached.follows going);
       usual = tt;
-      outcome = whatever_left w0 options status.NoMemory going.taken (going.out ++ []) (going.answers ++ reached.added) (λ left. (
-        length going.handled,
-        append-nil going.out ∙ sym (ap (λ (p : Played). p.out)
-            (ap (λ (cs : List (List ℕ)). play cs (fresh options) (going.answers ++ reached.added)) going.first
-            ∙ play_stays going.handled (fresh options) going.answers reached.added (complete_to going.handled (fresh options) going.answers going.out (length going.answers) s going.played)
-            ∙ going.played)),
-      ));
+      outcome = whatever_left w0 options status.NoMemory going.taken (going.out ++ []) (going.answers ++ reached.added) (λ left.
+          subst (IsInterrupted options going.taken (going.answers ++ reached.added)) (sym (append-nil going.out))
+          (interrupted_at options w0 w a0 a s content standing standing' size gave_up.gave_up.next reached.added gave reached.follows going));
     }
 
 -- memory was wanted before the next content
@@ -101,20 +95,15 @@ ends_before options w0 w a0 a s standing size going = record {
   answers = going.answers;
   did = going.did;
   usual = tt;
-  outcome = whatever_left w0 options status.NoMemory going.taken going.out going.answers (λ left. (
-    length going.handled,
-    sym (ap (λ (p : Played). p.out) (ap (λ (cs : List (List ℕ)). play cs (fresh options) going.answers) going.first ∙ going.played)),
-  ));
+  outcome = whatever_left w0 options status.NoMemory going.taken going.out going.answers (λ left.
+      interrupted_between options going.taken going.handled s going.answers going.out going.first going.played);
 }
 
 -- The plays of an input that begins with contents, of which the last ends the call or lacks an answer.
-split_contents : (cs handled : List (List ℕ)) → take (length handled) cs ≡ handled → cs ≡ handled ++ drop (length handled) cs
-split_contents cs handled first = sym (take-append-drop (length handled) cs) ∙ ap (λ (front : List (List ℕ)). front ++ drop (length handled) cs) first
-
 exits_early : (cs handled : List (List ℕ)) (s : State) (answers : List Entry) (out : List ℕ) (used end : ℕ) →
     take (length handled) cs ≡ handled → play handled s answers ≡ played_to out used (Exited end) → play cs s answers ≡ played_to out used (Exited end)
 exits_early cs handled s answers out used end first plays =
-    ap (λ (all : List (List ℕ)). play all s answers) (split_contents cs handled first)
+    ap (λ (all : List (List ℕ)). play all s answers) (split_at cs handled first)
     ∙ play-append handled (drop (length handled) cs) s answers
     ∙ ap (λ (p : Played). then_play p.stop p answers (play (drop (length handled) cs))) plays
 
@@ -187,7 +176,7 @@ ends_lacking options w0 w w' a0 a a' s content standing standing' size gave lack
     let behind_it = drop (length longer) contents in
     let plays : played options going.taken (going.answers ++ added) ≡ played_to going.out (length going.answers) (Lacks failed.call) =
     ap (λ (all : List (List ℕ)). play all (fresh options) (going.answers ++ added))
-    (split_contents contents longer (first_more contents going.handled content going.first next.0) ∙ append_assoc going.handled (content ∷ []) behind_it)
+    (split_at contents longer (first_more contents going.handled content going.first next.0) ∙ append_assoc going.handled (content ∷ []) behind_it)
     ∙ play_one_wants going.handled content behind_it (fresh options) s failed.call going.answers added going.out going.played
     (failed_wants s content failed.next added failed.call failed.reached.follows failed.asked) in
     let is = plain_by options going.taken (going.answers ++ added) _ _ plays refl in
@@ -201,7 +190,8 @@ ends_lacking options w0 w w' a0 a a' s content standing standing' size gave lack
       usual = tt;
       outcome = whatever_left w0 options status.StoreFault going.taken (going.out ++ []) (going.answers ++ added) (λ left. (
         ap (λ (p : Plain). p.out) is ∙ sym (append-nil going.out),
-        subst (λ n. n ≤ length (going.answers ++ added)) (sym (ap (λ (p : Plain). p.used) is)) (omega (arith, length-append going.answers added)),
+        subst (IsInterrupted options going.taken (going.answers ++ added)) (sym (append-nil going.out))
+            (interrupted_at options w0 w a0 a s content standing standing' size failed.next added gave failed.reached.follows going),
         ap (λ (p : Plain). p.verdict) is,
       ));
     }
@@ -267,7 +257,7 @@ ends_unwritten stays options w0 w w' a0 a a' s content standing standing' size g
           let behind_it = drop (length longer) contents in
           let plays : play contents (fresh options) answers ≡ then_play (after_reply wrote.state wrote.bytes wrote.end going.out (length answers)).stop
           (after_reply wrote.state wrote.bytes wrote.end going.out (length answers)) answers (play behind_it) =
-          ap (λ (all : List (List ℕ)). play all (fresh options) answers) (split_contents contents longer (next_first stays going.taken left going.handled content going.first next.0))
+          ap (λ (all : List (List ℕ)). play all (fresh options) answers) (split_at contents longer (next_first stays going.taken left going.handled content going.first next.0))
           ∙ play-append longer behind_it (fresh options) answers
           ∙ ap (λ (p : Played). then_play p.stop p answers (play behind_it)) one in
           let is = begins_reply wrote.state wrote.bytes wrote.end going.out answers behind_it wrote.sent.size in
@@ -298,7 +288,7 @@ ends_unread options w0 w w' a0 a s standing size still settled =
       out = going.out;
       moments = going.moments;
       answers = going.answers;
-      did = record { moves = still ∙ going.did.moves; front = going.did.front; answered = going.did.answered; prompt = going.did.prompt; wanted = going.did.wanted };
+      did = record { moves = still ∙ going.did.moves; front = going.did.front; answered = going.did.answered; prompt = going.did.prompt; wanted = going.did.wanted; portions = going.did.portions };
       usual = tt;
       outcome = whatever_left w0 options status.ReadFault going.taken going.out going.answers (λ left. (would_go_on options w0 w a0 a s standing size settled, (_, settled_plays options w0 w a0 a s standing size _ settled refl)));
     }
@@ -321,7 +311,7 @@ ends_long options w0 w a0 a s standing size long settled =
 
 same_wire : (options : Options) (taken out : List ℕ) (moments : List Mark) (answers : List Entry) (w0 w w' : Option Traffic) (a0 a : Option (List Entry)) →
     w' ≡ w → Moves options taken out moments answers w0 w a0 a → Moves options taken out moments answers w0 w' a0 a
-same_wire options taken out moments answers w0 w w' a0 a still did = record { moves = still ∙ did.moves; front = did.front; answered = did.answered; prompt = did.prompt; wanted = did.wanted }
+same_wire options taken out moments answers w0 w w' a0 a still did = record { moves = still ∙ did.moves; front = did.front; answered = did.answered; prompt = did.prompt; wanted = did.wanted; portions = did.portions }
 
 -- the input ended, and nothing stands
 pub ends_empty : (options : Options) (w0 w w' : Option Traffic) (a0 a : Option (List Entry)) (s : State) (standing : Standing) (size : ℕ) →

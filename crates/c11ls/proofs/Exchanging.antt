@@ -3,13 +3,13 @@ use Rattle.std.proofs.Common.{◌≡◌, ℕ, List, [], ◌∷◌, ◌++◌, dro
 use Rattle.std.proofs.lemmas.List.Elements.{All-nil, All-cons}
 use Rattle.io_edges.specs.Store.{Entry}
 use Rattle.lsp_framing.specs.Frames.{frames}
-use Rattle.c_session.specs.React.{Reaction, Replies, Wants, react}
+use Rattle.c_session.specs.React.{Reaction, Replies, Wants, react, exit_status}
 use Rattle.c_session.specs.Message.{message}
 use Rattle.c_session.specs.Responses.{IsAnswered, IsExit}
 use Rattle.c_session.specs.State.{State, fresh}
 use Rattle.project_conf.specs.declared.options.Options.{Options}
 use Rattle.c11ls.specs.Calls.{Call}
-use Rattle.c11ls.specs.Exchanges.{Exchange, ReplyAnswersContent, EndAtExit, StopsAt, AreAnswered, HasAnswered}
+use Rattle.c11ls.specs.Exchanges.{Exchange, ReplyAnswersContent, IsNoExit, EndAtExit, StopsAt, AreAnswered, HasAnswered}
 use Rattle.c11ls.specs.Plain.{Stop, Exited, Lacks, Through, go_on, play, played, plain}
 use Rattle.c11ls.specs.Serve.{HasWritten}
 use Rattle.c11ls.specs.declared.status.Status.{Status}
@@ -21,30 +21,33 @@ pub record AreLaws : Type 0 where
       react s content answers ≡ Replies next bytes end used → IsAnswered (message content) bytes
   pub exits : (s next : State) (content bytes : List ℕ) (status used : ℕ) (answers : List Entry) →
       react s content answers ≡ Replies next bytes (Some status) used → IsExit (message content)
+  pub ends : (s next : State) (content bytes : List ℕ) (end : Option ℕ) (used : ℕ) (answers : List Entry) →
+      react s content answers ≡ Replies next bytes end used → IsExit (message content) → end ≡ Some (exit_status s.phase)
 
 -- ---- contents
 
-stops_behind : (stop : Stop) (first : Exchange) (exchanges : List Exchange) (rest : List (List ℕ)) →
+stops_behind : (stop : Stop) (first : Exchange) (exchanges : List Exchange) (rest : List (List ℕ)) → IsNoExit first →
     StopsAt stop exchanges rest → StopsAt stop (first ∷ exchanges) rest
-stops_behind (Exited end) first exchanges rest at = record {
+stops_behind (Exited end) first exchanges rest other at = record {
   before = first ∷ at.before;
   last = at.last;
   ends = ap (λ (es : List Exchange). first ∷ es) at.ends;
   exits = at.exits;
+  others = All-cons IsNoExit first at.before other at.others;
 }
-stops_behind (Lacks call) first exchanges rest at = at
-stops_behind (Through s) first exchanges rest at = at
+stops_behind (Lacks call) first exchanges rest other at = (at.0, All-cons IsNoExit first exchanges other at.1)
+stops_behind (Through s) first exchanges rest other at = (at.0, All-cons IsNoExit first exchanges other at.1)
 
-one_more : (first : Exchange) (contents : List (List ℕ)) (stop : Stop) (out : List ℕ) → ReplyAnswersContent first →
+one_more : (first : Exchange) (contents : List (List ℕ)) (stop : Stop) (out : List ℕ) → ReplyAnswersContent first → IsNoExit first →
     AreAnswered contents stop out →
     AreAnswered (first.content ∷ contents) stop (first.reply ++ out)
-one_more first contents stop out fits others = record {
+one_more first contents stop out fits other others = record {
   exchanges = first ∷ others.exchanges;
   rest = others.rest;
   handled = ap (λ (cs : List (List ℕ)). first.content ∷ cs) others.handled;
   each = All-cons ReplyAnswersContent first others.exchanges fits others.each;
   written = ap (λ (bytes : List ℕ). first.reply ++ bytes) others.written;
-  stopped = stops_behind stop first others.exchanges others.rest others.stopped;
+  stopped = stops_behind stop first others.exchanges others.rest other others.stopped;
 }
 
 exited : (last : Exchange) (contents : List (List ℕ)) (end : ℕ) → ReplyAnswersContent last → EndAtExit (last ∷ []) →
@@ -68,25 +71,29 @@ none_handled contents stop at = record {
   stopped = at;
 }
 
+none_is_no_some : {A : Type 0} (x : A) → None ≡ Some x → ⊥
+none_is_no_some x same = cc
+
 more_than_none : (c : List ℕ) (cs : List (List ℕ)) → c ∷ cs ≡ [] → ⊥
 more_than_none c cs none = cc
 
 reacts : AreLaws → (r : Reaction) (s : State) (c : List ℕ) (cs : List (List ℕ)) (answers : List Entry) → react s c answers ≡ r →
     ((next : State) (left : List Entry) → AreAnswered cs (play cs next left).stop (play cs next left).out) →
     AreAnswered (c ∷ cs) (go_on r answers (play cs)).stop (go_on r answers (play cs)).out
-reacts laws (Wants call) s c cs answers is further = none_handled (c ∷ cs) (Lacks call) (more_than_none c cs)
+reacts laws (Wants call) s c cs answers is further = none_handled (c ∷ cs) (Lacks call) (more_than_none c cs, All-nil IsNoExit)
 reacts laws (Replies next bytes (Some status) used) s c cs answers is further =
     let last : Exchange = record { content = c; reply = bytes } in
     exited last cs status (laws.answered s next c bytes (Some status) used answers is)
-    (record { before = []; last = last; ends = refl; exits = laws.exits s next c bytes status used answers is })
+    (record { before = []; last = last; ends = refl; exits = laws.exits s next c bytes status used answers is; others = All-nil IsNoExit })
 reacts laws (Replies next bytes None used) s c cs answers is further =
     one_more (record { content = c; reply = bytes }) cs (play cs next (drop used answers)).stop
     (play cs next (drop used answers)).out
-    (laws.answered s next c bytes None used answers is) (further next (drop used answers))
+    (laws.answered s next c bytes None used answers is) (λ exit. none_is_no_some (exit_status s.phase) (laws.ends s next c bytes None used answers is exit))
+    (further next (drop used answers))
 
 pub play_answered : AreLaws → (cs : List (List ℕ)) (s : State) (answers : List Entry) →
     AreAnswered cs (play cs s answers).stop (play cs s answers).out
-play_answered laws [] s answers = none_handled [] (Through s) refl
+play_answered laws [] s answers = none_handled [] (Through s) (refl, All-nil IsNoExit)
 play_answered laws (c ∷ cs) s answers = reacts laws (react s c answers) s c cs answers refl (play_answered laws cs)
 
 pub plain_answered : AreLaws → (options : Options) (bytes : List ℕ) (answers : List Entry) →

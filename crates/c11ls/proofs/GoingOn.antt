@@ -13,13 +13,14 @@ use Rattle.c_session.specs.Asking.{Asking, after_all}
 use Rattle.c_session.specs.Handled.{Answered}
 use Rattle.c_session.specs.React.{Outcome as Reply, asks}
 use Rattle.c11ls.specs.Plain.{Played, play, played}
-use Rattle.c11ls.specs.Serve.{IsPrompt, IsThrough, EachWanted}
+use Rattle.c11ls.specs.Serve.{IsPrompt, IsThrough, IsInterrupted, EachWanted, most_read}
 use Rattle.project_conf.specs.declared.options.Options.{Options}
 use Rattle.c_session.specs.State.{State, fresh}
 use Rattle.c11ls.specs.Turn.{Wrote}
 use Rattle.c11ls.specs.declared.status.Status.{Status}
 use Rattle.c11ls.specs.declared.status.Status.TheVariants.{NoMemory}
 use Rattle.c11ls.proofs.Framing.{ContentsStay}
+use Rattle.c11ls.proofs.Interrupting.{left_to, interrupted, interrupted_between}
 use Rattle.c11ls.proofs.Moving.{moves_writing, moves_reading, moves_nothing, moment_at}
 use Rattle.c11ls.proofs.Playing.{play_one_more}
 use Rattle.c11ls.proofs.Reacting.{handled_reacts, reached_wants}
@@ -79,6 +80,16 @@ next_wanted options w0 w a0 a s content standing standing' size asking added gav
     (first_more (frames going.taken).contents going.handled content going.first next.0) going.played
     (reached_wants s content asking added reached) going.did.wanted
 
+-- the content in turn was interrupted
+pub interrupted_at : (options : Options) (w0 w : Option Traffic) (a0 a : Option (List Entry)) (s : State) (content : List ℕ) (standing standing' : Standing) (size : ℕ) (asking : Asking Reply) (added : List Entry) →
+    Gave content standing standing' → after_all (asks s content) added ≡ Some asking → (going : Going options w0 w a0 a s standing size) →
+    IsInterrupted options going.taken (going.answers ++ added) going.out
+interrupted_at options w0 w a0 a s content standing standing' size asking added gave reached going =
+    let contents = (frames going.taken).contents in
+    let next = gave going.taken (length going.handled) going.follows in
+    interrupted options going.taken going.handled s going.answers added going.out going.first going.played
+    (left_to s contents going.handled content added asking (first_more contents going.handled content going.first next.0) reached)
+
 -- one more content was handled, and its reply was written
 pub going_turns : (options : Options) (w0 w w' : Option Traffic) (a0 a a' : Option (List Entry)) (s s' : State) (content : List ℕ) (standing standing' : Standing) (size : ℕ) →
     Gave content standing standing' → Wrote s content s' None w w' a a' →
@@ -135,10 +146,10 @@ settled_played options w0 w a0 a s standing size settled =
 
 -- the moment before a read that took bytes is prompt
 settled_moves : ContentsStay → (options : Options) (w0 w w' : Option Traffic) (a0 a : Option (List Entry)) (s : State) (standing : Standing) (size : ℕ) (b : ℕ) (bs : List ℕ) →
-    w' ≡ option_map (after_read (b ∷ bs)) w → IfSome w (λ t. take (length (b ∷ bs)) t.left ≡ b ∷ bs) →
+    w' ≡ option_map (after_read (b ∷ bs)) w → IfSome w (λ t. take (length (b ∷ bs)) t.left ≡ b ∷ bs) → length (b ∷ bs) ≤ most_read →
     (settled : Settled options w0 w a0 a s standing size) →
     Moves options (settled.going.taken ++ b ∷ bs) settled.going.out (settled.going.moments ++ moment_at settled.going.taken settled.going.out ∷ []) settled.going.answers w0 w' a0 a
-settled_moves stays options w0 w w' a0 a s standing size b bs read next settled =
+settled_moves stays options w0 w w' a0 a s standing size b bs read next small settled =
     let going = settled.going in
     let same : take (length going.taken) (going.taken ++ b ∷ bs) ≡ going.taken = take-append_seam going.taken (b ∷ bs) in
     let whole : played options (take (length going.taken) (going.taken ++ b ∷ bs)) going.answers ≡ through going.out going.answers s =
@@ -152,15 +163,15 @@ settled_moves stays options w0 w w' a0 a s standing size b bs read next settled 
       sound = subst (λ (t : List ℕ). IsEmptyOrOpen (frames t).rest) (sym same) settled.sound;
     } in
     moves_reading options going.taken going.out b bs going.moments going.answers w0 w w' a0 a going.did read next prompt
-    (wanted_stays stays options going.taken (b ∷ bs) going.answers going.did.wanted)
+    (wanted_stays stays options going.taken (b ∷ bs) going.answers going.did.wanted) small
 
 -- a read took bytes, which were fed to the reader of frames
 pub settled_reads : ContentsStay → (options : Options) (w0 w w' : Option Traffic) (a0 a : Option (List Entry)) (s : State) (standing standing' : Standing) (size : ℕ) (bytes : List ℕ) →
-    0 < length bytes → w' ≡ option_map (after_read bytes) w → IfSome w (λ t. take (length bytes) t.left ≡ bytes) →
+    0 < length bytes → length bytes ≤ most_read → w' ≡ option_map (after_read bytes) w → IfSome w (λ t. take (length bytes) t.left ≡ bytes) →
     ((fed : List ℕ) (given : ℕ) → Follows fed given standing → Follows (fed ++ bytes) given standing') →
     Settled options w0 w a0 a s standing size → Going options w0 w' a0 a s standing' (size + length bytes)
-settled_reads stays options w0 w w' a0 a s standing standing' size [] some read next fed settled = absurd (omega arith)
-settled_reads stays options w0 w w' a0 a s standing standing' size (b ∷ bs) some read next fed settled =
+settled_reads stays options w0 w w' a0 a s standing standing' size [] some small read next fed settled = absurd (omega arith)
+settled_reads stays options w0 w w' a0 a s standing standing' size (b ∷ bs) some small read next fed settled =
     let going = settled.going in
     record {
       taken = going.taken ++ b ∷ bs;
@@ -168,7 +179,7 @@ settled_reads stays options w0 w w' a0 a s standing standing' size (b ∷ bs) so
       out = going.out;
       moments = going.moments ++ moment_at going.taken going.out ∷ [];
       answers = going.answers;
-      did = settled_moves stays options w0 w w' a0 a s standing size b bs read next settled;
+      did = settled_moves stays options w0 w w' a0 a s standing size b bs read next small settled;
       follows = fed going.taken (length going.handled) going.follows;
       first = first_stays stays going.taken (b ∷ bs) going.handled going.first;
       played = going.played;
@@ -177,23 +188,20 @@ settled_reads stays options w0 w w' a0 a s standing standing' size (b ∷ bs) so
 
 -- there was no memory for the bytes that a read took
 pub settled_unfed : ContentsStay → (options : Options) (w0 w w' : Option Traffic) (a0 a : Option (List Entry)) (s : State) (standing : Standing) (size : ℕ) (bytes : List ℕ) →
-    0 < length bytes → w' ≡ option_map (after_read bytes) w → IfSome w (λ t. take (length bytes) t.left ≡ bytes) →
+    0 < length bytes → length bytes ≤ most_read → w' ≡ option_map (after_read bytes) w → IfSome w (λ t. take (length bytes) t.left ≡ bytes) →
     Settled options w0 w a0 a s standing size → Ended options NoMemory w0 w' a0 a
-settled_unfed stays options w0 w w' a0 a s standing size [] some read next settled = absurd (omega arith)
-settled_unfed stays options w0 w w' a0 a s standing size (b ∷ bs) some read next settled =
+settled_unfed stays options w0 w w' a0 a s standing size [] some small read next settled = absurd (omega arith)
+settled_unfed stays options w0 w w' a0 a s standing size (b ∷ bs) some small read next settled =
     let going = settled.going in
     record {
       taken = going.taken ++ b ∷ bs;
       out = going.out;
       moments = going.moments ++ moment_at going.taken going.out ∷ [];
       answers = going.answers;
-      did = settled_moves stays options w0 w w' a0 a s standing size b bs read next settled;
+      did = settled_moves stays options w0 w w' a0 a s standing size b bs read next small settled;
       usual = tt;
-      outcome = whatever_left w0 options NoMemory (going.taken ++ b ∷ bs) going.out going.answers (λ left. (
-        length going.handled,
-        sym (ap (λ (p : Played). p.out)
-            (ap (λ (cs : List (List ℕ)). play cs (fresh options) going.answers) (first_stays stays going.taken (b ∷ bs) going.handled going.first) ∙ going.played)),
-      ));
+      outcome = whatever_left w0 options NoMemory (going.taken ++ b ∷ bs) going.out going.answers (λ left.
+          interrupted_between options (going.taken ++ b ∷ bs) going.handled s going.answers going.out (first_stays stays going.taken (b ∷ bs) going.handled going.first) going.played);
     }
 
 -- how many bytes were fed to the reader of frames

@@ -2,6 +2,7 @@ pub mod Framing
 pub mod Reacting
 pub mod Playing
 pub mod Wanting
+pub mod Interrupting
 pub mod Sending
 pub mod Moving
 pub mod GoingOn

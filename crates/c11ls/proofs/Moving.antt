@@ -1,5 +1,5 @@
 -- What a call did to its ends, step by step.
-use Rattle.std.proofs.Common.{◌≡◌, ◌+◌, ℕ, List, [], ◌∷◌, ◌++◌, take, drop, length, map, Option, None, Some, option_map, IfSome, refl, sym, ap, subst, ◌∙◌, append-nil, append_assoc, length-append, add_assoc, add-zero, drop-drop, take-add, arith}
+use Rattle.std.proofs.Common.{◌≡◌, ◌≤◌, ◌+◌, ℕ, List, [], ◌∷◌, ◌++◌, take, drop, length, map, Option, None, Some, option_map, IfSome, refl, sym, ap, subst, ◌∙◌, append-nil, append_assoc, length-append, add_assoc, add-zero, drop-drop, take-add, arith}
 use Rattle.std.proofs.lemmas.List.{map-append, take-append-le}
 use Rattle.io_edges.specs.Store.{Entry}
 use Rattle.io_edges.specs.Wire.{Traffic, after_read, after_write, mark_of}
@@ -9,7 +9,7 @@ use Rattle.lsp_framing.specs.Standing.{IsEmptyOrOpen}
 use Rattle.c11ls.specs.Going.{Moves, moved, mark_at}
 use Rattle.c_session.specs.Handled.{Answered}
 use Rattle.c11ls.specs.Plain.{Played, Stop, Exited, Lacks, Through, played, plain}
-use Rattle.c11ls.specs.Serve.{IsPrompt, EachPrompt, EachWanted, IsThrough}
+use Rattle.c11ls.specs.Serve.{IsPrompt, EachPrompt, EachWanted, IsThrough, most_read, ArePortions}
 use Rattle.project_conf.specs.declared.options.Options.{Options}
 use Rattle.c11ls.proofs.Playing.{IsComplete, play_stays}
 use Rattle.c11ls.proofs.Wanting.{none_wanted}
@@ -63,6 +63,7 @@ moves_writing options taken out bytes moments answers added w0 w w' a0 a a' did 
   answered = answered_both a0 a a' answers added did.answered answered;
   prompt = each_writes options taken out bytes answers added moments did.prompt;
   wanted = wanted;
+  portions = did.portions;
 }
 
 prompt_reads : (options : Options) (taken bytes out : List ℕ) (answers : List Entry) (moment : Mark) →
@@ -118,17 +119,25 @@ front_more (Some t) w taken out bytes moments was front next =
     ap (λ n. take n t.left) (length-append taken bytes) ∙ take-add (length taken) (length bytes) t.left
     ∙ ap (λ (a : List ℕ). a ++ take (length bytes) (drop (length taken) t.left)) front ∙ ap (λ (b : List ℕ). taken ++ b) here
 
+-- one more read
+portions_more : (most : ℕ) (moments : List Mark) (total n : ℕ) (moment : Mark) → moment.taken ≡ total → n ≤ most_read → ArePortions most moments total →
+    ArePortions most (moments ++ moment ∷ []) (total + n)
+portions_more most [] total n moment is small within = (omega (arith, is, within), omega (arith, is, small))
+portions_more most (first ∷ moments) total n moment is small each = (each.0, portions_more (first.taken + most_read) moments total n moment is small each.1)
+
 -- bytes were taken, behind a moment that was prompt
 pub moves_reading : (options : Options) (taken out : List ℕ) (b : ℕ) (bs : List ℕ) (moments : List Mark) (answers : List Entry) (w0 w w' : Option Traffic) (a0 a : Option (List Entry)) →
     Moves options taken out moments answers w0 w a0 a → w' ≡ option_map (after_read (b ∷ bs)) w → IfSome w (λ t. take (length (b ∷ bs)) t.left ≡ b ∷ bs) →
-    IsPrompt options (taken ++ b ∷ bs) out answers (moment_at taken out) → EachWanted options (taken ++ b ∷ bs) answers →
+    IsPrompt options (taken ++ b ∷ bs) out answers (moment_at taken out) → EachWanted options (taken ++ b ∷ bs) answers → length (b ∷ bs) ≤ most_read →
     Moves options (taken ++ b ∷ bs) out (moments ++ moment_at taken out ∷ []) answers w0 w' a0 a
-moves_reading options taken out b bs moments answers w0 w w' a0 a did read next prompt wanted = record {
+moves_reading options taken out b bs moments answers w0 w w' a0 a did read next prompt wanted small = record {
   moves = read_more w0 w w' taken out b bs moments did.moves read;
   front = front_more w0 w taken out (b ∷ bs) moments did.moves did.front next;
   answered = did.answered;
   prompt = each_reads options taken (b ∷ bs) out answers moments (moment_at taken out) did.prompt prompt;
   wanted = wanted;
+  portions = subst (ArePortions 0 (moments ++ moment_at taken out ∷ [])) (sym (length-append taken (b ∷ bs)))
+      (portions_more 0 moments (length taken) (length (b ∷ bs)) (moment_at taken out) refl small did.portions);
 }
 
 begins_empty : (w : Option Traffic) → w ≡ option_map (moved [] [] []) w
@@ -144,4 +153,4 @@ nothing_taken (Some t) = refl
 
 -- a call that did nothing yet
 pub moves_nothing : (options : Options) (w : Option Traffic) (a : Option (List Entry)) → Answered [] a a → Moves options [] [] [] [] w w a a
-moves_nothing options w a answered = record { moves = begins_empty w; front = nothing_taken w; answered = answered; prompt = tt; wanted = none_wanted options [] }
+moves_nothing options w a answered = record { moves = begins_empty w; front = nothing_taken w; answered = answered; prompt = tt; wanted = none_wanted options []; portions = omega arith }

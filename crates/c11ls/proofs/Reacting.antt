@@ -4,7 +4,8 @@ use Rattle.std.proofs.lemmas.Slice.Eq.{bytes_eq-Decides}
 use Rattle.io_edges.specs.Store.{Call, Entry, Lists, Reads, ListCall, ReadCall, call_of}
 use Rattle.asking.specs.Asking.{Asks}
 use Rattle.asking.specs.InTurn as turns
-use Rattle.asking.specs.InTurn.{Turn, after_one, behind_one, run}
+use Rattle.asking.specs.InTurn.{Turn, after_one, run}
+use Rattle.asking.proofs.InTurn.{run_goes_on, run_stays}
 use Rattle.c_session.specs.Asking.{Asking, Gives, answer_in, calls, after_all, next_call}
 use Rattle.c_session.specs.Handled.{Answered, outcome}
 use Rattle.c_session.specs.React.{Outcome, Reaction, Replies, Wants, reaction, asks, react}
@@ -20,70 +21,32 @@ abbrev pub used_by : Reaction → ℕ
 used_by (Replies s bytes end used) = used
 used_by (Wants call) = 0
 
-more_used : (n : ℕ) (turn : Turn calls Outcome) → used_by (reaction turn) ≤ n → used_by (reaction (turns.further 1 turn)) ≤ suc n
-more_used n (turns.Gave o used) within = omega (arith, within)
-more_used n (turns.Wants call) within = omega arith
-more_used n (turns.Differs call entry) within = omega arith
-
-used_behind : (call : Call) (entry : Entry) (answers : List Entry) (o : Option (Asking Outcome)) →
-    ((s : Asking Outcome) → used_by (reaction (run s answers)) ≤ length answers) → used_by (reaction (behind_one call entry (option_map (λ s. run s answers) o))) ≤ suc (length answers)
-used_behind call entry answers None within = omega arith
-used_behind call entry answers (Some s) within = more_used (length answers) (run s answers) (within s)
-
-used_at : (asking : Asking Outcome) (entry : Entry) (answers : List Entry) → ((s : Asking Outcome) → used_by (reaction (run s answers)) ≤ length answers) →
-    used_by (reaction (run asking (entry ∷ answers))) ≤ suc (length answers)
-used_at (Gives o) entry answers within = omega arith
-used_at (Asks call more next) entry answers within = used_behind call entry answers (after_one (Asks call more next) entry) within
-
-run_within : (asking : Asking Outcome) (answers : List Entry) → used_by (reaction (run asking answers)) ≤ length answers
-run_within (Gives o) [] = omega arith
-run_within (Asks call more next) [] = omega arith
-run_within asking (entry ∷ answers) = used_at asking entry answers (λ s. run_within s answers)
+used_of : (asking : Asking Outcome) (answers : List Entry) (turn : Turn calls Outcome) → run asking answers ≡ turn → used_by (reaction turn) ≤ length answers
+used_of asking answers (turns.Gave o used) e = (run_stays asking answers [] o used e).0
+used_of asking answers (turns.Wants call) e = omega arith
+used_of asking answers (turns.Differs call entry) e = omega arith
 
 -- no more answers are used than there are
 pub used_within : (s : State) (content : List ℕ) (answers : List Entry) → used_by (react s content answers) ≤ length answers
 unfolding react
-used_within s content answers = run_within (asks s content) answers
+used_within s content answers = used_of (asks s content) answers (run (asks s content) answers) refl
 
 -- a reaction that is no wish
 abbrev IsReply : Reaction → Type 0
 IsReply (Replies s bytes end used) = Unit {0}
 IsReply (Wants call) = ⊥
 
-reply_before : (turn : Turn calls Outcome) → IsReply (reaction (turns.further 1 turn)) → IsReply (reaction turn)
-reply_before (turns.Gave o used) is = tt
-reply_before (turns.Wants call) is = absurd is
-reply_before (turns.Differs call entry) is = absurd is
-
--- a run behind some answers
-run_gives : (o : Outcome) (answers : List Entry) → run {kind = calls} (Gives o) answers ≡ turns.Gave o 0
-run_gives o [] = refl
-run_gives o (entry ∷ answers) = refl
-
-stays_behind : (call : Call) (entry : Entry) (answers more : List Entry) (o : Option (Asking Outcome)) →
-    ((s : Asking Outcome) → IsReply (reaction (run s answers)) → run s (answers ++ more) ≡ run s answers) →
-    IsReply (reaction (behind_one call entry (option_map (λ s. run s answers) o))) →
-    behind_one call entry (option_map (λ s. run s (answers ++ more)) o) ≡ behind_one call entry (option_map (λ s. run s answers) o)
-stays_behind call entry answers more None same is = absurd is
-stays_behind call entry answers more (Some s) same is = ap (turns.further 1) (same s (reply_before (run s answers) is))
-
-stays_at : (asking : Asking Outcome) (entry : Entry) (answers more : List Entry) →
-    ((s : Asking Outcome) → IsReply (reaction (run s answers)) → run s (answers ++ more) ≡ run s answers) →
-    IsReply (reaction (run asking (entry ∷ answers))) → run asking (entry ∷ answers ++ more) ≡ run asking (entry ∷ answers)
-stays_at (Gives o) entry answers more same is = refl
-stays_at (Asks call questions next) entry answers more same is = stays_behind call entry answers more (after_one (Asks call questions next) entry) same is
-
-run_stays : (asking : Asking Outcome) (answers more : List Entry) → IsReply (reaction (run asking answers)) → run asking (answers ++ more) ≡ run asking answers
-run_stays (Gives o) [] more is = run_gives o more
-run_stays (Asks call questions next) [] more is = absurd is
-run_stays asking (entry ∷ answers) more is = stays_at asking entry answers more (λ s. run_stays s answers more) is
+stays_by : (asking : Asking Outcome) (answers more : List Entry) (turn : Turn calls Outcome) → run asking answers ≡ turn → IsReply (reaction turn) → run asking (answers ++ more) ≡ turn
+stays_by asking answers more (turns.Gave o used) e is = (run_stays asking answers more o used e).1
+stays_by asking answers more (turns.Wants call) e is = absurd is
+stays_by asking answers more (turns.Differs call entry) e is = absurd is
 
 -- further answers change no reply
 pub reply_stays : (s s' : State) (content bytes : List ℕ) (end : Option ℕ) (used : ℕ) (answers more : List Entry) →
     react s content answers ≡ Replies s' bytes end used → react s content (answers ++ more) ≡ Replies s' bytes end used
 unfolding react
 reply_stays s s' content bytes end used answers more replies =
-    ap reaction (run_stays (asks s content) answers more (subst IsReply (sym replies) tt)) ∙ replies
+    ap reaction (stays_by (asks s content) answers more (run (asks s content) answers) refl (subst IsReply (sym replies) tt)) ∙ replies
 
 -- ---- answers that were asked for in turn
 
@@ -93,40 +56,13 @@ not_some x e = absurd (subst (λ o. T (is_some o)) (sym e) tt)
 some_is : {A : Type 0} (x y : A) → Some x ≡ Some y → x ≡ y
 some_is x y same = cc
 
-further_none : (turn : Turn calls Outcome) → turn ≡ turns.further 0 turn
-further_none (turns.Gave o used) = ap (turns.Gave o) (sym (zero-add used))
-further_none (turns.Wants call) = refl
-further_none (turns.Differs call entry) = refl
-
-one_further : (n : ℕ) (turn : Turn calls Outcome) → turns.further 1 (turns.further n turn) ≡ turns.further (suc n) turn
-one_further n (turns.Gave o used) = ap (turns.Gave o) (omega arith)
-one_further n (turns.Wants call) = refl
-one_further n (turns.Differs call entry) = refl
-
-after_behind : (call : Call) (entry : Entry) (entries more : List Entry) (o : Option (Asking Outcome)) (next : Asking Outcome) →
-    ((s : Asking Outcome) → after_all s entries ≡ Some next → run s (entries ++ more) ≡ turns.further (length entries) (run next more)) →
-    option_and_then (λ s. after_all s entries) o ≡ Some next →
-    behind_one call entry (option_map (λ s. run s (entries ++ more)) o) ≡ turns.further (suc (length entries)) (run next more)
-after_behind call entry entries more None next is e = not_some next e
-after_behind call entry entries more (Some s) next is e = ap (turns.further 1) (is s e) ∙ one_further (length entries) (run next more)
-
-after_at : (asking next : Asking Outcome) (entry : Entry) (entries more : List Entry) →
-    ((s : Asking Outcome) → after_all s entries ≡ Some next → run s (entries ++ more) ≡ turns.further (length entries) (run next more)) →
-    after_all asking (entry ∷ entries) ≡ Some next → run asking (entry ∷ entries ++ more) ≡ turns.further (suc (length entries)) (run next more)
-after_at (Gives o) next entry entries more is e = not_some next e
-after_at (Asks call questions f) next entry entries more is e = after_behind call entry entries more (after_one (Asks call questions f) entry) next is e
-
-run_after : (asking next : Asking Outcome) (added more : List Entry) → after_all asking added ≡ Some next → run asking (added ++ more) ≡ turns.further (length added) (run next more)
-run_after asking next [] more e = ap (λ t. run t more) (some_is asking next e) ∙ further_none (run next more)
-run_after asking next (entry ∷ entries) more e = after_at asking next entry entries more (λ s. run_after s next entries more) e
-
 run_wants : (asking : Asking Outcome) (call : Call) → next_call asking ≡ Some call → run asking [] ≡ turns.Wants call
 run_wants (Gives o) call e = not_some call e
 run_wants (Asks first questions f) call e = ap turns.Wants (some_is first call e)
 
 asked_for : (asking next : Asking Outcome) (added : List Entry) (call : Call) → after_all asking added ≡ Some next → next_call next ≡ Some call → reaction (run asking added) ≡ Wants call
 asked_for asking next added call e wants =
-    ap (λ entries. reaction (run asking entries)) (sym (append-nil added)) ∙ ap reaction (run_after asking next added [] e ∙ ap (turns.further (length added)) (run_wants next call wants))
+    ap (λ entries. reaction (run asking entries)) (sym (append-nil added)) ∙ ap reaction (run_goes_on asking next added [] e ∙ ap (turns.further (length added)) (run_wants next call wants))
 
 -- an answer that was reached is one to the call that is asked
 is_same : (xs ys : List ℕ) → bytes_eq xs ys ≡ true → xs ≡ ys
@@ -184,7 +120,7 @@ pub handled_reacts : (s s' : State) (content bytes : List ℕ) (end : Option ℕ
 unfolding react
 handled_reacts s s' content bytes end added e =
     ap (λ entries. reaction (run (asks s content) entries)) (sym (append-nil added)) ∙
-    ap reaction (run_after (asks s content) (Gives (outcome s' bytes end)) added [] e) ∙ ap (Replies s' bytes end) (add-zero (length added))
+    ap reaction (run_goes_on (asks s content) (Gives (outcome s' bytes end)) added [] e) ∙ ap (Replies s' bytes end) (add-zero (length added))
 
 -- the call that the reaction wants behind what was reached
 pub failed_wants : (s : State) (content : List ℕ) (next : Asking Outcome) (added : List Entry) (call : Call) →

@@ -7,9 +7,9 @@ use Rattle.io_edges.specs.Wire.{Traffic}
 use Rattle.io_edges.specs.declared.ends.Mark.{Mark}
 use Rattle.c11ls.specs.Calls.{Call, call_of, since, IfTold, AddsUp}
 use Rattle.c11ls.specs.Going.{Ended, Outcome, IsServing, moved, mark_at}
-use Rattle.c11ls.specs.Plain.{Plain}
+use Rattle.c11ls.specs.Plain.{Plain, Played}
 use Rattle.c11ls.specs.Exchanges.{HasAnswered}
-use Rattle.c11ls.specs.Serve.{HadNoEnd, HasWritten, HasUsed, HasVerdict, ArePrompt, AreWanted}
+use Rattle.c11ls.specs.Serve.{HadNoEnd, HasWritten, HasUsed, HasVerdict, HasReadPortions, ArePrompt, AreWanted}
 use Rattle.c11ls.specs.Served.{Served}
 use Rattle.c11ls.proofs.Exchanging.{AreLaws, written_answers}
 use Rattle.project_conf.specs.declared.options.Options.{Options}
@@ -63,7 +63,7 @@ written_by options status.ReadFault left taken out moments answers is = sym (ap 
 written_by options status.LongInput left taken out moments answers is = sym (ap (λ (p : Plain). p.out) is.2.1)
 written_by options status.StoreFault left taken out moments answers is = (sym is.0, is.2)
 written_by options status.WriteFault left taken out moments answers is = is.0
-written_by options status.NoMemory left taken out moments answers is = is
+written_by options status.NoMemory left taken out moments answers is = (is.handled, sym (ap (λ (p : Played). p.out) is.through))
 
 used_by : (options : Options) (ended : Status) (left taken out : List ℕ) (moments : List Mark) (answers : List Entry) →
     Outcome options ended taken out answers left → HasUsed options ended (the_call (taken ++ left) taken out moments answers)
@@ -75,7 +75,7 @@ used_by options status.ReadFault left taken out moments answers is = ap (λ (p :
 used_by options status.LongInput left taken out moments answers is = ap (λ (p : Plain). p.used) is.2.1
 used_by options status.StoreFault left taken out moments answers is = is.1
 used_by options status.WriteFault left taken out moments answers is = is.1
-used_by options status.NoMemory left taken out moments answers is = tt
+used_by options status.NoMemory left taken out moments answers is = is
 
 -- the status tells the verdict
 verdict_by : (options : Options) (ended : Status) (left taken out : List ℕ) (moments : List Mark) (answers : List Entry) →
@@ -140,6 +140,7 @@ serves_it laws options ended (Some t) (Some t') a a' e =
       used = subst (HasUsed options ended) is (used_by options ended left e.taken e.out e.moments e.answers e.outcome);
       wanted = subst (AreWanted options) is e.did.wanted;
       prompt = subst (ArePrompt options) is e.did.prompt;
+      portions = subst HasReadPortions is e.did.portions;
       verdict = subst (HasVerdict options ended) is (verdict_by options ended left e.taken e.out e.moments e.answers e.outcome);
       no_end = subst (HadNoEnd options ended) is (no_end_by options ended left e.taken e.out e.moments e.answers e.outcome);
     }

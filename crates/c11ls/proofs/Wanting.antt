@@ -29,7 +29,8 @@ lacks_on cs ds s answers entry is =
     ap (λ (p : Played). p.stop) (play-append cs ds s answers)
     ∙ subst (λ (stop : Stop). (then_play stop (play cs s answers) answers (play ds)).stop ≡ Lacks (call_of entry)) (sym is) is
 
-split_at : (cs front : List (List ℕ)) → take (length front) cs ≡ front → cs ≡ front ++ drop (length front) cs
+-- contents by the first ones
+pub split_at : (cs front : List (List ℕ)) → take (length front) cs ≡ front → cs ≡ front ++ drop (length front) cs
 split_at cs front first = sym (take-append-drop (length front) cs) ∙ ap (λ (f : List (List ℕ)). f ++ drop (length front) cs) first
 
 -- more bytes were taken

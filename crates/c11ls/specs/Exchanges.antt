@@ -29,19 +29,24 @@ replies_of exchanges = flat_map (λ e. e.reply) exchanges
 abbrev pub ReplyAnswersContent : Exchange → Type 0
 ReplyAnswersContent e = IsAnswered (message e.content) e.reply
 
--- the last one has an `exit`
+-- the content is no `exit`
+abbrev pub IsNoExit : Exchange → Type 0
+IsNoExit e = IsExit (message e.content) → ⊥
+
+-- the last one has an `exit`, and no other
 pub record EndAtExit (exchanges : List Exchange) : Type 0 where
   pub before : List Exchange
   pub last : Exchange
   pub ends : exchanges ≡ before ++ last ∷ []
   pub exits : IsExit (message last.content)
+  pub others : All IsNoExit before
 
 -- What is left behind the contents that were handled, by where the play of all stops: contents behind an `exit` aren't
--- handled; nor is the one that wants an answer of the store; else none is left.
+-- handled; nor is the one that wants an answer of the store; else none is left. Where no `exit` is met, none was handled.
 abbrev pub StopsAt : Stop → List Exchange → List (List ℕ) → Type 0
 StopsAt (Exited end) exchanges rest = EndAtExit exchanges
-StopsAt (Lacks call) exchanges rest = rest ≢ []
-StopsAt (Through s) exchanges rest = rest ≡ []
+StopsAt (Lacks call) exchanges rest = (rest ≢ []) × All IsNoExit exchanges
+StopsAt (Through s) exchanges rest = (rest ≡ []) × All IsNoExit exchanges
 
 -- What is written for contents, up to where their play stops: the replies to them in order, each of which answers its
 -- content.

@@ -1,5 +1,5 @@
 -- What a call of the server has done so far, and what it has done at its end. These are what its loops keep.
-use Rattle.std.specs.Prelude.{◌≡◌, ◌+◌, ◌≤◌, ◌^◌, ℕ, List, ◌++◌, take, drop, length, map, Option, Some, None, option_map, IfSome}
+use Rattle.std.specs.Prelude.{◌≡◌, ◌+◌, ◌≤◌, ◌<◌, ◌^◌, ℕ, List, ◌++◌, take, drop, length, map, Option, Some, None, option_map, IfSome}
 use Rattle.io_edges.specs.Store.{Entry}
 use Rattle.io_edges.specs.Wire.{Traffic}
 use Rattle.io_edges.specs.declared.ends.Mark.{Mark}
@@ -8,7 +8,7 @@ use Rattle.lsp_framing.specs.declared.FrameKind.TheVariants.{Cut}
 use Rattle.lsp_framing.specs.Standing.{Standing, Follows, IsEmptyOrOpen}
 use Rattle.c_session.specs.Handled.{Answered}
 use Rattle.c11ls.specs.Plain.{Played, Through, Verdict, Done, Unclean, Faulty, Waiting, play, plain}
-use Rattle.c11ls.specs.Serve.{WouldGoOn, Begins, AreReplies, EachPrompt, EachWanted}
+use Rattle.c11ls.specs.Serve.{WouldGoOn, Begins, IsInterrupted, ArePortions, EachPrompt, EachWanted}
 use Rattle.project_conf.specs.declared.options.Options.{Options}
 use Rattle.c_session.specs.State.{State, fresh}
 use Rattle.c11ls.specs.declared.status.Status.{Status}
@@ -36,6 +36,7 @@ pub record Moves (options : Options) (taken out : List ℕ) (moments : List Mark
   pub answered : Answered answers a0 a
   pub prompt : EachPrompt options taken out answers moments
   pub wanted : EachWanted options taken answers
+  pub portions : ArePortions 0 moments (length taken)
 
 -- the play of the first contents went through, and used all answers
 abbrev pub through : List ℕ → List Entry → State → Played
@@ -74,10 +75,10 @@ Outcome options status.Usage taken out answers left = ⊥
 Outcome options status.ReadFault taken out answers left = WouldGoOn options taken answers × ((verdict : Verdict) × Plays options taken answers out verdict)
 Outcome options status.LongInput taken out answers left = (2 ^ 62 ≤ length taken) × WouldGoOn options taken answers × ((verdict : Verdict) × Plays options taken answers out verdict)
 Outcome options status.StoreFault taken out answers left =
-    ((plain options taken answers).out ≡ out) × ((plain options taken answers).used ≤ length answers) × ((plain options taken answers).verdict ≡ Waiting)
+    ((plain options taken answers).out ≡ out) × IsInterrupted options taken answers out × ((plain options taken answers).verdict ≡ Waiting)
 Outcome options status.WriteFault taken out answers left =
     Begins out (plain options (taken ++ left) answers).out × ((plain options (taken ++ left) answers).used ≡ length answers)
-Outcome options status.NoMemory taken out answers left = AreReplies options taken answers out
+Outcome options status.NoMemory taken out answers left = IsInterrupted options taken answers out
 
 -- serving a client never ends with Usage
 abbrev pub IsServing : Status → Type 0
@@ -100,6 +101,12 @@ pub record Ended (options : Options) (status : Status) (w0 w : Option Traffic) (
   pub did : Moves options taken out moments answers w0 w a0 a
   pub usual : IsServing status
   pub outcome : IfSome w0 (λ t. Outcome options status taken out answers (drop (length taken) t.left))
+
+-- The session handled as many contents as the reader of frames gave, of fewer than 2^63 bytes.
+pub record IsInStep (standing : Standing) (handled : ℕ) : Type 0 where
+  pub fed : List ℕ
+  pub follows : Follows fed handled standing
+  pub short : length fed < 2 ^ 63
 
 -- from a moment on the call goes on to another
 abbrev pub GoesOn : Options → Option Traffic → Option Traffic → Option (List Entry) → Option (List Entry) → State → State → Standing → Standing → Type 0

@@ -6,7 +6,7 @@ use Rattle.project_conf.specs.declared.options.Options.{Options}
 use Rattle.c_session.specs.Handled.{Answered}
 use Rattle.c11ls.specs.Calls.{call_of, AddsUp}
 use Rattle.c11ls.specs.Exchanges.{HasAnswered}
-use Rattle.c11ls.specs.Serve.{HadNoEnd, HasWritten, HasUsed, HasVerdict, ArePrompt, AreWanted}
+use Rattle.c11ls.specs.Serve.{HadNoEnd, HasWritten, HasUsed, HasVerdict, HasReadPortions, ArePrompt, AreWanted}
 use Rattle.c11ls.specs.declared.status.Status.{Status}
 use Rattle.c11ls.specs.declared.status.Status.TheVariants as status
 
@@ -23,12 +23,14 @@ pub record Served (options : Options) (ended : Status) (told told' : Option (Lis
   pub written : HasWritten options ended (call_of old new answers)
   -- they are the replies to the contents that were handled, in order: one response for each request, none for a notification
   pub responded : HasAnswered options ended (call_of old new answers)
-  -- the store's answers were all used, but for the message in which the call ended early
+  -- the store's answers were all used; where the call ended early in a message, the others were given to that message
   pub used : HasUsed options ended (call_of old new answers)
   -- each of them was wanted by the plain server with the answers before it, whatever the status
   pub wanted : AreWanted options (call_of old new answers)
   -- each reply was written before more was read, and nothing was read after the end
   pub prompt : ArePrompt options (call_of old new answers)
+  -- no read took more than 65,536 bytes
+  pub portions : HasReadPortions (call_of old new answers)
   -- the status is the plain server's verdict, where it tells one
   pub verdict : HasVerdict options ended (call_of old new answers)
   -- where the source failed, or 2^62 bytes were taken, no `exit` was met before and what stood wasn't faulty

@@ -1,8 +1,8 @@
 // The loops of a call: read, handle each whole frame, and read again.
-ghost use Rattle.std.specs.Prelude.{◌≡◌, ◌+◌, ◌<◌, ◌≤◌, ◌^◌, length, take, option_map, IfOk, IfSome, OnErr, MatchResult, vec_len, Some, []};
+ghost use Rattle.std.specs.Prelude.{◌≡◌, ◌+◌, ◌<◌, ◌≤◌, ◌^◌, length, take, option_map, IfOk, IfSome, OnErr, MatchResult, vec_len, None, Some, []};
 ghost use Rattle.io_edges.specs.Wire.{after_read};
-ghost use Rattle.c11ls.specs.Going.{Drained, Ended, EndsInput};
-ghost use Rattle.c_session.specs.Sessions.{state_of};
+ghost use Rattle.c11ls.specs.Going.{Drained, Ended, EndsInput, IsInStep};
+ghost use Rattle.c_session.specs.Sessions.{state_of, handled_by};
 ghost use Rattle.project_conf.specs.Options.{no_options};
 ghost use Rattle.c11ls.specs.Turn.{IsCounted};
 
@@ -10,7 +10,7 @@ use crate::status::Status;
 use crate::turn::turn;
 use c_session::Session;
 use io_edges::{Failed, Store, Wire};
-use lsp_framing::facts::{bad_stays, contents_stay};
+use lsp_framing::facts::{bad_stays, contents_few, contents_stay};
 use lsp_framing::{FrameError, FrameKind, Frames};
 use project_conf::Options;
 use std::alloc::{AllocError, Global};
@@ -33,12 +33,15 @@ fn drain<W: Wire, D: Store, L: Ledger>(
 ) -> Option<Status>
     requires sink { W.write_faults wire.old + 1 < 2 ^ 64 }
     requires store { D.faults store.old + 1 < 2 ^ 64 }
+    requires step { IsInStep frames.old (handled_by session.old) }
+    ensures step { result ≡ None → IsInStep frames.new (handled_by session.new) }
     ensures drained { Drained no_options result (W.told wire.old) (W.told wire.new) (D.answers store.old) (D.answers store.new) (state_of session.old) (state_of session.new) frames.old frames.new }
     ensures counted { IsCounted result (W.read_faults wire.old) (W.read_faults wire.new) (W.write_faults wire.old) (W.write_faults wire.new) (D.faults store.old) (D.faults store.new) }
 {
-    // laws, for `drained`
+    // laws, for `drained` and for the condition of `handle`
     contents_stay();
     bad_stays();
+    contents_few();
     'frames: loop {
         let content = match frames.next() {
             Ok(Some(content)) => content,

@@ -1,6 +1,6 @@
 // Handling one content, and writing its reply.
-ghost use Rattle.std.specs.Prelude.{◌+◌, ◌<◌, ◌^◌};
-ghost use Rattle.c_session.specs.Sessions.{state_of};
+ghost use Rattle.std.specs.Prelude.{◌≡◌, ◌+◌, ◌<◌, ◌^◌, None};
+ghost use Rattle.c_session.specs.Sessions.{state_of, handled_by};
 ghost use Rattle.c11ls.specs.Turn.{Turned, IsCounted};
 
 use crate::status::Status;
@@ -20,7 +20,9 @@ pub fn turn<W: Wire, D: Store, L: Ledger>(
 ) -> Option<Status>
     requires sink { W.write_faults wire.old + 1 < 2 ^ 64 }
     requires store { D.faults store.old + 1 < 2 ^ 64 }
+    requires few { handled_by session.old < 2 ^ 62 }
     ensures turned { Turned result (state_of session.old) content.now (state_of session.new) (W.told wire.old) (W.told wire.new) (D.answers store.old) (D.answers store.new) }
+    ensures count { result ≡ None → handled_by session.new ≡ handled_by session.old + 1 }
     ensures counted { IsCounted result (W.read_faults wire.old) (W.read_faults wire.new) (W.write_faults wire.old) (W.write_faults wire.new) (D.faults store.old) (D.faults store.new) }
 {
     let reply = match session.handle(content, store, steps) {

@@ -5,7 +5,7 @@ use Rattle.io_edges.specs.Store.{Call, Entry, Lists, Reads, ReadCall, after_answ
 use Rattle.io_edges.specs.declared.ends.Listed.{Listed}
 use Rattle.io_edges.specs.declared.ends.Found.{Found}
 use Rattle.asking.specs.Asking.{Answers, Asks, asks_all}
-use Rattle.asking.specs.InTurn.{after_one}
+use Rattle.asking.proofs.InTurn.{after_append, then_answered}
 use Rattle.c_session.specs.Asking.{Asking, Gives, Answer, answer_in, calls, asks_list, asks_read, and_then, after_all, next_call}
 use Rattle.c_session.specs.Handled.{Answered, Reached, GaveUp, IsFault, Refused}
 use Rattle.c_session.specs.declared.error.SessionError.{SessionError}
@@ -16,50 +16,6 @@ bytes_same xs = (bytes_eq-Decides xs xs).1 refl
 
 not_some : {A B : Type 0} (x : A) → None ≡ Some x → B
 not_some x e = absurd (subst (λ o. T (is_some o)) (sym e) tt)
-
--- ---- answers one after the other
-
-abbrev follows : {A : Type 0} → Option (Asking A) → List Entry → Option (Asking A)
-follows o xs = option_and_then (λ s. after_all s xs) o
-
-append_behind : {A : Type 0} (o : Option (Asking A)) (next : Asking A) (xs ys : List Entry) →
-    ((s : Asking A) → after_all s xs ≡ Some next → after_all s (xs ++ ys) ≡ after_all next ys) →
-    follows o xs ≡ Some next → follows o (xs ++ ys) ≡ after_all next ys
-append_behind None next xs ys ih e = not_some next e
-append_behind (Some s) next xs ys ih e = ih s e
-
-pub after_append : {A : Type 0} (t next : Asking A) (xs ys : List Entry) → after_all t xs ≡ Some next → after_all t (xs ++ ys) ≡ after_all next ys
-after_append t next [] ys e = ap (λ o. follows o ys) e
-after_append t next (x ∷ xs) ys e = append_behind (after_one t x) next xs ys (λ s. after_append s next xs ys) e
-
--- an answer moves what asks and then goes on as it moves what asks
-all_then : {A B : Type 0} (more : List Call) (f : Answers calls more → Asking A) (k : A → Asking B) →
-    and_then (asks_all more f) k ≡ asks_all more (λ answers. and_then (f answers) k)
-all_then [] f k = refl
-all_then (call ∷ more) f k = refl
-
-moved : {A B : Type 0} (call : Call) (more : List Call) (f : Answers calls (call ∷ more) → Asking A) (k : A → Asking B) (o : Option (Answer call)) (next : Asking A) →
-    option_map (λ a. asks_all {kind = calls} more (λ answers. f (a, answers))) o ≡ Some next →
-    option_map (λ a. asks_all {kind = calls} more (λ answers. and_then (f (a, answers)) k)) o ≡ Some (and_then next k)
-moved call more f k None next e = not_some next e
-moved call more f k (Some a) next e = ap Some (sym (all_then more (λ answers. f (a, answers)) k)) ∙ ap (option_map (λ t. and_then t k)) e
-
-one_then : {A B : Type 0} (t : Asking A) (k : A → Asking B) (x : Entry) (next : Asking A) →
-    after_one t x ≡ Some next → after_one (and_then t k) x ≡ Some (and_then next k)
-one_then (Gives a) k x next e = not_some next e
-one_then (Asks call more f) k x next e = moved call more f k (answer_in call x) next e
-
-then_behind : {A B : Type 0} (t : Asking A) (o : Option (Asking A)) (next : Asking A) (k : A → Asking B) (x : Entry) (xs : List Entry) →
-    ((s : Asking A) → after_all s xs ≡ Some next → after_all (and_then s k) xs ≡ Some (and_then next k)) →
-    after_one t x ≡ o → follows o xs ≡ Some next → after_all (and_then t k) (x ∷ xs) ≡ Some (and_then next k)
-then_behind t None next k x xs ih is e = not_some next e
-then_behind t (Some s) next k x xs ih is e =
-    ap (option_and_then (λ t'. after_all t' xs)) (one_then t k x s is) ∙ ih s e
-
-pub after_then : {A B : Type 0} (t next : Asking A) (k : A → Asking B) (xs : List Entry) →
-    after_all t xs ≡ Some next → after_all (and_then t k) xs ≡ Some (and_then next k)
-after_then t next k [] e = ap (option_map (λ s. and_then s k)) e
-after_then t next k (x ∷ xs) e = then_behind t (after_one t x) next k x xs (λ s. after_then s next k xs) refl e
 
 -- ---- what was reached
 
@@ -90,7 +46,7 @@ goes_on {t = t} {middle = middle} {next = next} {old = old} {between = between} 
 }
 
 pub goes_then : {A B : Type 0} (t next : Asking A) (old new : Option (List Entry)) (k : A → Asking B) → Reached t next old new → Reached (and_then t k) (and_then next k) old new
-goes_then t next old new k r = record { added = r.added; answered = r.answered; follows = after_then t next k r.added r.follows }
+goes_then t next old new k r = record { added = r.added; answered = r.answered; follows = then_answered t next k r.added r.follows }
 
 -- the store answered what was asked
 pub was_read : {A : Type 0} (path : List ℕ) (f : Found → Asking A) (found : Found) (old new : Option (List Entry)) →

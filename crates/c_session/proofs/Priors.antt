@@ -90,7 +90,7 @@ loaded_differs t t' path bytes is = bytes_differ t t' path bytes (passes (is_out
 
 pub found_differs : (t t' : Texts) (path : List ℕ) (found : Found) → with_found t path found ≡ Ok t' → SameBut path t t'
 found_differs t t' path found.Absent is = loaded_differs t t' path None is
-found_differs t t' path found.TooLarge is = not_ok TooLong t' is
+found_differs t t' path found.TooLarge is = not_ok TooLong t' (passes (is_outside t path) OutsideRoot (Err TooLong) t' is)
 found_differs t t' path (found.Bytes bytes) is = loaded_differs t t' path (Some bytes) is
 
 -- an opened or changed document differs, and has a text

@@ -1,5 +1,5 @@
 -- What is logged and published is made of notifications.
-use Rattle.std.proofs.Common.{ℕ, Bool, true, false, cond, not, List, [], ◌∷◌, ◌++◌, flat_map, Option, None, Some, Result, Ok, Err, refl, sym, ap, ◌∙◌, append-nil}
+use Rattle.std.proofs.Common.{◌≡◌, ◌⊎◌, inl, inr, ℕ, codes, append_assoc, Bool, true, false, cond, not, List, [], ◌∷◌, ◌++◌, flat_map, Option, None, Some, Result, Ok, Err, refl, sym, ap, ◌∙◌, append-nil}
 use Rattle.std.specs.Option.{unwrap_or}
 use Rattle.std.specs.List.{concat}
 use Rattle.std.proofs.lemmas.List.Elements.{All-nil, All-cons, All-append}
@@ -11,7 +11,7 @@ use Rattle.io_edges.specs.declared.ends.Found.TheVariants as found
 use Rattle.text_lines.specs.declared.encoding.Encoding.{Encoding}
 use Rattle.uri_paths.specs.Uris.{path_of_uri}
 use Rattle.doc_texts.specs.Texts.{Texts, text_at, version_at}
-use Rattle.doc_texts.specs.Docs.{loaded, is_outside}
+use Rattle.doc_texts.specs.Docs.{loaded, is_outside, doc_error_name}
 use Rattle.doc_texts.specs.declared.error.DocError.{DocError}
 use Rattle.doc_texts.specs.declared.error.DocError.TheVariants.{OutsideRoot}
 use Rattle.asking.specs.Asking.{Answers, Asks}
@@ -40,6 +40,10 @@ each_then P Q (Asks call more f) k h next = λ answers. each_then P Q (f answers
 pub each_if : {A : Type 0} (P : A → Type 0) (b : Bool) (t u : Asking A) → Each P t → Each P u → Each P (cond b t u)
 each_if P true t u h k = h
 each_if P false t u h k = k
+
+pub each_if_by : {A : Type 0} (P : A → Type 0) (b : Bool) (t u : Asking A) → (b ≡ true → Each P t) → (b ≡ false → Each P u) → Each P (cond b t u)
+each_if_by P true t u h k = h refl
+each_if_by P false t u h k = k refl
 
 -- ---- notifications
 
@@ -138,3 +142,42 @@ changes_logged l [] h = h
 changes_logged l (change ∷ changes) h =
     each_then Logged Logged (updates_at l change.kind (by_uri (path_of_uri change.uri))) (λ l'. updates_all l' changes)
     (change_logged l change.kind (by_uri (path_of_uri change.uri)) h) (λ l' kept. changes_logged l' changes kept)
+
+-- ---- the file of a document that is closed
+
+-- nothing was logged, or that the load is refused
+abbrev pub LogsLoad : Loading → Type 0
+LogsLoad l = (l.logs ≡ []) ⊎ ((text : List ℕ) × (l.logs ≡ log (codes "load: " ++ text)))
+
+settles_load : (texts : Texts) (path : List ℕ) (r : Result Texts DocError) → LogsLoad (settles (load_log path) (record { texts = texts; logs = [] }) r)
+settles_load texts path (Ok t) = inl refl
+settles_load texts path (Err e) = inr (
+  doc_error_name e ++ (codes ": " ++ path),
+  ap log (append_assoc (codes "load: " ++ doc_error_name e) (codes ": ") path ∙ append_assoc (codes "load: ") (doc_error_name e) (codes ": " ++ path)),
+)
+
+pub read_back_logs : (texts : Texts) (path : List ℕ) → Each LogsLoad (read_back (record { texts = texts; logs = [] }) path)
+read_back_logs texts path =
+    each_if LogsLoad (is_read texts.root path) _ _ (λ answers. settles_load texts path (with_found texts path answers.0)) (inl refl)
+
+-- ---- changes of watched files that are refused
+
+-- nothing was logged, or the texts are the same
+abbrev pub KeepsRefused : Loading → Loading → Type 0
+KeepsRefused l l' = (l'.logs ≡ l.logs) ⊎ (l'.texts ≡ l.texts)
+
+settles_keeps : (log_of : DocError → List ℕ) (l : Loading) (r : Result Texts DocError) → KeepsRefused l (settles log_of l r)
+settles_keeps log_of l (Ok texts) = inl refl
+settles_keeps log_of l (Err e) = inr refl
+
+updates_keep : (l : Loading) (path : List ℕ) (kind : FileChangeKind) → Each (KeepsRefused l) (updates l path kind)
+updates_keep l path Created = λ answers. settles_keeps (λ e. watched_log (ByTexts e)) l (with_found l.texts path answers.0)
+updates_keep l path Changed = λ answers. settles_keeps (λ e. watched_log (ByTexts e)) l (with_found l.texts path answers.0)
+updates_keep l path Deleted = settles_keeps (λ e. watched_log (ByTexts e)) l (loaded l.texts path None)
+
+pub change_keeps : (l : Loading) (kind : FileChangeKind) (r : Result (List ℕ) Reason) → Each (KeepsRefused l) (updates_at l kind r)
+change_keeps l kind (Err r) = inr refl
+change_keeps l kind (Ok path) =
+    each_if (KeepsRefused l) (not (is_read l.texts.root path)) (Gives l) _ (inl refl)
+    (each_if (KeepsRefused l) (is_outside l.texts path) (Gives (with_log (watched_log (ByTexts OutsideRoot)) l))
+    (updates l path kind) (inr refl) (updates_keep l path kind))

@@ -1,5 +1,5 @@
 -- Each message is answered as it has to be, and `exit` alone ends.
-use Rattle.std.proofs.Common.{◌≡◌, ℕ, ℤ, Bool, true, false, cond, List, [], ◌∷◌, ◌++◌, codes, Option, None, Some, option_and_then, option_map, is_some, T, Result, Ok, Err, refl, sym, subst, append-nil, append_assoc, bytes_eq}
+use Rattle.std.proofs.Common.{◌≡◌, ℕ, ℤ, Bool, true, false, cond, List, [], ◌∷◌, ◌++◌, codes, Option, None, Some, option_and_then, option_map, is_some, T, Result, Ok, Err, refl, sym, ap, ◌∙◌, subst, inl, inr, append-nil, append_assoc, bytes_eq, true≢false}
 use Rattle.std.proofs.lemmas.Slice.Eq.{bytes_eq-Decides}
 use Rattle.serde_json.specs.Data.{Data, null}
 use Rattle.io_edges.specs.Store.{Call, Entry}
@@ -10,39 +10,50 @@ use Rattle.asking.specs.InTurn as turns
 use Rattle.asking.specs.InTurn.{Turn, after_one, behind_one, further, run}
 use Rattle.c_session.specs.Asking.{Asking, Answer, answer_in, calls, Gives, after_all}
 use Rattle.c_session.specs.Handled.{Reached, outcome}
-use Rattle.c_session.specs.Loading.{Loading, loads_root, read_back, updates_all, did_change_watched}
+use Rattle.c_session.specs.Loading.{Loading, loads_root, read_back, updates_at, updates_all, did_change_watched}
 use Rattle.c_session.specs.Message.{Message, NotJson, Batch, NotObject, Ignored, BadId, BadMethod, Notification, Request, message}
 use Rattle.c_session.specs.Params.{FileChange, watching_in}
+use Rattle.c_session.specs.declared.params.FileChangeKind.{FileChangeKind}
 use Rattle.c_session.specs.React.{Outcome, tells, is_quiet, has_texts, invalid_request, method_not_found, invalid_params, server_not_initialized, rejects, refuses, did_open, did_change, did_close, Edited, opened_by, changed_by, closed_by, edits, closes, watches, Beginning, beginning_by, begins, starts, is_running, exit_status, fresh_request, running_request, on_request, running_notification, on_notification, on_message, asks, Reaction, Replies, Wants, reaction, react}
 use Rattle.c_session.specs.Reasons.{Reason, reason_text, by_params}
-use Rattle.c_session.specs.Replies.{response, error, initialize_result}
-use Rattle.c_session.specs.Responses.{IsResponse, HasResult, HasError, AreNotices, IsResponded, IsAnswered, IsExit}
+use Rattle.c_session.specs.Replies.{response, error, log, initialize_result}
+use Rattle.c_session.specs.Responses.{IsResponse, HasResult, HasError, AreNotices, IsResponded, IsAnswered, IsExit, is_edit, IsRefusal, Fails, Logs}
 use Rattle.c_session.specs.Shown.{publications}
 use Rattle.c_session.specs.State.{State, in_phase, with_texts}
 use Rattle.c_session.specs.declared.phase.Phase.{Phase}
 use Rattle.c_session.specs.declared.phase.Phase.TheVariants.{Fresh, Running, Down}
-use Rattle.c_session.proofs.Responding.{Each, each_then, each_if, no_notice, more_notices, log_notice, publications_notices, Logged, root_logged, read_back_logged, changes_logged}
+use Rattle.c_session.proofs.Responding.{Each, each_then, each_if, each_if_by, no_notice, more_notices, log_notice, publications_notices, Logged, LogsLoad, KeepsRefused, root_logged, read_back_logged, read_back_logs, changes_logged, change_keeps}
+use Rattle.c_session.proofs.Unlike.{no_notices, no_error, no_log, no_closing}
 
 -- ---- what an outcome has to be, by the message
 
--- a request: one response, then notifications, and no end
-abbrev Responds : Id → Outcome → Type 0
-Responds id o = IsResponded (Some id) o.bytes × (o.end ≡ None)
+abbrev IsError : List ℕ → Type 0
+IsError bytes = (id : Option Id) × ((code : ℤ) × ((text : List ℕ) × (bytes ≡ error id code text)))
 
--- a notification: notifications alone
-abbrev Notifies : Outcome → Type 0
-Notifies o = AreNotices o.bytes × (o.end ≡ None)
+-- a request that starts here: one response, then notifications, and no end; an error leaves the state
+record Responds (s : State) (id : Id) (o : Outcome) : Type 0 where
+  answers : IsResponded (Some id) o.bytes
+  goes_on : o.end ≡ None
+  kept : IsError o.bytes → o.state ≡ s
 
--- the message ends where the outcome has a status
-abbrev EndsBy : Message → Option ℕ → Type 0
-EndsBy m None = Unit {0}
-EndsBy m (Some status) = IsExit m
+-- a notification: notifications alone, and no end; a log that refuses an edit leaves the state
+record Notifies (s : State) (method : List ℕ) (o : Outcome) : Type 0 where
+  answers : AreNotices o.bytes
+  goes_on : o.end ≡ None
+  kept : (text : List ℕ) → is_edit method ≡ true → o.bytes ≡ log (method ++ codes ": " ++ text) → o.state ≡ s
 
-abbrev Fits : Message → Outcome → Type 0
-Fits m o = IsAnswered m o.bytes × EndsBy m o.end
+-- the message ends just where it is an `exit`, with the status of the phase
+abbrev EndsBy : State → Message → Option ℕ → Type 0
+EndsBy s m None = IsExit m → ⊥
+EndsBy s m (Some status) = IsExit m × (status ≡ exit_status s.phase)
 
-no_end : (m : Message) (end : Option ℕ) → end ≡ None → EndsBy m end
-no_end m end is = subst (EndsBy m) (sym is) tt
+record Fits (s : State) (m : Message) (o : Outcome) : Type 0 where
+  answers : IsAnswered m o.bytes
+  ends : EndsBy s m o.end
+  kept : IsRefusal m o.bytes → o.state ≡ s
+
+no_end : (s : State) (m : Message) (end : Option ℕ) → (IsExit m → ⊥) → end ≡ None → EndsBy s m end
+no_end s m end other is = subst (EndsBy s m) (sym is) other
 
 either : {A : Type 0} (P : A → Type 0) (b : Bool) (x y : A) → P x → P y → P (cond b x y)
 either P true x y h k = h
@@ -59,103 +70,145 @@ alone id bytes is = record {
   joined = sym (append-nil bytes);
 }
 
-responds_alone : (s : State) (id : Id) (bytes : List ℕ) → IsResponse (Some id) bytes → Responds id (tells s bytes)
-responds_alone s id bytes is = (alone (Some id) bytes is, refl)
+rejected : (s : State) (id : Id) (code : ℤ) (text : List ℕ) → Responds s id (rejects s (Some id) code text)
+rejected s id code text = record {
+  answers = alone (Some id) (error (Some id) code text) (HasError code text refl);
+  goes_on = refl;
+  kept = λ is. refl;
+}
 
-rejected : (s : State) (id : Id) (code : ℤ) (text : List ℕ) → Responds id (rejects s (Some id) code text)
-rejected s id code text = responds_alone s id (error (Some id) code text) (HasError code text refl)
+answered : (s s' : State) (id : Id) (result : Data) → Responds s id (tells s' (response id result))
+answered s s' id result = record {
+  answers = alone (Some id) (response id result) (HasResult id result refl refl);
+  goes_on = refl;
+  kept = λ is. absurd (no_error id result [] is.0 is.1.0 is.1.1.0 (append-nil (response id result) ∙ is.1.1.1));
+}
 
-begun : (s : State) (id : Id) (encoding : Encoding) (l : Loading) → Logged l → Responds id (begins s id encoding l)
+begun : (s : State) (id : Id) (encoding : Encoding) (l : Loading) → Logged l → Responds s id (begins s id encoding l)
 begun s id encoding l logged =
     let answer = response id (initialize_result encoding) in
-    let shown = publications [] encoding s.texts l.texts in (
-      record {
+    let shown = publications [] encoding s.texts l.texts in
+    record {
+      answers = record {
         first = answer;
         rest = l.logs ++ shown;
         responds = HasResult id (initialize_result encoding) refl refl;
         notices = more_notices l.logs shown logged (publications_notices [] encoding s.texts l.texts);
         joined = append_assoc answer l.logs shown;
-      },
-      refl,
-    )
+      };
+      goes_on = refl;
+      kept = λ is. absurd (no_error id (initialize_result encoding) (l.logs ++ shown) is.0 is.1.0 is.1.1.0 (sym (append_assoc answer l.logs shown) ∙ is.1.1.1));
+    }
 
-starts_responds : (s : State) (id : Id) (r : Result Beginning Reason) → Each (Responds id) (starts s id r)
+starts_responds : (s : State) (id : Id) (r : Result Beginning Reason) → Each (Responds s id) (starts s id r)
 starts_responds s id (Ok b) =
-    each_then Logged (Responds id) (loads_root b.root) (λ l. Gives (begins s id b.encoding l)) (root_logged b.root)
+    each_then Logged (Responds s id) (loads_root b.root) (λ l. Gives (begins s id b.encoding l)) (root_logged b.root)
     (λ l logged. begun s id b.encoding l logged)
 starts_responds s id (Err r) = rejected s id invalid_params (reason_text r)
 
 fresh_responds : (s : State) (id : Id) (method : List ℕ) (params : Option Data) →
-    Each (Responds id) (fresh_request s id method params)
+    Each (Responds s id) (fresh_request s id method params)
 unfolding fresh_request
 fresh_responds s id method params =
-    each_if (Responds id) (bytes_eq method (codes "initialize")) (starts s id (beginning_by params)) _
+    each_if (Responds s id) (bytes_eq method (codes "initialize")) (starts s id (beginning_by params)) _
     (starts_responds s id (beginning_by params)) (rejected s id server_not_initialized (codes "not initialized"))
 
-running_responds : (s : State) (id : Id) (method : List ℕ) → Responds id (running_request s id method)
+running_responds : (s : State) (id : Id) (method : List ℕ) → Responds s id (running_request s id method)
 unfolding running_request
 running_responds s id method =
-    either (Responds id) (bytes_eq method (codes "initialize")) _ _
+    either (Responds s id) (bytes_eq method (codes "initialize")) _ _
     (rejected s id invalid_request (codes "already initialized"))
-    (either (Responds id) (bytes_eq method (codes "shutdown")) _ _
-    (responds_alone (in_phase Down s) id (response id null) (HasResult id null refl refl))
+    (either (Responds s id) (bytes_eq method (codes "shutdown")) _ _
+    (answered s (in_phase Down s) id null)
     (rejected s id method_not_found (codes "unknown method")))
 
 request_responds : (phase : Phase) (s : State) (id : Id) (method : List ℕ) (params : Option Data) →
-    Each (Responds id) (on_request phase s id method params)
+    Each (Responds s id) (on_request phase s id method params)
 request_responds Fresh s id method params = fresh_responds s id method params
 request_responds Running s id method params = running_responds s id method
 request_responds Down s id method params = rejected s id invalid_request (codes "shut down")
 
 -- ---- notifications
 
-quiet : (s : State) → Notifies (is_quiet s)
-quiet s = (no_notice, refl)
+quiet : (s : State) (method : List ℕ) → Notifies s method (is_quiet s)
+quiet s method = record { answers = no_notice; goes_on = refl; kept = λ text edit is. refl }
 
-refused : (s : State) (method text : List ℕ) → Notifies (refuses s method text)
-refused s method text = (log_notice _, refl)
+refused : (s : State) (method named text : List ℕ) → Notifies s method (refuses s named text)
+refused s method named text = record { answers = log_notice _; goes_on = refl; kept = λ other edit is. refl }
 
-has_new_texts : (s s' : State) (logs : List ℕ) (touched : List (List ℕ)) → AreNotices logs →
-    Notifies (has_texts s s' [] logs touched)
-has_new_texts s s' logs touched logged = (
-  more_notices logs (publications touched s'.encoding s.texts s'.texts) logged
-      (publications_notices touched s'.encoding s.texts s'.texts),
-  refl,
-)
+new_notices : (s s' : State) (logs : List ℕ) (touched : List (List ℕ)) → AreNotices logs → AreNotices (has_texts s s' [] logs touched).bytes
+new_notices s s' logs touched logged =
+    more_notices logs (publications touched s'.encoding s.texts s'.texts) logged (publications_notices touched s'.encoding s.texts s'.texts)
 
-edits_notify : (s : State) (method : List ℕ) (r : Result Edited Reason) → Notifies (edits s method r)
-edits_notify s method (Ok e) = has_new_texts s (with_texts e.texts s) [] (e.path ∷ []) no_notice
-edits_notify s method (Err r) = refused s method (reason_text r)
+edits_notify : (s : State) (method named : List ℕ) (r : Result Edited Reason) → Notifies s method (edits s named r)
+edits_notify s method named (Ok e) =
+    let s' = with_texts e.texts s in
+    record {
+      answers = new_notices s s' [] (e.path ∷ []) no_notice;
+      goes_on = refl;
+      kept = λ text edit is. absurd (no_log (e.path ∷ []) s'.encoding s.texts s'.texts (method ++ codes ": " ++ text) is);
+    }
+edits_notify s method named (Err r) = refused s method named (reason_text r)
 
-closes_notify : (s : State) (r : Result Edited Reason) → Each Notifies (closes s r)
-closes_notify s (Ok e) =
-    each_then Logged Notifies (read_back (record { texts = e.texts; logs = [] }) e.path)
-    (λ l. Gives (has_texts s (with_texts l.texts s) [] l.logs []))
-    (read_back_logged (record { texts = e.texts; logs = [] }) e.path no_notice)
-    (λ l logged. has_new_texts s (with_texts l.texts s) l.logs [] logged)
-closes_notify s (Err r) = refused s did_close (reason_text r)
+-- what was logged where a document was closed is no refusal of that
+loaded_no_closing : (s s' : State) (l : Loading) (method text : List ℕ) → method ≡ did_close → LogsLoad l →
+    (has_texts s s' [] l.logs []).bytes ≡ log (method ++ codes ": " ++ text) → ⊥
+loaded_no_closing s s' l method text closes logs is =
+    let shown = publications [] s'.encoding s.texts s'.texts in
+    let closing : l.logs ++ shown ≡ log (did_close ++ codes ": " ++ text) = is ∙ ap (λ (m : List ℕ). log (m ++ codes ": " ++ text)) closes in
+    elim logs [
+      | inl none ↦ no_log [] s'.encoding s.texts s'.texts (did_close ++ codes ": " ++ text) (ap (λ (xs : List ℕ). xs ++ shown) (sym none) ∙ closing)
+      | inr load ↦ no_closing load.0 shown text (ap (λ (xs : List ℕ). xs ++ shown) (sym load.1) ∙ closing)
+    ]
 
-watches_notify : (s : State) (r : Result (List FileChange) Reason) → Each Notifies (watches s r)
-watches_notify s (Ok changes) =
-    each_then Logged Notifies (updates_all (record { texts = s.texts; logs = [] }) changes)
+-- both of two facts of each result
+each_both : {A : Type 0} (P Q : A → Type 0) (t : Asking A) → Each P t → Each Q t → Each (λ x. P x × Q x) t
+each_both P Q (Gives x) h k = (h, k)
+each_both P Q (Asks call more f) h k = λ answers. each_both P Q (f answers) (h answers) (k answers)
+
+closes_notify : (s : State) (method : List ℕ) (r : Result Edited Reason) → method ≡ did_close → Each (Notifies s method) (closes s r)
+closes_notify s method (Ok e) is =
+    let start : Loading = record { texts = e.texts; logs = [] } in
+    each_then (λ l. Logged l × LogsLoad l) (Notifies s method) (read_back start e.path) (λ l. Gives (has_texts s (with_texts l.texts s) [] l.logs []))
+    (each_both Logged LogsLoad (read_back start e.path) (read_back_logged start e.path no_notice) (read_back_logs e.texts e.path))
+    (λ l known. record {
+      answers = new_notices s (with_texts l.texts s) l.logs [] known.0;
+      goes_on = refl;
+      kept = λ text edit same. absurd (loaded_no_closing s (with_texts l.texts s) l method text is known.1 same);
+    })
+closes_notify s method (Err r) is = refused s method did_close (reason_text r)
+
+no_edit : (method : List ℕ) → method ≡ did_change_watched → is_edit method ≡ true → ⊥
+no_edit method is edit = true≢false (sym edit ∙ ap is_edit is)
+
+watches_notify : (s : State) (method : List ℕ) (r : Result (List FileChange) Reason) → method ≡ did_change_watched → Each (Notifies s method) (watches s r)
+watches_notify s method (Ok changes) is =
+    each_then Logged (Notifies s method) (updates_all (record { texts = s.texts; logs = [] }) changes)
     (λ l. Gives (has_texts s (with_texts l.texts s) [] l.logs []))
     (changes_logged (record { texts = s.texts; logs = [] }) changes no_notice)
-    (λ l logged. has_new_texts s (with_texts l.texts s) l.logs [] logged)
-watches_notify s (Err r) = refused s did_change_watched (reason_text r)
+    (λ l logged. record {
+      answers = new_notices s (with_texts l.texts s) l.logs [] logged;
+      goes_on = refl;
+      kept = λ text edit same. absurd (no_edit method is edit);
+    })
+watches_notify s method (Err r) is = refused s method did_change_watched (reason_text r)
+
+by_test : (xs ys : List ℕ) → bytes_eq xs ys ≡ true → xs ≡ ys
+by_test xs ys = (bytes_eq-Decides xs ys).0
 
 running_notifies : (s : State) (method : List ℕ) (params : Option Data) →
-    Each Notifies (running_notification s method params)
+    Each (Notifies s method) (running_notification s method params)
 unfolding running_notification
 running_notifies s method params =
-    each_if Notifies (bytes_eq method did_open) (Gives (edits s did_open (opened_by s.texts params))) _
-    (edits_notify s did_open (opened_by s.texts params))
-    (each_if Notifies (bytes_eq method did_change) (Gives (edits s did_change (changed_by s.texts s.encoding params))) _
-    (edits_notify s did_change (changed_by s.texts s.encoding params))
-    (each_if Notifies (bytes_eq method did_close) (closes s (closed_by s.texts params)) _
-    (closes_notify s (closed_by s.texts params))
-    (each_if Notifies (bytes_eq method did_change_watched) (watches s (by_params (watching_in params)))
+    each_if (Notifies s method) (bytes_eq method did_open) (Gives (edits s did_open (opened_by s.texts params))) _
+    (edits_notify s method did_open (opened_by s.texts params))
+    (each_if (Notifies s method) (bytes_eq method did_change) (Gives (edits s did_change (changed_by s.texts s.encoding params))) _
+    (edits_notify s method did_change (changed_by s.texts s.encoding params))
+    (each_if_by (Notifies s method) (bytes_eq method did_close) (closes s (closed_by s.texts params)) _
+    (λ is. closes_notify s method (closed_by s.texts params) (by_test method did_close is))
+    (λ other. each_if_by (Notifies s method) (bytes_eq method did_change_watched) (watches s (by_params (watching_in params)))
     (Gives (is_quiet s))
-    (watches_notify s (by_params (watching_in params))) (quiet s))))
+    (λ is. watches_notify s method (by_params (watching_in params)) (by_test method did_change_watched is)) (λ none. quiet s method))))
 
 -- ---- messages
 
@@ -163,40 +216,83 @@ each_weaker : {A : Type 0} (P Q : A → Type 0) (t : Asking A) → ((x : A) → 
 each_weaker P Q (Gives x) weaker h = weaker x h
 each_weaker P Q (Asks call more f) weaker h = λ answers. each_weaker P Q (f answers) weaker (h answers)
 
--- what is done with a notification that is no `exit`
-notified : (method : List ℕ) (params : Option Data) (t : Asking Outcome) → Each Notifies t →
-    Each (Fits (Notification method params)) t
-notified method params t = each_weaker Notifies (Fits (Notification method params)) t
-    (λ o h. (h.0, no_end (Notification method params) o.end h.1))
+abbrev is_notification : Message → Bool
+is_notification (Notification method params) = true
+is_notification (Request id method params) = false
+is_notification Ignored = false
+is_notification NotJson = false
+is_notification Batch = false
+is_notification NotObject = false
+is_notification BadId = false
+is_notification (BadMethod id) = false
 
-exit_or : (method : List ℕ) (params : Option Data) (b : Bool) (s : State) (status : ℕ) (other : Asking Outcome) →
-    bytes_eq method (codes "exit") ≡ b → Each Notifies other →
-    Each (Fits (Notification method params))
-    (cond b (Gives (record { state = s; bytes = []; end = Some status })) other)
-exit_or method params true s status other is h = (no_notice, (bytes_eq-Decides method (codes "exit")).0 is)
-exit_or method params false s status other is h = notified method params other h
+abbrev method_or : List ℕ → Message → List ℕ
+method_or other (Notification method params) = method
+method_or other (Request id method params) = other
+method_or other Ignored = other
+method_or other NotJson = other
+method_or other Batch = other
+method_or other NotObject = other
+method_or other BadId = other
+method_or other (BadMethod id) = other
+
+-- a refusal of a message that is no notification is an error
+refusal_fails : (m : Message) (bytes : List ℕ) → is_notification m ≡ false → IsRefusal m bytes → IsError bytes
+refusal_fails m bytes other (Fails id code text is) = (id, (code, (text, is)))
+refusal_fails m bytes other (Logs method params text edit same is) = absurd (true≢false (sym (ap is_notification same) ∙ other))
+
+responded : (s : State) (id : Id) (method : List ℕ) (params : Option Data) (o : Outcome) → Responds s id o → Fits s (Request id method params) o
+responded s id method params o h = record {
+  answers = h.answers;
+  ends = no_end s (Request id method params) o.end (λ is. is) h.goes_on;
+  kept = λ refusal. h.kept (refusal_fails (Request id method params) o.bytes refl refusal);
+}
+
+notice_kept : (s : State) (method : List ℕ) (params : Option Data) (o : Outcome) → Notifies s method o → IsRefusal (Notification method params) o.bytes → o.state ≡ s
+notice_kept s method params o h (Fails id code text is) =
+    absurd (no_notices id (error id code text) [] (HasError code text refl) (subst AreNotices (is ∙ sym (append-nil (error id code text))) h.answers))
+notice_kept s method params o h (Logs named others text edit same is) =
+    let named_is : named ≡ method = sym (ap (method_or method) same) in
+    h.kept text (subst (λ m. is_edit m ≡ true) named_is edit) (is ∙ ap (λ (m : List ℕ). log (m ++ codes ": " ++ text)) named_is)
+
+notified : (s : State) (method : List ℕ) (params : Option Data) (o : Outcome) → (method ≡ codes "exit" → ⊥) → Notifies s method o → Fits s (Notification method params) o
+notified s method params o other h = record {
+  answers = h.answers;
+  ends = no_end s (Notification method params) o.end other h.goes_on;
+  kept = notice_kept s method params o h;
+}
+
+no_test : (xs ys : List ℕ) → bytes_eq xs ys ≡ false → xs ≡ ys → ⊥
+no_test xs ys differ same = true≢false (sym ((bytes_eq-Decides xs ys).1 same) ∙ differ)
 
 notification_fits : (s : State) (method : List ℕ) (params : Option Data) →
-    Each (Fits (Notification method params)) (on_notification s method params)
+    Each (Fits s (Notification method params)) (on_notification s method params)
 unfolding on_notification
 notification_fits s method params =
-    exit_or method params (bytes_eq method (codes "exit")) s (exit_status s.phase) _ refl
-    (each_if Notifies (is_running s.phase) (running_notification s method params) (Gives (is_quiet s))
-    (running_notifies s method params) (quiet s))
+    each_if_by (Fits s (Notification method params)) (bytes_eq method (codes "exit")) _ _
+    (λ is. record { answers = no_notice; ends = (by_test method (codes "exit") is, refl); kept = λ refusal. refl })
+    (λ other. each_weaker (Notifies s method) (Fits s (Notification method params)) _
+    (λ o h. notified s method params o (no_test method (codes "exit") other) h)
+    (each_if (Notifies s method) (is_running s.phase) (running_notification s method params) (Gives (is_quiet s))
+    (running_notifies s method params) (quiet s method)))
 
-message_fits : (s : State) (m : Message) → Each (Fits m) (on_message s m)
+-- a content that is neither: it leaves the state
+other_fits : (s : State) (m : Message) (bytes : List ℕ) → (IsExit m → ⊥) → IsAnswered m bytes → Fits s m (tells s bytes)
+other_fits s m bytes other is = record { answers = is; ends = other; kept = λ refusal. refl }
+
+message_fits : (s : State) (m : Message) → Each (Fits s m) (on_message s m)
 message_fits s (Request id method params) =
-    each_weaker (Responds id) (Fits (Request id method params)) (on_request s.phase s id method params)
-    (λ o h. (h.0, no_end (Request id method params) o.end h.1)) (request_responds s.phase s id method params)
+    each_weaker (Responds s id) (Fits s (Request id method params)) (on_request s.phase s id method params)
+    (λ o h. responded s id method params o h) (request_responds s.phase s id method params)
 message_fits s (Notification method params) = notification_fits s method params
-message_fits s NotJson = (HasError _ _ refl, tt)
-message_fits s Batch = (HasError _ _ refl, tt)
-message_fits s NotObject = (HasError _ _ refl, tt)
-message_fits s Ignored = (refl, tt)
-message_fits s BadId = (HasError _ _ refl, tt)
-message_fits s (BadMethod id) = (HasError _ _ refl, tt)
+message_fits s NotJson = other_fits s NotJson _ (λ is. is) (HasError _ _ refl)
+message_fits s Batch = other_fits s Batch _ (λ is. is) (HasError _ _ refl)
+message_fits s NotObject = other_fits s NotObject _ (λ is. is) (HasError _ _ refl)
+message_fits s Ignored = other_fits s Ignored [] (λ is. is) refl
+message_fits s BadId = other_fits s BadId _ (λ is. is) (HasError _ _ refl)
+message_fits s (BadMethod id) = other_fits s (BadMethod id) _ (λ is. is) (HasError _ _ refl)
 
-asks_fits : (s : State) (content : List ℕ) → Each (Fits (message content)) (asks s content)
+asks_fits : (s : State) (content : List ℕ) → Each (Fits s (message content)) (asks s content)
 unfolding asks
 asks_fits s content = message_fits s (message content)
 
@@ -227,48 +323,82 @@ one_keeps : {A : Type 0} (P : A → Type 0) (t next : Asking A) (entry : Entry) 
 one_keeps P (Gives x) next entry e h = not_some next e
 one_keeps P (Asks call more f) next entry e h = answer_keeps P call more f (answer_in call entry) next e h
 
+-- ---- a run
+
+abbrev OfTurn : {A : Type 0} → (A → Type 0) → Turn calls A → Type 0
+OfTurn P (turns.Gave x used) = P x
+OfTurn P (turns.Wants call) = Unit {0}
+OfTurn P (turns.Differs call entry) = Unit {0}
+
+further_keeps : {A : Type 0} (P : A → Type 0) (n : ℕ) (turn : Turn calls A) → OfTurn P turn → OfTurn P (further n turn)
+further_keeps P n (turns.Gave x used) h = h
+further_keeps P n (turns.Wants call) h = tt
+further_keeps P n (turns.Differs call entry) h = tt
+
+behind_keeps : {A : Type 0} (P : A → Type 0) (call : Call) (entry : Entry) (answers : List Entry) (o : Option (Asking A)) →
+    ((s : Asking A) → o ≡ Some s → OfTurn P (run s answers)) → OfTurn P (behind_one call entry (option_map (λ s. run s answers) o))
+behind_keeps P call entry answers None h = tt
+behind_keeps P call entry answers (Some s) h = further_keeps P 1 (run s answers) (h s refl)
+
+keeps_at : {A : Type 0} (P : A → Type 0) (t : Asking A) (entry : Entry) (answers : List Entry) → Each P t →
+    ((s : Asking A) → Each P s → OfTurn P (run s answers)) → OfTurn P (run t (entry ∷ answers))
+keeps_at P (Gives x) entry answers h ih = h
+keeps_at P (Asks call more f) entry answers h ih =
+    behind_keeps P call entry answers (after_one (Asks call more f) entry) (λ s e. ih s (one_keeps P (Asks call more f) s entry e h))
+
+run_keeps : {A : Type 0} (P : A → Type 0) (t : Asking A) (answers : List Entry) → Each P t → OfTurn P (run t answers)
+run_keeps P (Gives x) [] h = h
+run_keeps P (Asks call more f) [] h = tt
+run_keeps P t (entry ∷ answers) h = keeps_at P t entry answers h (λ s. run_keeps P s answers)
+
+pub watched_keeps : (old new : Loading) (kind : FileChangeKind) (path : Result (List ℕ) Reason) (answers : List Entry) (used : ℕ) →
+    run (updates_at old kind path) answers ≡ turns.Gave new used → (new.logs ≡ old.logs → ⊥) → new.texts ≡ old.texts
+watched_keeps old new kind path answers used gave logged =
+    let kept : KeepsRefused old new = subst (OfTurn (KeepsRefused old)) gave (run_keeps (KeepsRefused old) (updates_at old kind path) answers (change_keeps old kind path)) in
+    elim kept [
+      | inl same ↦ absurd (logged same)
+      | inr is ↦ is
+    ]
+
 -- ---- the reaction
 
 abbrev OfReply : (Outcome → Type 0) → Reaction → Type 0
 OfReply P (Replies s bytes end used) = P (outcome s bytes end)
 OfReply P (Wants call) = Unit {0}
 
-further_keeps : (P : Outcome → Type 0) (n : ℕ) (turn : Turn calls Outcome) → OfReply P (reaction turn) → OfReply P (reaction (further n turn))
-further_keeps P n (turns.Gave o used) h = h
-further_keeps P n (turns.Wants call) h = tt
-further_keeps P n (turns.Differs call entry) h = tt
-
-behind_keeps : (P : Outcome → Type 0) (call : Call) (entry : Entry) (answers : List Entry) (o : Option (Asking Outcome)) →
-    ((s : Asking Outcome) → o ≡ Some s → OfReply P (reaction (run s answers))) → OfReply P (reaction (behind_one call entry (option_map (λ s. run s answers) o)))
-behind_keeps P call entry answers None h = tt
-behind_keeps P call entry answers (Some s) h = further_keeps P 1 (run s answers) (h s refl)
-
-keeps_at : (P : Outcome → Type 0) (t : Asking Outcome) (entry : Entry) (answers : List Entry) → Each P t →
-    ((s : Asking Outcome) → Each P s → OfReply P (reaction (run s answers))) → OfReply P (reaction (run t (entry ∷ answers)))
-keeps_at P (Gives o) entry answers h ih = h
-keeps_at P (Asks call more f) entry answers h ih =
-    behind_keeps P call entry answers (after_one (Asks call more f) entry) (λ s e. ih s (one_keeps P (Asks call more f) s entry e h))
-
-run_keeps : (P : Outcome → Type 0) (t : Asking Outcome) (answers : List Entry) → Each P t → OfReply P (reaction (run t answers))
-run_keeps P (Gives o) [] h = h
-run_keeps P (Asks call more f) [] h = tt
-run_keeps P t (entry ∷ answers) h = keeps_at P t entry answers h (λ s. run_keeps P s answers)
+reply_of : (P : Outcome → Type 0) (turn : Turn calls Outcome) → OfTurn P turn → OfReply P (reaction turn)
+reply_of P (turns.Gave o used) h = h
+reply_of P (turns.Wants call) h = tt
+reply_of P (turns.Differs call entry) h = tt
 
 react_fits : (s next : State) (content bytes : List ℕ) (end : Option ℕ) (used : ℕ) (answers : List Entry) →
-    react s content answers ≡ Replies next bytes end used → Fits (message content) (outcome next bytes end)
+    react s content answers ≡ Replies next bytes end used → Fits s (message content) (outcome next bytes end)
 unfolding react
 react_fits s next content bytes end used answers is =
-    subst (OfReply (Fits (message content))) is
-    (run_keeps (Fits (message content)) (asks s content) answers (asks_fits s content))
+    let fits = Fits s (message content) in
+    subst (OfReply fits) is (reply_of fits (run (asks s content) answers) (run_keeps fits (asks s content) answers (asks_fits s content)))
 
 pub react_answered : (s next : State) (content bytes : List ℕ) (end : Option ℕ) (used : ℕ) (answers : List Entry) →
     react s content answers ≡ Replies next bytes end used → IsAnswered (message content) bytes
-react_answered s next content bytes end used answers is = (react_fits s next content bytes end used answers is).0
+react_answered s next content bytes end used answers is = (react_fits s next content bytes end used answers is).answers
 
 pub exit_ended : (s next : State) (content bytes : List ℕ) (status used : ℕ) (answers : List Entry) →
     react s content answers ≡ Replies next bytes (Some status) used → IsExit (message content)
 exit_ended s next content bytes status used answers is =
-    (react_fits s next content bytes (Some status) used answers is).1
+    (react_fits s next content bytes (Some status) used answers is).ends.0
+
+ended_as : (s : State) (m : Message) (end : Option ℕ) → EndsBy s m end → IsExit m → end ≡ Some (exit_status s.phase)
+ended_as s m None ends is = absurd (ends is)
+ended_as s m (Some status) ends is = ap Some ends.1
+
+pub exit_ends : (s next : State) (content bytes : List ℕ) (end : Option ℕ) (used : ℕ) (answers : List Entry) →
+    react s content answers ≡ Replies next bytes end used → IsExit (message content) → end ≡ Some (exit_status s.phase)
+exit_ends s next content bytes end used answers is exit =
+    ended_as s (message content) end (react_fits s next content bytes end used answers is).ends exit
+
+pub react_kept : (s next : State) (content bytes : List ℕ) (end : Option ℕ) (used : ℕ) (answers : List Entry) →
+    react s content answers ≡ Replies next bytes end used → IsRefusal (message content) bytes → next ≡ s
+react_kept s next content bytes end used answers is = (react_fits s next content bytes end used answers is).kept
 
 -- ---- what was handled
 
@@ -284,7 +414,13 @@ all_keep : {A : Type 0} (P : A → Type 0) (t next : Asking A) (xs : List Entry)
 all_keep P t next [] e h = subst (Each P) (some_is t next e) h
 all_keep P t next (x ∷ xs) e h = all_behind P t (after_one t x) next x xs (λ s. all_keep P s next xs) refl e h
 
+handled_fits : (s : State) (content : List ℕ) (o : Outcome) (old new : Option (List Entry)) → Reached (asks s content) (Gives o) old new → Fits s (message content) o
+handled_fits s content o old new r = all_keep (Fits s (message content)) (asks s content) (Gives o) r.added r.follows (asks_fits s content)
+
 pub handled_answered : (s : State) (content : List ℕ) (o : Outcome) (old new : Option (List Entry)) →
     Reached (asks s content) (Gives o) old new → IsAnswered (message content) o.bytes
-handled_answered s content o old new r =
-    (all_keep (Fits (message content)) (asks s content) (Gives o) r.added r.follows (asks_fits s content)).0
+handled_answered s content o old new r = (handled_fits s content o old new r).answers
+
+pub handled_kept : (s : State) (content : List ℕ) (o : Outcome) (old new : Option (List Entry)) →
+    Reached (asks s content) (Gives o) old new → IsRefusal (message content) o.bytes → o.state ≡ s
+handled_kept s content o old new r = (handled_fits s content o old new r).kept

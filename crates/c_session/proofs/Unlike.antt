@@ -1,5 +1,5 @@
 -- No response begins notifications.
-use Rattle.std.proofs.Common.{◌≡◌, ℕ, zero, suc, ◌+◌, ◌/◌, ◌%◌, ◌<◌, Bool, true, false, cond, ◌==◌, ◌||◌, List, [], ◌∷◌, ◌++◌, length, slice_index, Option, ℤ, codes, decimal, refl, sym, ap, ◌∙◌, append_assoc, arith, ne_eqb, lt-ltb, true≢false}
+use Rattle.std.proofs.Common.{◌≡◌, ℕ, zero, suc, ◌+◌, ◌/◌, ◌%◌, ◌<◌, Bool, true, false, cond, ◌==◌, ◌||◌, List, [], ◌∷◌, ◌++◌, length, slice_index, Option, ℤ, codes, decimal, refl, sym, ap, ◌∙◌, append_assoc, arith, append-nil, flat_map, ne_eqb, lt-ltb, true≢false}
 use Rattle.std.specs.Fmt.{digits, digits_onto, digit_glyph}
 use Rattle.std.specs.List.{All, concat}
 use Rattle.std.proofs.lemmas.List.Elements.{All-head}
@@ -7,6 +7,10 @@ use Rattle.serde_json.specs.Data.{Data}
 use Rattle.serde_json.specs.Written.{compact_text}
 use Rattle.serde_json.proofs.OnLiterals.{serde_json_on_literals}
 use Rattle.json_view.specs.declared.id.Id.{Id}
+use Rattle.text_lines.specs.declared.encoding.Encoding.{Encoding}
+use Rattle.doc_texts.specs.Texts.{Texts, version_at}
+use Rattle.c_session.specs.React.{did_close}
+use Rattle.c_session.specs.Shown.{uri_for, publication, published_paths, publications}
 use Rattle.c_session.specs.Replies.{framed, id_data, id_or_null, response_data, error_data, log_data, publish_data, response, error, log, publish}
 use Rattle.c_session.specs.Responses.{IsResponse, HasResult, HasError, IsNotice, Logs, Publishes, AreNotices}
 
@@ -15,9 +19,13 @@ abbrev from_brace : List ℕ → List ℕ
 from_brace [] = []
 from_brace (b ∷ rest) = cond (b == 123) (b ∷ rest) (from_brace rest)
 
+-- a letter of the first content, by its place from the brace on
+abbrev letter : ℕ → List ℕ → ℕ
+letter n bytes = slice_index (from_brace bytes) n
+
 -- whether the first member behind a header is `id` or `error`, by its first letter
 abbrev first_answers : List ℕ → Bool
-first_answers bytes = (slice_index (from_brace bytes) 2 == 105) || (slice_index (from_brace bytes) 2 == 101)
+first_answers bytes = (letter 2 bytes == 105) || (letter 2 bytes == 101)
 
 -- ---- a header has no brace
 
@@ -61,6 +69,9 @@ header_passes : (content more : List ℕ) → from_brace (framed content ++ more
 unfolding framed
 header_passes content more = fields_pass (decimal (length content)) content more
     ∙ number_passes (length content) (13 ∷ 10 ∷ 13 ∷ 10 ∷ (content ++ more))
+
+letter_in : (n : ℕ) (content more : List ℕ) → letter n (framed content ++ more) ≡ letter n (content ++ more)
+letter_in n content more = ap (λ (xs : List ℕ). slice_index xs n) (header_passes content more)
 
 by_content : (content more : List ℕ) → first_answers (framed content ++ more) ≡ first_answers (content ++ more)
 by_content content more = ap (λ (xs : List ℕ). (slice_index xs 2 == 105) || (slice_index xs 2 == 101))
@@ -121,3 +132,77 @@ pub no_notices : (id : Option Id) (first rest : List ℕ) → IsResponse id firs
 no_notices id first rest responds notices =
     true≢false (sym (is_answer id first rest responds) ∙ ap first_answers notices.joined
     ∙ are_notices notices.notices notices.each)
+
+-- ---- a refusal
+
+letters_differ : {n m : ℕ} (i : ℕ) {xs ys : List ℕ} → letter i xs ≡ n → letter i ys ≡ m → (n ≡ m → ⊥) → xs ≡ ys → ⊥
+letters_differ {n} {m} i {xs} {ys} one other differ same = differ (sym one ∙ ap (letter i) same ∙ other)
+
+error_letter : (id : Data) (code : ℤ) (text more : List ℕ) → letter 2 (compact_text (error_data id code text) ++ more) ≡ 101
+unfolding serde_json_on_literals
+error_letter id code text more = refl
+
+result_letter : (id result : Data) (more : List ℕ) → letter 2 (compact_text (response_data id result) ++ more) ≡ 105
+unfolding serde_json_on_literals
+result_letter id result more = refl
+
+error_at : (id : Option Id) (code : ℤ) (text more : List ℕ) → letter 2 (error id code text ++ more) ≡ 101
+unfolding error
+error_at id code text more = letter_in 2 (compact_text (error_data (id_or_null id) code text)) more ∙ error_letter (id_or_null id) code text more
+
+response_at : (id : Id) (result : Data) (more : List ℕ) → letter 2 (response id result ++ more) ≡ 105
+unfolding response
+response_at id result more = letter_in 2 (compact_text (response_data (id_data id) result)) more ∙ result_letter (id_data id) result more
+
+-- a result is no error
+pub no_error : (known : Id) (result : Data) (rest : List ℕ) (id : Option Id) (code : ℤ) (text : List ℕ) → response known result ++ rest ≡ error id code text → ⊥
+no_error known result rest id code text is =
+    letters_differ 2 (response_at known result rest) (error_at id code text []) (λ e. omega (arith, e)) (is ∙ sym (append-nil (error id code text)))
+
+-- the method and the message of a log
+log_method : (text more : List ℕ) → letter 27 (compact_text (log_data text) ++ more) ≡ 119
+unfolding serde_json_on_literals
+log_method text more = refl
+
+publish_method : (diagnostics : List Data) (uri : List ℕ) (version : Option ℤ) (more : List ℕ) → letter 27 (compact_text (publish_data diagnostics uri version) ++ more) ≡ 116
+unfolding serde_json_on_literals
+publish_method diagnostics uri version more = refl
+
+log_at : (text more : List ℕ) → letter 27 (log text ++ more) ≡ 119
+unfolding log
+log_at text more = letter_in 27 (compact_text (log_data text)) more ∙ log_method text more
+
+publication_at : (encoding : Encoding) (t : Texts) (path more : List ℕ) → letter 27 (publication encoding t path ++ more) ≡ 116
+unfolding publication publish
+publication_at encoding t path more = letter_in 27 _ more ∙ publish_method _ (uri_for t path) (version_at t path) more
+
+published_no_log : (encoding : Encoding) (t : Texts) (paths : List (List ℕ)) (text more : List ℕ) → flat_map (publication encoding t) paths ≡ log text ++ more → ⊥
+published_no_log encoding t [] text more is = letters_differ {n = 0} 27 {xs = []} refl (log_at text more) (λ e. omega (arith, e)) is
+published_no_log encoding t (path ∷ paths) text more is =
+    letters_differ 27 (publication_at encoding t path (flat_map (publication encoding t) paths)) (log_at text more) (λ e. omega (arith, e)) is
+
+-- what is published is no log message
+pub no_log : (touched : List (List ℕ)) (encoding : Encoding) (before after : Texts) (text : List ℕ) → publications touched encoding before after ≡ log text → ⊥
+no_log touched encoding before after text is =
+    published_no_log encoding after (published_paths touched before after) text [] (is ∙ sym (append-nil (log text)))
+
+loading_message : (text more : List ℕ) → letter 67 (compact_text (log_data (codes "load: " ++ text)) ++ more) ≡ 108
+unfolding serde_json_on_literals
+loading_message text more = refl
+
+closing_message : (text more : List ℕ) → letter 67 (compact_text (log_data (did_close ++ codes ": " ++ text)) ++ more) ≡ 116
+unfolding serde_json_on_literals
+closing_message text more = refl
+
+loading_at : (text more : List ℕ) → letter 67 (log (codes "load: " ++ text) ++ more) ≡ 108
+unfolding log
+loading_at text more = letter_in 67 (compact_text (log_data (codes "load: " ++ text))) more ∙ loading_message text more
+
+closing_at : (text more : List ℕ) → letter 67 (log (did_close ++ codes ": " ++ text) ++ more) ≡ 116
+unfolding log
+closing_at text more = letter_in 67 (compact_text (log_data (did_close ++ codes ": " ++ text))) more ∙ closing_message text more
+
+-- a load that is refused is no refusal of `didClose`
+pub no_closing : (text more other : List ℕ) → log (codes "load: " ++ text) ++ more ≡ log (did_close ++ codes ": " ++ other) → ⊥
+no_closing text more other is =
+    letters_differ 67 (loading_at text more) (closing_at other []) (λ e. omega (arith, e)) (is ∙ sym (append-nil (log (did_close ++ codes ": " ++ other))))

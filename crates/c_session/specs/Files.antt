@@ -10,9 +10,9 @@ use Rattle.io_edges.specs.declared.ends.Found.TheVariants as found
 use Rattle.uri_paths.specs.Paths.{is_path, within}
 use Rattle.c_session.specs.Replies.{log}
 use Rattle.doc_texts.specs.Texts.{Texts, path_set}
-use Rattle.doc_texts.specs.Docs.{loaded}
+use Rattle.doc_texts.specs.Docs.{loaded, is_outside}
 use Rattle.doc_texts.specs.declared.error.DocError.{DocError}
-use Rattle.doc_texts.specs.declared.error.DocError.TheVariants.{TooLong}
+use Rattle.doc_texts.specs.declared.error.DocError.TheVariants.{OutsideRoot, TooLong}
 
 -- a text that ends in this one
 abbrev pub has_end : List ℕ → List ℕ → Bool
@@ -58,8 +58,8 @@ wanted_path root text = if is_wanted root text then Some text else None
 abbrev pub to_load : List ℕ → List Listed → List (List ℕ)
 to_load root found = path_set (filter (is_wanted root) (files_in found))
 
--- the texts with what a file has now: one that isn't there has no text
+-- the texts with what a file has now: one that isn't there has no text, and one outside the root is refused as such whatever its size
 abbrev pub with_found : Texts → List ℕ → Found → Result Texts DocError
 with_found t path found.Absent = loaded t path None
-with_found t path found.TooLarge = Err TooLong
+with_found t path found.TooLarge = if is_outside t path then Err OutsideRoot else Err TooLong
 with_found t path (found.Bytes bytes) = loaded t path (Some bytes)

@@ -1,6 +1,7 @@
 -- Which bytes answer a message: a request gets exactly one response, and a notification none (JSON-RPC 2.0, 4 and 5).
-use Rattle.std.specs.Prelude.{◌≡◌, ℕ, ℤ, List, [], ◌++◌, codes, Option, None, Some}
+use Rattle.std.specs.Prelude.{◌≡◌, ℕ, ℤ, Bool, true, ◌||◌, List, [], ◌++◌, codes, Option, None, Some}
 use Rattle.std.specs.List.{All, concat}
+use Rattle.std.specs.Str.{bytes_eq}
 use Rattle.serde_json.specs.Data.{Data}
 use Rattle.c_tokens.specs.declared.types.LexFault.{LexFault}
 use Rattle.text_lines.specs.declared.encoding.Encoding.{Encoding}
@@ -44,6 +45,16 @@ IsAnswered Batch bytes = IsResponse None bytes
 IsAnswered NotObject bytes = IsResponse None bytes
 IsAnswered BadId bytes = IsResponse None bytes
 IsAnswered (BadMethod id) bytes = IsResponse id bytes
+
+-- the notifications by which a client edits a document (LSP 3.17, "Text Document Synchronization")
+abbrev pub is_edit : List ℕ → Bool
+is_edit method = bytes_eq method (codes "textDocument/didOpen") || (bytes_eq method (codes "textDocument/didChange") || bytes_eq method (codes "textDocument/didClose"))
+
+-- The bytes refuse the message: an error, or, for an edit of a document, a log message that names the edit.
+pub data IsRefusal (m : Message) (bytes : List ℕ) : Type 0 where
+  Fails : (id : Option Id) (code : ℤ) (text : List ℕ) → bytes ≡ error id code text → IsRefusal m bytes
+  Logs : (method : List ℕ) (params : Option Data) (text : List ℕ) → is_edit method ≡ true → m ≡ Notification method params →
+      bytes ≡ log (method ++ codes ": " ++ text) → IsRefusal m bytes
 
 -- the message is the notification `exit` (LSP 3.17, "Exit Notification")
 abbrev pub IsExit : Message → Type 0

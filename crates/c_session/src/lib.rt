@@ -1,6 +1,7 @@
 // The session with one client of the language server: the reaction to each message, over the current texts.
 #![tactic(auto)]
 
+mod current;
 mod diagnostics;
 mod documents;
 mod error;
@@ -18,7 +19,10 @@ mod session;
 mod starting;
 mod watching;
 
+pub use current::Reply;
 pub use error::SessionError;
-pub use laws::{exits_alone_end, requests_are_answered, responses_are_no_notices};
+pub use laws::{
+    exits_alone_end, refusals_change_nothing, requests_are_answered, responses_are_no_notices,
+};
 pub use phase::Phase;
-pub use session::{Reply, Session};
+pub use session::Session;

@@ -50,6 +50,7 @@ pub(crate) fn set_found(docs: &mut Docs, path: &Path, found: &Found) -> Result<(
 {
     match found {
         Found::Absent => docs.load(path, None),
+        Found::TooLarge if docs.is_outside(path) => Err(DocError::OutsideRoot),
         Found::TooLarge => Err(DocError::TooLong),
         Found::Bytes(bytes) => docs.load(path, Some(bytes.as_slice())),
     }

@@ -20,6 +20,9 @@ use std::marker::Brand;
 use std::sync::ledger::{Blank, Ledger};
 use steps::Steps;
 
+/// So many contents a session takes.
+const MOST_CONTENTS: u64 = 1 << 62;
+
 /// The bytes of a text in which `%` and two hexadecimal digits stand for a byte.
 fn bytes_of(alloc: Global, text: &str) -> Result<Vec<u8>, AllocError> {
     let mut bytes = Vec::new(alloc);
@@ -97,6 +100,9 @@ fn transcript<L: Ledger>(alloc: Global, blank: Blank, talk: &String) -> Result<S
         let Some(content) = content_of(alloc, line)? else {
             continue;
         };
+        if session.handled() >= MOST_CONTENTS {
+            return Ok(out);
+        }
         match session.handle(&content, &mut store, &mut steps) {
             Ok(reply) => push_reply(alloc, &mut out, &reply)?,
             Err(error) => {

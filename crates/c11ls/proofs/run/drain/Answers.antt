@@ -1,8 +1,10 @@
+use Rattle.std.proofs.Common.{refl, sym, subst}
 use Rattle.c_session.specs.Sessions.{state_of}
 use Rattle.project_conf.specs.Options.{no_options}
 use Rattle.c11ls.proofs.Draining.{turn_ends, stands_on}
 use Rattle.c11ls.proofs.EndingUp.{ends_bad, ends_before}
 use Rattle.c11ls.proofs.GoingOn.{going_turns, going_settles}
+use Rattle.c11ls.proofs.Running.{given_few, step_given}
 use Rattle.c11ls.proofs.run.drain.Goals as goal
 
 pub returns-in-Ok-None-clause-drained : goal.returns-in-Ok-None-clause-drained
@@ -34,4 +36,8 @@ frames-preserved g c = record {
       (rw c.as_slice.ensures.value at c.in-None.ensures.turned)
       (c.frames.invariant.goes w0 a0 size going);
   stands = stands_on _ _ _ _ _ _ _ _ _ c.frames.invariant.stands c.in-None.ensures.counted;
+  step = step_given _ _ _ _ _ (rw c.in-Ok-Some.field-0-is at c.in-Ok-Some.ensures.content) (c.in-None.ensures.count refl) c.frames.invariant.step;
 }
+
+pub turn-requires-clause-few : goal.turn-requires-clause-few
+turn-requires-clause-few g c = given_few c.contents_few.ensures _ _ _ _ (rw c.in-Ok-Some.field-0-is at c.in-Ok-Some.ensures.content) c.frames.invariant.step

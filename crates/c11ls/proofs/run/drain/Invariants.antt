@@ -1,6 +1,6 @@
 use Rattle.std.proofs.Common.{length}
-use Rattle.c11ls.specs.Going.{GoesOn}
-use Rattle.c_session.specs.Sessions.{state_of}
+use Rattle.c11ls.specs.Going.{GoesOn, IsInStep}
+use Rattle.c_session.specs.Sessions.{state_of, handled_by}
 use Rattle.project_conf.specs.Options.{no_options}
 use Rattle.c11ls.specs.Turn.{Stands}
 use Rattle.c11ls.proofs.run.drain.Given as goal
@@ -14,6 +14,7 @@ invariant-frames g l =
           (state_of l.fn.session) (state_of l.session) l.fn.frames l.frames;
       stands : Stands (wire.read_faults l.fn.wire) (wire.read_faults l.wire) (wire.write_faults l.fn.wire) (wire.write_faults l.wire)
           (store.faults l.fn.store) (store.faults l.store);
+      step : IsInStep l.frames (handled_by l.session);
     }
 
 abbrev pub decreases-frames : goal.decreases-frames

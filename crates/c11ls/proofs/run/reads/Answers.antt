@@ -1,19 +1,21 @@
-use Rattle.std.proofs.Common.{◌∙◌, ap, refl, take, Some, arith}
+use Rattle.std.proofs.Common.{◌∙◌, [], ap, refl, subst, sym, take, Some, arith}
+use Rattle.lsp_framing.specs.Standing.{Follows}
 use Rattle.project_conf.specs.Options.{no_options}
 use Rattle.c_session.specs.State.{fresh}
 use Rattle.c11ls.proofs.Draining.{stands_on}
 use Rattle.c11ls.proofs.EndingUp.{ends_long, ends_unread}
 use Rattle.c11ls.proofs.GoingOn.{going_begins, settled_size}
 use Rattle.c11ls.proofs.Reacting.{nothing_answered}
-use Rattle.c11ls.proofs.Running.{read_nothing, input_ends, input_counted, counted_on, reads_on, reads_unfed}
+use Rattle.c11ls.proofs.Running.{read_nothing, input_ends, input_counted, counted_on, reads_on, reads_unfed, step_fed}
 use Rattle.c11ls.proofs.run.reads.Goals as goal
 
 pub reads-init : goal.reads-init
 reads-init g c = record {
-  going = going_begins no_options _ _ _ _ (nothing_answered _) c.new-frames.ensures (c.new-session.ensures ∙ ap fresh c.none.ensures);
+  going = going_begins no_options _ _ _ _ (nothing_answered _) c.new-frames.ensures (c.new-session.ensures.state ∙ ap fresh c.none.ensures);
   stands = record { read_is = refl; write_is = refl; store_is = refl };
   room = c.requires.room;
   short = omega arith;
+  step = record { fed = []; follows = subst (λ n. Follows [] n c.new-frames.result) (sym c.new-session.ensures.handled) c.new-frames.ensures; short = omega arith };
 }
 
 pub returns-in-Some-clause-ended : goal.returns-in-Some-clause-ended
@@ -46,15 +48,18 @@ feed-requires g c =
 
 pub returns-in-Err-feed-clause-ended : goal.returns-in-Err-feed-clause-ended
 returns-in-Err-feed-clause-ended g c =
-    reads_unfed c.contents_stay.ensures no_options _ _ _ _ _ _ _ _ _ _ c.in-Ok.ensures.in_items c.if-count-eq0.false c.in-Ok.ensures.taken c.in-Ok.ensures.front
+    reads_unfed c.contents_stay.ensures no_options _ _ _ _ _ _ _ _ _ _ c.in-Ok.ensures.in_items (omega (arith, c.in-Ok.ensures.within, c.in-Ok.ensures.size, c.reads.invariant.room)) c.if-count-eq0.false c.in-Ok.ensures.taken c.in-Ok.ensures.front
     (c.in-None.ensures.drained _ _ _ c.reads.invariant.going)
 
 pub reads-preserved : goal.reads-preserved
 reads-preserved g c = record {
-  going = reads_on c.contents_stay.ensures no_options _ _ _ _ _ _ _ _ _ _ _ _ c.in-Ok.ensures.in_items c.if-count-eq0.false (c.split_at.ensures.front ∙ ap (take c.in-Ok.count) c.as_slice.ensures.value) c.in-Ok.ensures.taken c.in-Ok.ensures.front
+  going = reads_on c.contents_stay.ensures no_options _ _ _ _ _ _ _ _ _ _ _ _ c.in-Ok.ensures.in_items (omega (arith, c.in-Ok.ensures.within, c.in-Ok.ensures.size, c.reads.invariant.room)) c.if-count-eq0.false (c.split_at.ensures.front ∙ ap (take c.in-Ok.count) c.as_slice.ensures.value) c.in-Ok.ensures.taken c.in-Ok.ensures.front
       c.in-Ok-feed.ensures.fed (c.in-None.ensures.drained _ _ _ c.reads.invariant.going);
   stands = stands_on _ _ _ _ _ _ _ _ _ c.reads.invariant.stands (stands_on _ _ _ _ _ _ _ _ _ c.in-None.ensures.counted
       (record { read_is = c.in-Ok.ensures.counted; write_is = c.in-Ok.ensures.other_side; store_is = refl }));
   room = c.in-Ok.ensures.size ∙ c.reads.invariant.room;
+  step = step_fed _ _ _ _ c.in-Ok.count _ c.in-Ok-feed.ensures.fed (settled_size no_options _ _ _ _ _ _ _ (c.in-None.ensures.drained _ _ _ c.reads.invariant.going))
+      (omega (arith, c.if-taken-ge-LONG_INPUT.false, c.in-Ok.ensures.within, c.in-Ok.ensures.size, c.reads.invariant.room)) (omega (arith, c.split_at.ensures.front_len, c.in-Ok.ensures.within))
+      (c.in-None.ensures.step refl);
   short = omega (arith, c.if-taken-ge-LONG_INPUT.false, c.in-Ok.ensures.within, c.in-Ok.ensures.size, c.reads.invariant.room);
 }

@@ -1,6 +1,6 @@
 use Rattle.std.proofs.Common.{◌≡◌, ◌<◌, ◌+◌, ◌-◌, ◌^◌, vec_len}
-use Rattle.c11ls.specs.Going.{Going}
-use Rattle.c_session.specs.Sessions.{state_of}
+use Rattle.c11ls.specs.Going.{Going, IsInStep}
+use Rattle.c_session.specs.Sessions.{state_of, handled_by}
 use Rattle.project_conf.specs.Options.{no_options}
 use Rattle.c11ls.specs.Turn.{Stands}
 use Rattle.c11ls.proofs.run.reads.Given as goal
@@ -15,6 +15,7 @@ invariant-reads g l =
           (store.faults l.fn.store) (store.faults l.store);
       room : vec_len l.buffer ≡ 65536;
       short : l.taken < 2 ^ 62 + 65536;
+      step : IsInStep l.frames (handled_by l.session);
     }
 
 abbrev pub decreases-reads : goal.decreases-reads

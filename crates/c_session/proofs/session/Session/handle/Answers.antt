@@ -1,7 +1,7 @@
 use Rattle.std.proofs.Common.{refl}
 use Rattle.c_session.specs.Sessions.{state_of}
 use Rattle.c_session.proofs.Asking.{gave_up, stays}
-use Rattle.c_session.proofs.Responses.{handled_answered}
+use Rattle.c_session.proofs.Responses.{handled_answered, handled_kept}
 use Rattle.c_session.proofs.Telling.{asked_handled, asked_refused}
 use Rattle.c_session.proofs.session.Session.handle.Goals as goal
 
@@ -13,6 +13,10 @@ returns-in-Ok-on_message-clause-handled g c = asked_handled (state_of c.args.sel
 
 pub returns-in-Ok-on_message-clause-answered : goal.returns-in-Ok-on_message-clause-answered
 returns-in-Ok-on_message-clause-answered g c = handled_answered (state_of c.args.self.now) _ _ _ _
+    (asked_handled (state_of c.args.self.now) _ _ _ _ _ _ c.in-Ok.ensures c.message_of-message.ensures c.in-Ok-on_message.ensures.handled)
+
+pub returns-in-Ok-on_message-clause-kept : goal.returns-in-Ok-on_message-clause-kept
+returns-in-Ok-on_message-clause-kept g c = handled_kept (state_of c.args.self.now) _ _ _ _
     (asked_handled (state_of c.args.self.now) _ _ _ _ _ _ c.in-Ok.ensures c.message_of-message.ensures c.in-Ok-on_message.ensures.handled)
 
 pub returns-clause-refused : goal.returns-clause-refused

@@ -1,24 +1,24 @@
 use Rattle.std.proofs.Common.{refl}
 use Rattle.c_session.specs.Seen.{seen_id}
-use Rattle.c_session.specs.Sessions.{state_of, loading, seen_beginning}
+use Rattle.c_session.specs.Sessions.{current_state, loading, seen_beginning}
 use Rattle.c_session.proofs.Asking.{gave_up, stays}
 use Rattle.c_session.proofs.Telling.{began_then, began_refused, began_wants}
-use Rattle.c_session.proofs.session.Session.on_initialize.Goals as goal
+use Rattle.c_session.proofs.current.Current.on_initialize.Goals as goal
 
 pub returns-in-Err-reject-clause-refused : goal.returns-in-Err-reject-clause-refused
 returns-in-Err-reject-clause-refused g c = (refl, gave_up (stays _ _))
 
 pub returns-in-Err-load_root-clause-refused : goal.returns-in-Err-load_root-clause-refused
-returns-in-Err-load_root-clause-refused g c = began_refused (state_of c.args.self.now) (seen_id c.args.id) _ (seen_beginning c.in-Ok.beginning) _ _ _ _ c.in-Err-load_root.error
+returns-in-Err-load_root-clause-refused g c = began_refused (current_state c.args.self.now) (seen_id c.args.id) _ (seen_beginning c.in-Ok.beginning) _ _ _ _ c.in-Err-load_root.error
     c.in-Ok.ensures c.in-Err-load_root.ensures.refused
 
 pub returns-in-Ok-begin-clause-handled : goal.returns-in-Ok-begin-clause-handled
-returns-in-Ok-begin-clause-handled g c = began_then (state_of c.args.self.now) (state_of c.begin.new.self) (seen_id c.args.id) _ (seen_beginning c.in-Ok.beginning)
+returns-in-Ok-begin-clause-handled g c = began_then (current_state c.args.self.now) (current_state c.begin.new.self) (seen_id c.args.id) _ (seen_beginning c.in-Ok.beginning)
     (loading c.in-Ok-load_root.loaded.docs c.in-Ok-load_root.loaded.logs.items) c.in-Ok-begin.bytes.items _ _ c.in-Ok.ensures c.in-Ok-load_root.ensures.loaded c.in-Ok-begin.ensures
 
 pub returns-in-Err-begin-clause-refused : goal.returns-in-Err-begin-clause-refused
 returns-in-Err-begin-clause-refused g c = (
   c.in-Ok-load_root.ensures.counted,
-  began_wants (state_of c.args.self.now) (seen_id c.args.id) _ (seen_beginning c.in-Ok.beginning) _ _ _
+  began_wants (current_state c.args.self.now) (seen_id c.args.id) _ (seen_beginning c.in-Ok.beginning) _ _ _
       c.in-Ok.ensures c.in-Ok-load_root.ensures.loaded,
 )

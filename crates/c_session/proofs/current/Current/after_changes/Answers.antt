@@ -1,21 +1,21 @@
 use Rattle.std.proofs.Common.{refl, map}
 use Rattle.c_session.specs.SeenParams.{seen_file_change}
-use Rattle.c_session.specs.Sessions.{state_of}
+use Rattle.c_session.specs.Sessions.{current_state}
 use Rattle.c_session.proofs.Telling.{watched_tells, watched_refused, watched_wants}
-use Rattle.c_session.proofs.session.Session.after_changes.Goals as goal
+use Rattle.c_session.proofs.current.Current.after_changes.Goals as goal
 
 pub returns-in-Err-clause-refused : goal.returns-in-Err-clause-refused
-returns-in-Err-clause-refused g c = watched_refused (state_of c.args.self.now) (map seen_file_change c.args.changes.now) c.new-logs.result.items _ _ _ _ c.in-Err.error
+returns-in-Err-clause-refused g c = watched_refused (current_state c.args.self.now) (map seen_file_change c.args.changes.now) c.new-logs.result.items _ _ _ _ c.in-Err.error
     c.in-Err.ensures.refused c.new-logs.ensures.items
 
 pub returns-in-Ok-finish-clause-handled : goal.returns-in-Ok-finish-clause-handled
-returns-in-Ok-finish-clause-handled g c = watched_tells (state_of c.args.self.now) _ (map seen_file_change c.args.changes.now) c.new-logs.result.items c.update_all.new.logs.items
+returns-in-Ok-finish-clause-handled g c = watched_tells (current_state c.args.self.now) _ (map seen_file_change c.args.changes.now) c.new-logs.result.items c.update_all.new.logs.items
     c.as_slice.result.now c.new.result.items c.in-Ok-finish.bytes.items c.new-prior.result c.update_all.new.prior _ _ c.in-Ok.ensures.updated c.new-logs.ensures.items c.new-prior.ensures refl
     c.in-Ok.ensures.prior c.in-Ok-finish.ensures c.new.ensures.items c.as_slice.ensures.value
 
 pub returns-clause-refused : goal.returns-clause-refused
 returns-clause-refused g c = (
   c.in-Ok.ensures.counted,
-  watched_wants (state_of c.args.self.now) (map seen_file_change c.args.changes.now) c.new-logs.result.items _ _ _
+  watched_wants (current_state c.args.self.now) (map seen_file_change c.args.changes.now) c.new-logs.result.items _ _ _
       c.in-Ok.ensures.updated c.new-logs.ensures.items,
 )

@@ -1,19 +1,19 @@
 use Rattle.std.proofs.Common.{refl}
-use Rattle.c_session.specs.Sessions.{state_of}
+use Rattle.c_session.specs.Sessions.{current_state}
 use Rattle.c_session.proofs.Asking.{gave_up, stays}
 use Rattle.c_session.proofs.Telling.{closes_tells, closed_refused, not_closed}
-use Rattle.c_session.proofs.session.Session.on_close.Goals as goal
+use Rattle.c_session.proofs.current.Current.on_close.Goals as goal
 
 pub returns-in-Ok-after_close-clause-handled : goal.returns-in-Ok-after_close-clause-handled
-returns-in-Ok-after_close-clause-handled g c = closes_tells (state_of c.args.self.now) _ (state_of c.after_close.new.self) _ c.in-Ok.path c.in-Ok-after_close.bytes.items
+returns-in-Ok-after_close-clause-handled g c = closes_tells (current_state c.args.self.now) _ (current_state c.after_close.new.self) _ c.in-Ok.path c.in-Ok-after_close.bytes.items
     c.new-prior.result c.close_document.new.prior _ _ c.in-Ok.ensures.meant refl c.new-prior.ensures c.in-Ok.ensures.prior c.in-Ok-after_close.ensures.handled
 
 pub returns-in-Ok-clause-refused : goal.returns-in-Ok-clause-refused
-returns-in-Ok-clause-refused g c = closed_refused (state_of c.args.self.now) c.close_document.new.docs _ c.in-Ok.path _ _ _ _ c.in-Err-after_close.error
+returns-in-Ok-clause-refused g c = closed_refused (current_state c.args.self.now) c.close_document.new.docs _ c.in-Ok.path _ _ _ _ c.in-Err-after_close.error
     c.in-Ok.ensures.meant c.in-Err-after_close.ensures.refused
 
 pub returns-in-Ok-refuse-clause-handled : goal.returns-in-Ok-refuse-clause-handled
-returns-in-Ok-refuse-clause-handled g c = not_closed (state_of c.args.self.now) c.close_document.new.docs _ c.in-Err.refusal c.in-Ok-refuse.bytes.items _
+returns-in-Ok-refuse-clause-handled g c = not_closed (current_state c.args.self.now) c.close_document.new.docs _ c.in-Err.refusal c.in-Ok-refuse.bytes.items _
     c.in-Err.ensures.meant c.in-Err.ensures.kept c.in-Ok-refuse.ensures.refused c.in-Ok-refuse.ensures.log
 
 pub returns-clause-refused : goal.returns-clause-refused

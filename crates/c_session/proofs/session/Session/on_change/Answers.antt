@@ -1,7 +1,0 @@
-use Rattle.c_session.specs.React.{did_change}
-use Rattle.c_session.specs.Sessions.{state_of}
-use Rattle.c_session.proofs.Telling.{edit_told, changing_edits}
-use Rattle.c_session.proofs.session.Session.on_change.Goals as goal
-
-pub returns-in-Ok : goal.returns-in-Ok
-returns-in-Ok c = edit_told (state_of c.args.self.now) did_change _ c.change_document-edited.result _ _ (λ path is. changing_edits _ _ _ _ path is) c.change_document-edited.ensures.meant c.change_document-edited.ensures.kept c.in-Ok.ensures

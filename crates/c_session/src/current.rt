@@ -1,0 +1,505 @@
+// What the server keeps between two contents, and its reaction to a message.
+ghost use Rattle.std.specs.Prelude.{◌≡◌, ◌≢◌, ◌+◌, ◌++◌, ◌<◌, ◌^◌, [], Some, Ok, IfOk, IfErr, OnOk, option_map, map, codes};
+ghost use Rattle.serde_json.specs.View.{view};
+ghost use Rattle.c_session.specs.Asking.{Gives};
+ghost use Rattle.c_session.specs.Handled.{Reached, Refused};
+ghost use Rattle.c_session.specs.React.{tells, edits, opened_by, changed_by, closed_by, closes, watches, starts, beginning_by, begins, did_open, did_change, running_request, running_notification, fresh_request, on_request, on_notification, on_other, on_message, rejects, invalid_params};
+ghost use Rattle.c_session.specs.Params.{watching_in};
+ghost use Rattle.c_session.specs.Reasons.{reason_text, by_params};
+ghost use Rattle.c_session.specs.Refused.{reason, IsReply};
+ghost use Rattle.c_session.specs.Loading.{read_back};
+ghost use Rattle.c_session.specs.News.{news, HasPublished};
+ghost use Rattle.c_session.specs.Replies.{log, error};
+ghost use Rattle.c_session.specs.SeenParams.{seen_file_change};
+ghost use Rattle.c_session.specs.Seen.{seen, seen_id};
+ghost use Rattle.c_session.specs.Sessions.{current_state, loading, outcome_of};
+ghost use Rattle.c_session.specs.State.{fresh};
+ghost use Rattle.c_session.specs.declared.reasons.Refusal.TheVariants.{NoMemory};
+
+use crate::documents::{change_document, close_document, open_document};
+use crate::error::SessionError;
+use crate::loading::read_back;
+use crate::message::{Id, Message};
+use crate::news::{prior_of, push_news, push_publication};
+use crate::params::{FileChange, watching_in};
+use crate::phase::Phase;
+use crate::reasons::Refusal;
+use crate::replies::{error, initialize_result, log, response};
+use crate::starting::{Beginning, Loaded, beginning_in, load_root};
+use crate::watching::update_all;
+use doc_texts::{Docs, PriorTexts};
+use io_edges::Store;
+use project_conf::Options;
+use serde_json::Value;
+use std::alloc::{AllocError, Global};
+use text_lines::Encoding;
+use uri_paths::Path;
+
+/// The reply to a content: frames for the client, and the status of an end where the content is an `exit`.
+#[derive(Drop)]
+pub struct Reply {
+    pub bytes: Vec<u8>,
+    pub end: Option<u8>,
+}
+
+/// What the server keeps between two contents: the current texts and the session's settings.
+#[derive(Drop)]
+pub(crate) struct Current {
+    pub alloc: Global,
+    options: Options,
+    docs: Docs,
+    encoding: Encoding,
+    phase: Phase,
+}
+
+/// A log message: why a notification of a method is refused.
+fn refusal_log(alloc: Global, method: &str, reason: &str) -> Result<Vec<u8>, AllocError>
+    ensures { IfOk result (λ v. v.items ≡ log (method.now ++ codes ": " ++ reason.now)) }
+{
+    let text = format!(in alloc; "{method}: {reason}")?;
+    log(alloc, text.as_str())
+}
+
+impl Current {
+    /// What stands before the first content.
+    pub fn new(alloc: Global, options: Options) -> Current
+        ensures { current_state result ≡ fresh options }
+    {
+        Current {
+            alloc,
+            options,
+            docs: Docs::new(alloc, None),
+            encoding: Encoding::Utf16,
+            phase: Phase::Fresh,
+        }
+    }
+
+    /// The log message for a notification that is refused.
+    fn refuse(&self, method: &str, refusal: Refusal) -> Result<Vec<u8>, AllocError>
+        ensures refused { IfOk result (λ _. refusal ≢ NoMemory) }
+        ensures log { IfOk result (λ v. v.items ≡ log (method.now ++ codes ": " ++ reason_text (reason refusal))) }
+    {
+        let reason = match refusal.text(self.alloc) {
+            Ok(reason) => reason,
+            Err(_) => return Err(AllocError),
+        };
+        match refusal_log(self.alloc, method, reason.as_str()) {
+            Ok(bytes) => Ok(bytes),
+            Err(_) => Err(AllocError),
+        }
+    }
+
+    /// The error response to a request whose params are refused.
+    fn reject(&self, id: Id<'_>, refusal: Refusal) -> Result<Vec<u8>, AllocError>
+        ensures refused { IfOk result (λ _. refusal ≢ NoMemory) }
+        ensures error { IfOk result (λ v. v.items ≡ error (Some (seen_id id.entry)) invalid_params (reason_text (reason refusal))) }
+    {
+        let text = match refusal.text(self.alloc) {
+            Ok(text) => text,
+            Err(_) => return Err(AllocError),
+        };
+        match error(self.alloc, Some(id), -32602, text.as_str()) {
+            Ok(bytes) => Ok(bytes),
+            Err(_) => Err(AllocError),
+        }
+    }
+
+    /// The reply where a document was opened or changed, or wasn't.
+    fn reply_to_edit(
+        &self,
+        method: &str,
+        edited: Result<Path, Refusal>,
+    ) -> Result<Vec<u8>, AllocError>
+        ensures { IfOk result (λ v. IsReply method.now self.now.docs self.now.encoding edited v.items) }
+    {
+        match edited {
+            Ok(path) => {
+                let mut out = Vec::new(self.alloc);
+                match push_publication(self.alloc, &mut out, &self.docs, self.encoding, &path) {
+                    Ok(()) => Ok(out),
+                    Err(_) => Err(AllocError),
+                }
+            }
+            Err(refusal) => match self.refuse(method, refusal) {
+                Ok(bytes) => Ok(bytes),
+                Err(_) => Err(AllocError),
+            },
+        }
+    }
+
+    /// `textDocument/didOpen`.
+    fn on_open(&mut self, params: Option<&Value>) -> Result<Vec<u8>, AllocError>
+        ensures { IfOk result (λ v. edits (current_state self.old) did_open (opened_by self.old.docs (option_map (λ v. view v.now) params.entry)) ≡ tells (current_state self.new) v.items) }
+    {
+        let edited = open_document(self.alloc, &mut self.docs, params);
+        match self.reply_to_edit("textDocument/didOpen", edited) {
+            Ok(bytes) => Ok(bytes),
+            Err(_) => Err(AllocError),
+        }
+    }
+
+    /// `textDocument/didChange`.
+    fn on_change(&mut self, params: Option<&Value>) -> Result<Vec<u8>, AllocError>
+        ensures { IfOk result (λ v. edits (current_state self.old) did_change (changed_by self.old.docs self.old.encoding (option_map (λ v. view v.now) params.entry)) ≡ tells (current_state self.new) v.items) }
+    {
+        let edited = change_document(self.alloc, &mut self.docs, self.encoding, params);
+        match self.reply_to_edit("textDocument/didChange", edited) {
+            Ok(bytes) => Ok(bytes),
+            Err(_) => Err(AllocError),
+        }
+    }
+
+    /// A response, and behind it log messages and the diagnostics of the files that have news.
+    fn finish(
+        &self,
+        response: Vec<u8>,
+        logs: &[u8],
+        prior: &PriorTexts,
+    ) -> Result<Vec<u8>, AllocError>
+        ensures { IfOk result (λ v. v.items ≡ (response.items ++ logs.now) ++ news self.now.encoding prior.now self.now.docs) }
+    {
+        let mut out = response;
+        out.extend_from_slice(logs)?;
+        push_news(self.alloc, &mut out, &self.docs, self.encoding, prior)?;
+        Ok(out)
+    }
+
+    /// `textDocument/didClose`.
+    fn on_close<D: Store>(
+        &mut self,
+        params: Option<&Value>,
+        store: &mut D,
+    ) -> Result<Vec<u8>, SessionError>
+        requires { D.faults store.old + 1 < 2 ^ 64 }
+        ensures handled { IfOk result (λ v. Reached (closes (current_state self.old) (closed_by self.old.docs (option_map (λ v. view v.now) params.entry))) (Gives (tells (current_state self.new) v.items)) (D.answers store.old) (D.answers store.new)) }
+        ensures counted { OnOk result (D.faults store.new ≡ D.faults store.old) }
+        ensures refused { IfErr result (λ e. Refused e (closes (current_state self.old) (closed_by self.old.docs (option_map (λ v. view v.now) params.entry))) (D.answers store.old) (D.answers store.new) (D.faults store.old) (D.faults store.new)) }
+    {
+        let mut prior = PriorTexts::new(self.alloc);
+        match close_document(self.alloc, &mut self.docs, &mut prior, params) {
+            Ok(path) => match self.after_close(&path, &mut prior, store) {
+                Ok(bytes) => Ok(bytes),
+                Err(error) => Err(error),
+            },
+            Err(refusal) => match self.refuse("textDocument/didClose", refusal) {
+                Ok(bytes) => Ok(bytes),
+                Err(_) => Err(SessionError::NoMemory),
+            },
+        }
+    }
+
+    /// Reads the file of a document that was closed, and publishes what that changed.
+    fn after_close<D: Store>(
+        &mut self,
+        path: &Path,
+        prior: &mut PriorTexts,
+        store: &mut D,
+    ) -> Result<Vec<u8>, SessionError>
+        requires { D.faults store.old + 1 < 2 ^ 64 }
+        ensures handled { IfOk result (λ v. HasPublished (read_back (loading self.old.docs []) path.now) (current_state self.old) (current_state self.new) v.items prior.old (D.answers store.old) (D.answers store.new)) }
+        ensures counted { OnOk result (D.faults store.new ≡ D.faults store.old) }
+        ensures refused { IfErr result (λ e. Refused e (read_back (loading self.old.docs []) path.now) (D.answers store.old) (D.answers store.new) (D.faults store.old) (D.faults store.new)) }
+    {
+        let mut logs = Vec::new(self.alloc);
+        match read_back(self.alloc, &mut self.docs, &mut logs, prior, path, store) {
+            Ok(()) => {}
+            Err(error) => return Err(error),
+        }
+        match self.finish(Vec::new(self.alloc), logs.as_slice(), prior) {
+            Ok(bytes) => Ok(bytes),
+            Err(_) => Err(SessionError::NoMemory),
+        }
+    }
+
+    /// `workspace/didChangeWatchedFiles`.
+    fn on_watch<D: Store>(
+        &mut self,
+        params: Option<&Value>,
+        store: &mut D,
+    ) -> Result<Vec<u8>, SessionError>
+        requires { D.faults store.old + 1 < 2 ^ 64 }
+        ensures handled { IfOk result (λ v. Reached (watches (current_state self.old) (by_params (watching_in (option_map (λ v. view v.now) params.entry)))) (Gives (tells (current_state self.new) v.items)) (D.answers store.old) (D.answers store.new)) }
+        ensures counted { OnOk result (D.faults store.new ≡ D.faults store.old) }
+        ensures refused { IfErr result (λ e. Refused e (watches (current_state self.old) (by_params (watching_in (option_map (λ v. view v.now) params.entry)))) (D.answers store.old) (D.answers store.new) (D.faults store.old) (D.faults store.new)) }
+    {
+        match watching_in(self.alloc, params) {
+            Ok(changes) => match self.after_changes(changes.as_slice(), store) {
+                Ok(bytes) => Ok(bytes),
+                Err(error) => Err(error),
+            },
+            Err(error) => match self.refuse(
+                "workspace/didChangeWatchedFiles",
+                Refusal::of_params(error),
+            ) {
+                Ok(bytes) => Ok(bytes),
+                Err(_) => Err(SessionError::NoMemory),
+            },
+        }
+    }
+
+    /// Takes over changes of files, and publishes what they changed.
+    fn after_changes<D: Store>(
+        &mut self,
+        changes: &[FileChange<'_>],
+        store: &mut D,
+    ) -> Result<Vec<u8>, SessionError>
+        requires { D.faults store.old + 1 < 2 ^ 64 }
+        ensures handled { IfOk result (λ v. Reached (watches (current_state self.old) (Ok (map seen_file_change changes.now))) (Gives (tells (current_state self.new) v.items)) (D.answers store.old) (D.answers store.new)) }
+        ensures counted { OnOk result (D.faults store.new ≡ D.faults store.old) }
+        ensures refused { IfErr result (λ e. Refused e (watches (current_state self.old) (Ok (map seen_file_change changes.now))) (D.answers store.old) (D.answers store.new) (D.faults store.old) (D.faults store.new)) }
+    {
+        let mut prior = PriorTexts::new(self.alloc);
+        let mut logs = Vec::new(self.alloc);
+        match update_all(
+            self.alloc,
+            &mut self.docs,
+            &mut logs,
+            &mut prior,
+            changes,
+            store,
+        ) {
+            Ok(()) => {}
+            Err(error) => return Err(error),
+        }
+        match self.finish(Vec::new(self.alloc), logs.as_slice(), &prior) {
+            Ok(bytes) => Ok(bytes),
+            Err(_) => Err(SessionError::NoMemory),
+        }
+    }
+
+    /// The session begins with these texts: it answers `initialize`, and publishes what they show.
+    fn begin(
+        &mut self,
+        id: Id<'_>,
+        encoding: Encoding,
+        loaded: Loaded,
+    ) -> Result<Vec<u8>, AllocError>
+        ensures { IfOk result (λ v. begins (current_state self.old) (seen_id id.entry) encoding (loading loaded.docs loaded.logs.items) ≡ tells (current_state self.new) v.items) }
+    {
+        let Loaded { docs, logs } = loaded;
+        let prior = prior_of(self.alloc, &self.docs, &docs)?;
+        let answer = initialize_result(self.alloc, encoding)?;
+        let bytes = response(self.alloc, id, answer)?;
+        self.docs = docs;
+        self.encoding = encoding;
+        self.phase = Phase::Running;
+        match self.finish(bytes, logs.as_slice(), &prior) {
+            Ok(bytes) => Ok(bytes),
+            Err(_) => Err(AllocError),
+        }
+    }
+
+    /// `initialize`.
+    fn on_initialize<D: Store>(
+        &mut self,
+        id: Id<'_>,
+        params: Option<&Value>,
+        store: &mut D,
+    ) -> Result<Vec<u8>, SessionError>
+        requires { D.faults store.old + 1 < 2 ^ 64 }
+        ensures handled { IfOk result (λ v. Reached (starts (current_state self.old) (seen_id id.entry) (beginning_by (option_map (λ v. view v.now) params.entry))) (Gives (tells (current_state self.new) v.items)) (D.answers store.old) (D.answers store.new)) }
+        ensures counted { OnOk result (D.faults store.new ≡ D.faults store.old) }
+        ensures refused { IfErr result (λ e. Refused e (starts (current_state self.old) (seen_id id.entry) (beginning_by (option_map (λ v. view v.now) params.entry))) (D.answers store.old) (D.answers store.new) (D.faults store.old) (D.faults store.new)) }
+    {
+        let beginning = match beginning_in(self.alloc, params) {
+            Ok(beginning) => beginning,
+            Err(refusal) => {
+                match self.reject(id, refusal) {
+                    Ok(bytes) => return Ok(bytes),
+                    Err(_) => return Err(SessionError::NoMemory),
+                }
+            }
+        };
+        let Beginning { root, encoding } = beginning;
+        let loaded = match load_root(self.alloc, root, store) {
+            Ok(loaded) => loaded,
+            Err(error) => return Err(error),
+        };
+        match self.begin(id, encoding, loaded) {
+            Ok(bytes) => Ok(bytes),
+            Err(_) => Err(SessionError::NoMemory),
+        }
+    }
+
+    /// A request before `initialize`.
+    #[tactic(auto, unfolding(crate::specs::React::fresh_request))]
+    fn on_fresh_request<D: Store>(
+        &mut self,
+        id: Id<'_>,
+        method: &str,
+        params: Option<&Value>,
+        store: &mut D,
+    ) -> Result<Vec<u8>, SessionError>
+        requires { D.faults store.old + 1 < 2 ^ 64 }
+        ensures handled { IfOk result (λ v. Reached (fresh_request (current_state self.old) (seen_id id.entry) method.now (option_map (λ v. view v.now) params.entry)) (Gives (tells (current_state self.new) v.items)) (D.answers store.old) (D.answers store.new)) }
+        ensures counted { OnOk result (D.faults store.new ≡ D.faults store.old) }
+        ensures refused { IfErr result (λ e. Refused e (fresh_request (current_state self.old) (seen_id id.entry) method.now (option_map (λ v. view v.now) params.entry)) (D.answers store.old) (D.answers store.new) (D.faults store.old) (D.faults store.new)) }
+    {
+        if method == "initialize" {
+            return self.on_initialize(id, params, store);
+        }
+        match error(self.alloc, Some(id), -32002, "not initialized") {
+            Ok(bytes) => Ok(bytes),
+            Err(_) => Err(SessionError::NoMemory),
+        }
+    }
+
+    /// A request between `initialize` and `shutdown`.
+    #[tactic(auto, unfolding(crate::specs::React::running_request))]
+    fn on_running_request(&mut self, id: Id<'_>, method: &str) -> Result<Vec<u8>, AllocError>
+        ensures { IfOk result (λ v. running_request (current_state self.old) (seen_id id.entry) method.now ≡ tells (current_state self.new) v.items) }
+    {
+        if method == "initialize" {
+            return error(self.alloc, Some(id), -32600, "already initialized");
+        }
+        if method == "shutdown" {
+            let bytes = response(self.alloc, id, Value::Null)?;
+            self.phase = Phase::Down;
+            return Ok(bytes);
+        }
+        error(self.alloc, Some(id), -32601, "unknown method")
+    }
+
+    fn on_request<D: Store>(
+        &mut self,
+        id: Id<'_>,
+        method: &str,
+        params: Option<&Value>,
+        store: &mut D,
+    ) -> Result<Vec<u8>, SessionError>
+        requires { D.faults store.old + 1 < 2 ^ 64 }
+        ensures handled { IfOk result (λ v. Reached (on_request self.old.phase (current_state self.old) (seen_id id.entry) method.now (option_map (λ v. view v.now) params.entry)) (Gives (tells (current_state self.new) v.items)) (D.answers store.old) (D.answers store.new)) }
+        ensures counted { OnOk result (D.faults store.new ≡ D.faults store.old) }
+        ensures refused { IfErr result (λ e. Refused e (on_request self.old.phase (current_state self.old) (seen_id id.entry) method.now (option_map (λ v. view v.now) params.entry)) (D.answers store.old) (D.answers store.new) (D.faults store.old) (D.faults store.new)) }
+    {
+        match self.phase {
+            Phase::Fresh => self.on_fresh_request(id, method, params, store),
+            Phase::Running => match self.on_running_request(id, method) {
+                Ok(bytes) => Ok(bytes),
+                Err(_) => Err(SessionError::NoMemory),
+            },
+            Phase::Down => match error(self.alloc, Some(id), -32600, "shut down") {
+                Ok(bytes) => Ok(bytes),
+                Err(_) => Err(SessionError::NoMemory),
+            },
+        }
+    }
+
+    /// A notification between `initialize` and `shutdown`.
+    #[tactic(auto, unfolding(crate::specs::React::running_notification))]
+    fn on_running_notification<D: Store>(
+        &mut self,
+        method: &str,
+        params: Option<&Value>,
+        store: &mut D,
+    ) -> Result<Vec<u8>, SessionError>
+        requires { D.faults store.old + 1 < 2 ^ 64 }
+        ensures handled { IfOk result (λ v. Reached (running_notification (current_state self.old) method.now (option_map (λ v. view v.now) params.entry)) (Gives (tells (current_state self.new) v.items)) (D.answers store.old) (D.answers store.new)) }
+        ensures counted { OnOk result (D.faults store.new ≡ D.faults store.old) }
+        ensures refused { IfErr result (λ e. Refused e (running_notification (current_state self.old) method.now (option_map (λ v. view v.now) params.entry)) (D.answers store.old) (D.answers store.new) (D.faults store.old) (D.faults store.new)) }
+    {
+        if method == "textDocument/didOpen" {
+            match self.on_open(params) {
+                Ok(bytes) => return Ok(bytes),
+                Err(_) => return Err(SessionError::NoMemory),
+            }
+        }
+        if method == "textDocument/didChange" {
+            match self.on_change(params) {
+                Ok(bytes) => return Ok(bytes),
+                Err(_) => return Err(SessionError::NoMemory),
+            }
+        }
+        if method == "textDocument/didClose" {
+            return self.on_close(params, store);
+        }
+        if method == "workspace/didChangeWatchedFiles" {
+            return self.on_watch(params, store);
+        }
+        Ok(Vec::new(self.alloc))
+    }
+
+    /// A notification.
+    #[tactic(auto, unfolding(crate::specs::React::on_notification))]
+    fn on_notification<D: Store>(
+        &mut self,
+        method: &str,
+        params: Option<&Value>,
+        store: &mut D,
+    ) -> Result<Reply, SessionError>
+        requires { D.faults store.old + 1 < 2 ^ 64 }
+        ensures handled { IfOk result (λ reply. Reached (on_notification (current_state self.old) method.now (option_map (λ v. view v.now) params.entry)) (Gives (outcome_of self.new reply)) (D.answers store.old) (D.answers store.new)) }
+        ensures counted { OnOk result (D.faults store.new ≡ D.faults store.old) }
+        ensures refused { IfErr result (λ e. Refused e (on_notification (current_state self.old) method.now (option_map (λ v. view v.now) params.entry)) (D.answers store.old) (D.answers store.new) (D.faults store.old) (D.faults store.new)) }
+    {
+        if method == "exit" {
+            return Ok(Reply {
+                bytes: Vec::new(self.alloc),
+                end: Some(self.phase.exit_status()),
+            });
+        }
+        if !self.phase.is_running() {
+            return Ok(Reply {
+                bytes: Vec::new(self.alloc),
+                end: None,
+            });
+        }
+        match self.on_running_notification(method, params, store) {
+            Ok(bytes) => Ok(Reply { bytes, end: None }),
+            Err(error) => Err(error),
+        }
+    }
+
+    /// The error response to a content that is no request, without an id or with one that may be known.
+    fn on_faulty(&self, id: Option<Id<'_>>, code: i32, text: &str) -> Result<Reply, AllocError>
+        ensures { IfOk result (λ reply. rejects (current_state self.now) (option_map seen_id id.entry) code text.now ≡ outcome_of self.now reply) }
+    {
+        let bytes = error(self.alloc, id, code, text)?;
+        Ok(Reply { bytes, end: None })
+    }
+
+    /// A content that is neither a request nor a notification.
+    fn on_other(&self, message: &Message<'_>) -> Result<Reply, AllocError>
+        ensures { IfOk result (λ reply. on_other (current_state self.now) (seen message.now) ≡ outcome_of self.now reply) }
+    {
+        match message {
+            Message::NotJson => self.on_faulty(None, -32700, "not JSON"),
+            Message::Batch => self.on_faulty(None, -32600, "batch"),
+            Message::NotObject => self.on_faulty(None, -32600, "not an object"),
+            Message::BadId => self.on_faulty(None, -32600, "bad id"),
+            Message::BadMethod(id) => self.on_faulty(*id, -32600, "bad method"),
+            _ => Ok(Reply {
+                bytes: Vec::new(self.alloc),
+                end: None,
+            }),
+        }
+    }
+
+    /// What is done with a message. After an error this isn't used again.
+    pub fn on_message<D: Store>(
+        &mut self,
+        message: &Message<'_>,
+        store: &mut D,
+    ) -> Result<Reply, SessionError>
+        requires { D.faults store.old + 1 < 2 ^ 64 }
+        ensures handled { IfOk result (λ reply. Reached (on_message (current_state self.old) (seen message.now)) (Gives (outcome_of self.new reply)) (D.answers store.old) (D.answers store.new)) }
+        ensures counted { OnOk result (D.faults store.new ≡ D.faults store.old) }
+        ensures refused { IfErr result (λ e. Refused e (on_message (current_state self.old) (seen message.now)) (D.answers store.old) (D.answers store.new) (D.faults store.old) (D.faults store.new)) }
+    {
+        match message {
+            Message::Request { id, method, params } => {
+                match self.on_request(*id, *method, *params, store) {
+                    Ok(bytes) => Ok(Reply { bytes, end: None }),
+                    Err(error) => Err(error),
+                }
+            }
+            Message::Notification { method, params } => {
+                self.on_notification(*method, *params, store)
+            }
+            _ => match self.on_other(message) {
+                Ok(reply) => Ok(reply),
+                Err(_) => Err(SessionError::NoMemory),
+            },
+        }
+    }
+}
