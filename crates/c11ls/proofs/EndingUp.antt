@@ -1,5 +1,5 @@
 -- How a call ends, by its status.
-use Rattle.std.proofs.Common.{◌≡◌, ◌≤◌, ◌^◌, ◌==◌, ℕ, List, [], ◌∷◌, ◌++◌, take, drop, length, Bool, false, cond, Option, None, Some, option_map, IfSome, refl, sym, ap, subst, ◌∙◌, append-nil, append_assoc, length-append, arith, drop_of_length-le, length-drop}
+use Rattle.std.proofs.Common.{◌≡◌, ◌≤◌, ◌^◌, ◌==◌, ℕ, List, [], ◌∷◌, ◌++◌, take, drop, length, Bool, false, cond, Option, None, Some, option_map, IfSome, refl, sym, ap, subst, ◌∙◌, append-nil, append_assoc, arith, drop_of_length-le, length-drop}
 use Rattle.std.proofs.lemmas.List.{take-append-drop}
 use Rattle.std.specs.Prelude.{slice_get}
 use Rattle.io_edges.specs.Store.{Entry}
@@ -21,7 +21,7 @@ use Rattle.c11ls.specs.declared.status.Status.TheVariants as status
 use Rattle.c11ls.proofs.Framing.{ContentsStay, BadStays}
 use Rattle.c11ls.proofs.Reacting.{used_by, used_within, handled_reacts, failed_wants}
 use Rattle.c11ls.proofs.Moving.{moves_writing}
-use Rattle.c11ls.proofs.Playing.{IsComplete, play-append, play_stays, play_one_more, play_one_wants, played_to, after_reply, then_play}
+use Rattle.c11ls.proofs.Playing.{play-append, play_one_more, play_one_wants, played_to, after_reply, then_play}
 use Rattle.c11ls.proofs.Interrupting.{interrupted_between}
 use Rattle.c11ls.proofs.Wanting.{split_at}
 use Rattle.c11ls.proofs.GoingOn.{Gave, next_wanted, interrupted_at, whatever_left, first_more, first_stays, all_handled, settled_played}

@@ -1,5 +1,5 @@
 -- Laws of the reaction to one content.
-use Rattle.std.proofs.Common.{◌≡◌, ◌≤◌, ℕ, suc, List, [], ◌∷◌, ◌++◌, length, Bool, true, false, cond, Option, None, Some, option_and_then, option_map, is_some, T, refl, sym, ap, subst, ◌∙◌, append-nil, bytes_eq, zero-add, add-zero, arith}
+use Rattle.std.proofs.Common.{◌≡◌, ◌≤◌, ℕ, List, [], ◌∷◌, ◌++◌, length, Bool, true, false, cond, Option, None, Some, option_and_then, option_map, is_some, T, refl, sym, ap, subst, ◌∙◌, append-nil, bytes_eq, add-zero, arith}
 use Rattle.std.proofs.lemmas.Slice.Eq.{bytes_eq-Decides}
 use Rattle.io_edges.specs.Store.{Call, Entry, Lists, Reads, ListCall, ReadCall, call_of}
 use Rattle.asking.specs.Asking.{Asks}

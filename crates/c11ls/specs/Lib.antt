@@ -7,4 +7,3 @@ pub mod Plain
 pub mod Serve
 pub mod Served
 pub mod Turn
-pub mod Words

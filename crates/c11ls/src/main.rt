@@ -2,7 +2,7 @@
 #![tactic(auto)]
 
 ghost use Rattle.std.specs.Prelude.{◌≡◌, ◌⊎◌, ◌<◌, false};
-ghost use Rattle.c11ls.specs.Words.{texts, are_grammatical};
+ghost use Rattle.project_conf.specs.Words.{texts, are_grammatical};
 ghost use Rattle.c11ls.specs.declared.status.Status.TheVariants as Status;
 
 mod laws;

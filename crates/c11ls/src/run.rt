@@ -3,7 +3,8 @@ ghost use Rattle.std.specs.Prelude.{◌≡◌, ◌+◌, ◌<◌, ◌≤◌, ◌^
 ghost use Rattle.io_edges.specs.Wire.{after_read};
 ghost use Rattle.c11ls.specs.Going.{Drained, Ended, EndsInput, IsInStep};
 ghost use Rattle.c_session.specs.Sessions.{state_of, handled_by};
-ghost use Rattle.project_conf.specs.Options.{no_options};
+ghost use Rattle.project_conf.specs.Defines.{AreUsable};
+ghost use Rattle.project_conf.specs.declared.options.Options.{Options};
 ghost use Rattle.c11ls.specs.Turn.{IsCounted};
 
 use crate::status::Status;
@@ -35,7 +36,7 @@ fn drain<W: Wire, D: Store, L: Ledger>(
     requires store { D.faults store.old + 1 < 2 ^ 64 }
     requires step { IsInStep frames.old (handled_by session.old) }
     ensures step { result ≡ None → IsInStep frames.new (handled_by session.new) }
-    ensures drained { Drained no_options result (W.told wire.old) (W.told wire.new) (D.answers store.old) (D.answers store.new) (state_of session.old) (state_of session.new) frames.old frames.new }
+    ensures drained { (options : Options) → Drained options result (W.told wire.old) (W.told wire.new) (D.answers store.old) (D.answers store.new) (state_of session.old) (state_of session.new) frames.old frames.new }
     ensures counted { IsCounted result (W.read_faults wire.old) (W.read_faults wire.new) (W.write_faults wire.old) (W.write_faults wire.new) (D.faults store.old) (D.faults store.new) }
 {
     // laws, for `drained` and for the condition of `handle`
@@ -99,21 +100,23 @@ fn new_buffer(alloc: Global) -> Result<Vec<u8>, AllocError>
 /// Reads and handles until the call ends.
 fn reads<W: Wire, D: Store, L: Ledger>(
     alloc: Global,
+    options: Options,
     buffer: &mut Vec<u8>,
     wire: &mut W,
     store: &mut D,
     steps: &mut Steps<L>,
 ) -> Status
     requires room { vec_len buffer.old ≡ 65536 }
+    requires usable { AreUsable 131072 options.defines }
     requires source { W.read_faults wire.old + 1 < 2 ^ 64 }
     requires sink { W.write_faults wire.old + 1 < 2 ^ 64 }
     requires store { D.faults store.old + 1 < 2 ^ 64 }
-    ensures ended { Ended no_options result (W.told wire.old) (W.told wire.new) (D.answers store.old) (D.answers store.new) }
+    ensures ended { Ended options result (W.told wire.old) (W.told wire.new) (D.answers store.old) (D.answers store.new) }
     ensures counted { IsCounted (Some result) (W.read_faults wire.old) (W.read_faults wire.new) (W.write_faults wire.old) (W.write_faults wire.new) (D.faults store.old) (D.faults store.new) }
 {
     // a law, for `ended`
     contents_stay();
-    let mut session = Session::new(alloc, Options::none(alloc));
+    let mut session = Session::new(alloc, options);
     let mut frames = Frames::new(alloc);
     let mut taken: u64 = 0;
     'reads: loop {
@@ -142,18 +145,20 @@ fn reads<W: Wire, D: Store, L: Ledger>(
 /// Serves the client until the call ends.
 pub fn run<W: Wire, D: Store, L: Ledger>(
     alloc: Global,
+    options: Options,
     wire: &mut W,
     store: &mut D,
     steps: &mut Steps<L>,
 ) -> Status
+    requires usable { AreUsable 131072 options.defines }
     requires source { W.read_faults wire.old + 1 < 2 ^ 64 }
     requires sink { W.write_faults wire.old + 1 < 2 ^ 64 }
     requires store { D.faults store.old + 1 < 2 ^ 64 }
-    ensures ended { Ended no_options result (W.told wire.old) (W.told wire.new) (D.answers store.old) (D.answers store.new) }
+    ensures ended { Ended options result (W.told wire.old) (W.told wire.new) (D.answers store.old) (D.answers store.new) }
     ensures counted { IsCounted (Some result) (W.read_faults wire.old) (W.read_faults wire.new) (W.write_faults wire.old) (W.write_faults wire.new) (D.faults store.old) (D.faults store.new) }
 {
     match new_buffer(alloc) {
-        Ok(mut buffer) => reads(alloc, &mut buffer, wire, store, steps),
+        Ok(mut buffer) => reads(alloc, options, &mut buffer, wire, store, steps),
         Err(_) => Status::NoMemory,
     }
 }

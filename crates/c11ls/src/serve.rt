@@ -6,7 +6,7 @@ ghost use Rattle.c11ls.specs.Going.{Ended};
 ghost use Rattle.c11ls.specs.Lines.{WritesLine};
 ghost use Rattle.c11ls.specs.Served.{Served};
 ghost use Rattle.c11ls.specs.Turn.{IsCounted};
-ghost use Rattle.c11ls.specs.Words.{texts, are_grammatical, serves, options_of};
+ghost use Rattle.project_conf.specs.Words.{texts, are_grammatical, serves, options_of};
 ghost use Rattle.std.specs.Prelude.{Some};
 
 use crate::lines::write_line;
@@ -14,6 +14,7 @@ use crate::run::run;
 use crate::status::Status;
 use c_session::{exits_alone_end, requests_are_answered};
 use io_edges::{Sink, Store, Wire};
+use project_conf::WordError;
 use std::alloc::Global;
 use std::sync::ledger::Ledger;
 use steps::Steps;
@@ -30,7 +31,7 @@ fn answer<W: Wire, D: Store, L: Ledger>(
     requires sink { W.write_faults wire.old + 1 < 2 ^ 64 }
     requires store { D.faults store.old + 1 < 2 ^ 64 }
     ensures usage { result ≡ Status.Usage → are_grammatical (texts words.now) ≡ false }
-    ensures refused { are_grammatical (texts words.now) ≡ false → result ≡ Status.Usage }
+    ensures refused { are_grammatical (texts words.now) ≡ false → (result ≡ Status.Usage) ⊎ (result ≡ Status.NoMemory) }
     ensures wire_stays { are_grammatical (texts words.now) ≡ false → W.told wire.new ≡ W.told wire.old }
     ensures store_stays { are_grammatical (texts words.now) ≡ false → D.answers store.new ≡ D.answers store.old }
     ensures read_stays { are_grammatical (texts words.now) ≡ false → W.read_faults wire.new ≡ W.read_faults wire.old }
@@ -39,10 +40,12 @@ fn answer<W: Wire, D: Store, L: Ledger>(
     ensures ended { serves (texts words.now) ≡ true → Ended (options_of (texts words.now)) result (W.told wire.old) (W.told wire.new) (D.answers store.old) (D.answers store.new) }
     ensures counted { IsCounted (Some result) (W.read_faults wire.old) (W.read_faults wire.new) (W.write_faults wire.old) (W.write_faults wire.new) (D.faults store.old) (D.faults store.new) }
 {
-    if !words.is_empty() {
-        return Status::Usage;
-    }
-    run(alloc, wire, store, steps)
+    let options = match project_conf::words(alloc, words) {
+        Ok(options) => options,
+        Err(WordError::Usage) => return Status::Usage,
+        Err(WordError::NoMemory) => return Status::NoMemory,
+    };
+    run(alloc, options, wire, store, steps)
 }
 
 /// Writes the line of a status, or a front of it.

@@ -1,12 +1,12 @@
 -- Laws of what asks the store.
-use Rattle.std.proofs.Common.{◌≡◌, ◌<◌, ℕ, List, [], ◌∷◌, ◌++◌, Option, None, Some, option_and_then, option_map, Bool, true, false, cond, is_some, T, refl, sym, ap, ◌∙◌, subst, append-nil, append_assoc, bytes_eq}
+use Rattle.std.proofs.Common.{◌≡◌, ◌<◌, ℕ, List, [], ◌∷◌, ◌++◌, Option, None, Some, option_and_then, option_map, true, cond, is_some, T, refl, sym, ap, ◌∙◌, subst, append-nil, append_assoc, bytes_eq}
 use Rattle.std.proofs.lemmas.Slice.Eq.{bytes_eq-Decides}
 use Rattle.io_edges.specs.Store.{Call, Entry, Lists, Reads, ReadCall, after_answer}
 use Rattle.io_edges.specs.declared.ends.Listed.{Listed}
 use Rattle.io_edges.specs.declared.ends.Found.{Found}
-use Rattle.asking.specs.Asking.{Answers, Asks, asks_all}
+use Rattle.asking.specs.Asking.{Asks}
 use Rattle.asking.proofs.InTurn.{after_append, then_answered}
-use Rattle.c_session.specs.Asking.{Asking, Gives, Answer, answer_in, calls, asks_list, asks_read, and_then, after_all, next_call}
+use Rattle.c_session.specs.Asking.{Asking, Gives, calls, asks_list, asks_read, and_then, after_all, next_call}
 use Rattle.c_session.specs.Handled.{Answered, Reached, GaveUp, IsFault, Refused}
 use Rattle.c_session.specs.declared.error.SessionError.{SessionError}
 use Rattle.c_session.specs.declared.error.SessionError.TheVariants.{StoreFault, NoMemory}

@@ -26,7 +26,7 @@ loading texts logs = record { texts = texts; logs = logs }
 
 -- the state behind a reply, and the reply
 abbrev pub outcome_of : Current → Reply → Outcome
-outcome_of current reply = outcome (current_state current) reply.bytes.items reply.end
+outcome_of current reply = outcome (current_state current) reply.bytes reply.end
 
 -- what `initialize` states
 abbrev pub seen_beginning : code.Beginning → Beginning

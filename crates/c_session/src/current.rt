@@ -1,5 +1,5 @@
 // What the server keeps between two contents, and its reaction to a message.
-ghost use Rattle.std.specs.Prelude.{◌≡◌, ◌≢◌, ◌+◌, ◌++◌, ◌<◌, ◌^◌, [], Some, Ok, IfOk, IfErr, OnOk, option_map, map, codes};
+ghost use Rattle.std.specs.Prelude.{◌≡◌, ◌≢◌, ◌+◌, ◌++◌, ◌<◌, ◌^◌, [], None, Some, Ok, IfOk, IfErr, OnOk, option_map, map, codes};
 ghost use Rattle.serde_json.specs.View.{view};
 ghost use Rattle.c_session.specs.Asking.{Gives};
 ghost use Rattle.c_session.specs.Handled.{Reached, Refused};
@@ -11,7 +11,7 @@ ghost use Rattle.c_session.specs.Loading.{read_back};
 ghost use Rattle.c_session.specs.News.{news, HasPublished};
 ghost use Rattle.c_session.specs.Replies.{log, error};
 ghost use Rattle.c_session.specs.SeenParams.{seen_file_change};
-ghost use Rattle.c_session.specs.Seen.{seen, seen_id};
+ghost use Rattle.c_session.specs.Seen.{seen};
 ghost use Rattle.c_session.specs.Sessions.{current_state, loading, outcome_of};
 ghost use Rattle.c_session.specs.State.{fresh};
 ghost use Rattle.c_session.specs.declared.reasons.Refusal.TheVariants.{NoMemory};
@@ -19,7 +19,7 @@ ghost use Rattle.c_session.specs.declared.reasons.Refusal.TheVariants.{NoMemory}
 use crate::documents::{change_document, close_document, open_document};
 use crate::error::SessionError;
 use crate::loading::read_back;
-use crate::message::{Id, Message};
+use crate::message::Message;
 use crate::news::{prior_of, push_news, push_publication};
 use crate::params::{FileChange, watching_in};
 use crate::phase::Phase;
@@ -29,17 +29,35 @@ use crate::starting::{Beginning, Loaded, beginning_in, load_root};
 use crate::watching::update_all;
 use doc_texts::{Docs, PriorTexts};
 use io_edges::Store;
+use json_view::Id;
 use project_conf::Options;
 use serde_json::Value;
+use shared_list::Listing;
 use std::alloc::{AllocError, Global};
 use text_lines::Encoding;
 use uri_paths::Path;
 
+/// Frames for the client, one behind the other.
+pub type ReplyBytes = Listing<u8>;
+
 /// The reply to a content: frames for the client, and the status of an end where the content is an `exit`.
 #[derive(Drop)]
 pub struct Reply {
-    pub bytes: Vec<u8>,
+    pub bytes: ReplyBytes,
     pub end: Option<u8>,
+}
+
+impl Reply {
+    /// The reply that goes on.
+    fn of(bytes: Vec<u8>) -> Reply
+        ensures bytes { result.bytes ≡ bytes.items }
+        ensures end { result.end ≡ None }
+    {
+        Reply {
+            bytes: ReplyBytes::from_vec(bytes),
+            end: None,
+        }
+    }
 }
 
 /// What the server keeps between two contents: the current texts and the session's settings.
@@ -90,9 +108,9 @@ impl Current {
     }
 
     /// The error response to a request whose params are refused.
-    fn reject(&self, id: Id<'_>, refusal: Refusal) -> Result<Vec<u8>, AllocError>
+    fn reject(&self, id: &Id, refusal: Refusal) -> Result<Vec<u8>, AllocError>
         ensures refused { IfOk result (λ _. refusal ≢ NoMemory) }
-        ensures error { IfOk result (λ v. v.items ≡ error (Some (seen_id id.entry)) invalid_params (reason_text (reason refusal))) }
+        ensures error { IfOk result (λ v. v.items ≡ error (Some id.now) invalid_params (reason_text (reason refusal))) }
     {
         let text = match refusal.text(self.alloc) {
             Ok(text) => text,
@@ -268,13 +286,8 @@ impl Current {
     }
 
     /// The session begins with these texts: it answers `initialize`, and publishes what they show.
-    fn begin(
-        &mut self,
-        id: Id<'_>,
-        encoding: Encoding,
-        loaded: Loaded,
-    ) -> Result<Vec<u8>, AllocError>
-        ensures { IfOk result (λ v. begins (current_state self.old) (seen_id id.entry) encoding (loading loaded.docs loaded.logs.items) ≡ tells (current_state self.new) v.items) }
+    fn begin(&mut self, id: &Id, encoding: Encoding, loaded: Loaded) -> Result<Vec<u8>, AllocError>
+        ensures { IfOk result (λ v. begins (current_state self.old) id.now encoding (loading loaded.docs loaded.logs.items) ≡ tells (current_state self.new) v.items) }
     {
         let Loaded { docs, logs } = loaded;
         let prior = prior_of(self.alloc, &self.docs, &docs)?;
@@ -292,14 +305,14 @@ impl Current {
     /// `initialize`.
     fn on_initialize<D: Store>(
         &mut self,
-        id: Id<'_>,
+        id: &Id,
         params: Option<&Value>,
         store: &mut D,
     ) -> Result<Vec<u8>, SessionError>
         requires { D.faults store.old + 1 < 2 ^ 64 }
-        ensures handled { IfOk result (λ v. Reached (starts (current_state self.old) (seen_id id.entry) (beginning_by (option_map (λ v. view v.now) params.entry))) (Gives (tells (current_state self.new) v.items)) (D.answers store.old) (D.answers store.new)) }
+        ensures handled { IfOk result (λ v. Reached (starts (current_state self.old) id.now (beginning_by (option_map (λ v. view v.now) params.entry))) (Gives (tells (current_state self.new) v.items)) (D.answers store.old) (D.answers store.new)) }
         ensures counted { OnOk result (D.faults store.new ≡ D.faults store.old) }
-        ensures refused { IfErr result (λ e. Refused e (starts (current_state self.old) (seen_id id.entry) (beginning_by (option_map (λ v. view v.now) params.entry))) (D.answers store.old) (D.answers store.new) (D.faults store.old) (D.faults store.new)) }
+        ensures refused { IfErr result (λ e. Refused e (starts (current_state self.old) id.now (beginning_by (option_map (λ v. view v.now) params.entry))) (D.answers store.old) (D.answers store.new) (D.faults store.old) (D.faults store.new)) }
     {
         let beginning = match beginning_in(self.alloc, params) {
             Ok(beginning) => beginning,
@@ -325,15 +338,15 @@ impl Current {
     #[tactic(auto, unfolding(crate::specs::React::fresh_request))]
     fn on_fresh_request<D: Store>(
         &mut self,
-        id: Id<'_>,
+        id: &Id,
         method: &str,
         params: Option<&Value>,
         store: &mut D,
     ) -> Result<Vec<u8>, SessionError>
         requires { D.faults store.old + 1 < 2 ^ 64 }
-        ensures handled { IfOk result (λ v. Reached (fresh_request (current_state self.old) (seen_id id.entry) method.now (option_map (λ v. view v.now) params.entry)) (Gives (tells (current_state self.new) v.items)) (D.answers store.old) (D.answers store.new)) }
+        ensures handled { IfOk result (λ v. Reached (fresh_request (current_state self.old) id.now method.now (option_map (λ v. view v.now) params.entry)) (Gives (tells (current_state self.new) v.items)) (D.answers store.old) (D.answers store.new)) }
         ensures counted { OnOk result (D.faults store.new ≡ D.faults store.old) }
-        ensures refused { IfErr result (λ e. Refused e (fresh_request (current_state self.old) (seen_id id.entry) method.now (option_map (λ v. view v.now) params.entry)) (D.answers store.old) (D.answers store.new) (D.faults store.old) (D.faults store.new)) }
+        ensures refused { IfErr result (λ e. Refused e (fresh_request (current_state self.old) id.now method.now (option_map (λ v. view v.now) params.entry)) (D.answers store.old) (D.answers store.new) (D.faults store.old) (D.faults store.new)) }
     {
         if method == "initialize" {
             return self.on_initialize(id, params, store);
@@ -346,8 +359,8 @@ impl Current {
 
     /// A request between `initialize` and `shutdown`.
     #[tactic(auto, unfolding(crate::specs::React::running_request))]
-    fn on_running_request(&mut self, id: Id<'_>, method: &str) -> Result<Vec<u8>, AllocError>
-        ensures { IfOk result (λ v. running_request (current_state self.old) (seen_id id.entry) method.now ≡ tells (current_state self.new) v.items) }
+    fn on_running_request(&mut self, id: &Id, method: &str) -> Result<Vec<u8>, AllocError>
+        ensures { IfOk result (λ v. running_request (current_state self.old) id.now method.now ≡ tells (current_state self.new) v.items) }
     {
         if method == "initialize" {
             return error(self.alloc, Some(id), -32600, "already initialized");
@@ -362,15 +375,15 @@ impl Current {
 
     fn on_request<D: Store>(
         &mut self,
-        id: Id<'_>,
+        id: &Id,
         method: &str,
         params: Option<&Value>,
         store: &mut D,
     ) -> Result<Vec<u8>, SessionError>
         requires { D.faults store.old + 1 < 2 ^ 64 }
-        ensures handled { IfOk result (λ v. Reached (on_request self.old.phase (current_state self.old) (seen_id id.entry) method.now (option_map (λ v. view v.now) params.entry)) (Gives (tells (current_state self.new) v.items)) (D.answers store.old) (D.answers store.new)) }
+        ensures handled { IfOk result (λ v. Reached (on_request self.old.phase (current_state self.old) id.now method.now (option_map (λ v. view v.now) params.entry)) (Gives (tells (current_state self.new) v.items)) (D.answers store.old) (D.answers store.new)) }
         ensures counted { OnOk result (D.faults store.new ≡ D.faults store.old) }
-        ensures refused { IfErr result (λ e. Refused e (on_request self.old.phase (current_state self.old) (seen_id id.entry) method.now (option_map (λ v. view v.now) params.entry)) (D.answers store.old) (D.answers store.new) (D.faults store.old) (D.faults store.new)) }
+        ensures refused { IfErr result (λ e. Refused e (on_request self.old.phase (current_state self.old) id.now method.now (option_map (λ v. view v.now) params.entry)) (D.answers store.old) (D.answers store.new) (D.faults store.old) (D.faults store.new)) }
     {
         match self.phase {
             Phase::Fresh => self.on_fresh_request(id, method, params, store),
@@ -434,28 +447,25 @@ impl Current {
     {
         if method == "exit" {
             return Ok(Reply {
-                bytes: Vec::new(self.alloc),
+                bytes: ReplyBytes::from_vec(Vec::new(self.alloc)),
                 end: Some(self.phase.exit_status()),
             });
         }
         if !self.phase.is_running() {
-            return Ok(Reply {
-                bytes: Vec::new(self.alloc),
-                end: None,
-            });
+            return Ok(Reply::of(Vec::new(self.alloc)));
         }
         match self.on_running_notification(method, params, store) {
-            Ok(bytes) => Ok(Reply { bytes, end: None }),
+            Ok(bytes) => Ok(Reply::of(bytes)),
             Err(error) => Err(error),
         }
     }
 
     /// The error response to a content that is no request, without an id or with one that may be known.
-    fn on_faulty(&self, id: Option<Id<'_>>, code: i32, text: &str) -> Result<Reply, AllocError>
-        ensures { IfOk result (λ reply. rejects (current_state self.now) (option_map seen_id id.entry) code text.now ≡ outcome_of self.now reply) }
+    fn on_faulty(&self, id: Option<&Id>, code: i32, text: &str) -> Result<Reply, AllocError>
+        ensures { IfOk result (λ reply. rejects (current_state self.now) (option_map (λ i. i.now) id.entry) code text.now ≡ outcome_of self.now reply) }
     {
         let bytes = error(self.alloc, id, code, text)?;
-        Ok(Reply { bytes, end: None })
+        Ok(Reply::of(bytes))
     }
 
     /// A content that is neither a request nor a notification.
@@ -467,11 +477,8 @@ impl Current {
             Message::Batch => self.on_faulty(None, -32600, "batch"),
             Message::NotObject => self.on_faulty(None, -32600, "not an object"),
             Message::BadId => self.on_faulty(None, -32600, "bad id"),
-            Message::BadMethod(id) => self.on_faulty(*id, -32600, "bad method"),
-            _ => Ok(Reply {
-                bytes: Vec::new(self.alloc),
-                end: None,
-            }),
+            Message::BadMethod(id) => self.on_faulty(id.as_ref(), -32600, "bad method"),
+            _ => Ok(Reply::of(Vec::new(self.alloc))),
         }
     }
 
@@ -488,8 +495,8 @@ impl Current {
     {
         match message {
             Message::Request { id, method, params } => {
-                match self.on_request(*id, *method, *params, store) {
-                    Ok(bytes) => Ok(Reply { bytes, end: None }),
+                match self.on_request(id, *method, *params, store) {
+                    Ok(bytes) => Ok(Reply::of(bytes)),
                     Err(error) => Err(error),
                 }
             }

@@ -19,7 +19,7 @@ mod session;
 mod starting;
 mod watching;
 
-pub use current::Reply;
+pub use current::{Reply, ReplyBytes};
 pub use error::SessionError;
 pub use laws::{
     exits_alone_end, refusals_change_nothing, requests_are_answered, responses_are_no_notices,

@@ -1,36 +1,30 @@
 // The kind of a content: a JSON-RPC 2.0 message.
 ghost use Rattle.std.specs.Prelude.{◌≡◌, option_map, IfOk};
+ghost use Rattle.std.specs.Result.{result_ok};
 ghost use Rattle.serde_json.specs.View.{view};
-ghost use Rattle.c_session.specs.Message.{value_of, id_of, of_value, of_read};
-ghost use Rattle.c_session.specs.Seen.{seen, seen_id};
+ghost use Rattle.json_view.specs.Members.{id_of};
+ghost use Rattle.c_session.specs.Message.{value_of, of_value, of_read};
+ghost use Rattle.c_session.specs.Seen.{seen};
 
+use json_view::{Id, ViewError, get_id};
 use serde_json::Value;
 use std::alloc::{AllocError, Global};
 
-/// The id of a request, of which a text is lent by the content's value.
-#[derive(Clone, Copy, Debug)]
-pub enum Id<'a> {
-    Text(&'a str),
-    Int(i64),
-    /// A whole number from 2^63 on.
-    Big(u64),
-}
-
 /// The kind of a content.
-#[derive(Clone, Copy)]
+#[derive(Drop)]
 pub enum Message<'a> {
     NotJson,
     Batch,
     NotObject,
     Ignored,
     BadId,
-    BadMethod(Option<Id<'a>>),
+    BadMethod(Option<Id>),
     Notification {
         method: &'a str,
         params: Option<&'a Value>,
     },
     Request {
-        id: Id<'a>,
+        id: Id,
         method: &'a str,
         params: Option<&'a Value>,
     },
@@ -52,58 +46,55 @@ pub fn read_content(alloc: Global, content: &[u8]) -> Result<Option<Value>, Allo
     }
 }
 
-/// The id that a value stands for, None where it is neither a text nor a whole number of 64 bits.
-fn id_of<'a>(value: &'a Value) -> Option<Id<'a>>
-    ensures { option_map seen_id result ≡ id_of (view value.now) }
+/// The id that a value has, None where it has none that is a text or a whole number of 64 bits.
+fn id_of(alloc: Global, value: &Value) -> Result<Option<Id>, AllocError>
+    ensures { IfOk result (λ id. id ≡ result_ok (id_of (view value.now))) }
 {
-    if let Some(text) = value.as_str() {
-        return Some(Id::Text(text));
+    match get_id(alloc, value) {
+        Ok(id) => Ok(Some(id)),
+        Err(ViewError::Missing(_)) => Ok(None),
+        Err(ViewError::WrongKind(_)) => Ok(None),
+        Err(ViewError::OutOfRange(_)) => Ok(None),
+        Err(ViewError::NoMemory) => Err(AllocError),
     }
-    if let Some(number) = value.as_i64() {
-        return Some(Id::Int(number));
-    }
-    if let Some(number) = value.as_u64() {
-        return Some(Id::Big(number));
-    }
-    None
 }
 
 /// The kind of a value (JSON-RPC 2.0, sections 4 to 6).
 #[tactic(auto, unfolding(crate::specs::Message::of_value))]
-fn kind_of<'a>(value: &'a Value) -> Message<'a>
-    ensures { seen result ≡ of_value (view value.now) }
+fn kind_of<'a>(alloc: Global, value: &'a Value) -> Result<Message<'a>, AllocError>
+    ensures { IfOk result (λ message. seen message ≡ of_value (view value.now)) }
 {
     if value.is_array() {
-        return Message::Batch;
+        return Ok(Message::Batch);
     }
     if !value.is_object() {
-        return Message::NotObject;
+        return Ok(Message::NotObject);
     }
     let Some(method) = value.get("method") else {
-        return Message::Ignored;
+        return Ok(Message::Ignored);
     };
     let params = value.get("params");
-    let Some(given) = value.get("id") else {
+    if value.get("id").is_none() {
         let Some(method) = method.as_str() else {
-            return Message::BadMethod(None);
+            return Ok(Message::BadMethod(None));
         };
-        return Message::Notification { method, params };
-    };
-    let Some(id) = id_of(given) else {
-        return Message::BadId;
+        return Ok(Message::Notification { method, params });
+    }
+    let Some(id) = id_of(alloc, value)? else {
+        return Ok(Message::BadId);
     };
     let Some(method) = method.as_str() else {
-        return Message::BadMethod(Some(id));
+        return Ok(Message::BadMethod(Some(id)));
     };
-    Message::Request { id, method, params }
+    Ok(Message::Request { id, method, params })
 }
 
 /// The kind of the content whose value this is.
-pub fn message_of<'a>(value: &'a Option<Value>) -> Message<'a>
-    ensures { seen result ≡ of_read (option_map view value.now) }
+pub fn message_of<'a>(alloc: Global, value: &'a Option<Value>) -> Result<Message<'a>, AllocError>
+    ensures { IfOk result (λ message. seen message ≡ of_read (option_map view value.now)) }
 {
     match value {
-        None => Message::NotJson,
-        Some(value) => kind_of(value),
+        None => Ok(Message::NotJson),
+        Some(value) => kind_of(alloc, value),
     }
 }

@@ -3,9 +3,8 @@ ghost use Rattle.std.specs.Prelude.{◌≡◌, ◌++◌, false, option_map, IfOk
 ghost use Rattle.serde_json.specs.View.{view};
 ghost use Rattle.serde_json.specs.Written.{has_float, compact_text};
 ghost use Rattle.c_session.specs.Replies.{header, framed, id_data, id_or_null, response_data, error_data, log_data, response, error, log, encoding_name, initialize_result};
-ghost use Rattle.c_session.specs.Seen.{seen_id};
 
-use crate::message::Id;
+use json_view::Id;
 use serde_json::{Value, json};
 use std::alloc::{AllocError, Global};
 use text_lines::Encoding;
@@ -37,22 +36,22 @@ fn framed(alloc: Global, content: &str) -> Result<Vec<u8>, AllocError>
     Ok(out)
 }
 
-fn id_value(alloc: Global, id: Id<'_>) -> Result<Value, AllocError>
-    ensures { IfOk result (λ v. view v ≡ id_data (seen_id id.entry)) }
+fn id_value(alloc: Global, id: &Id) -> Result<Value, AllocError>
+    ensures { IfOk result (λ v. view v ≡ id_data id.now) }
 {
     match id {
         Id::Text(text) => {
-            let text = String::from_str(alloc, text)?;
+            let text = String::from_str(alloc, text.as_str())?;
             Ok(Value::String(text))
         }
-        Id::Int(number) => Ok(Value::from(number)),
-        Id::Big(number) => Ok(Value::from(number)),
+        Id::Int(number) => Ok(Value::from(*number)),
+        Id::Big(number) => Ok(Value::from(*number)),
     }
 }
 
 /// The id's value, null where there is none.
-fn id_or_null(alloc: Global, id: Option<Id<'_>>) -> Result<Value, AllocError>
-    ensures { IfOk result (λ v. view v ≡ id_or_null (option_map seen_id id.entry)) }
+fn id_or_null(alloc: Global, id: Option<&Id>) -> Result<Value, AllocError>
+    ensures { IfOk result (λ v. view v ≡ id_or_null (option_map (λ i. i.now) id.entry)) }
 {
     match id {
         Some(id) => {
@@ -80,9 +79,9 @@ fn response_value(alloc: Global, id: Value, answer: Value) -> Result<Value, Allo
 
 /// A response with a result.
 #[tactic(auto, unfolding(crate::specs::Replies::response), using(crate::proofs::Floats::response_has_none))]
-pub(crate) fn response(alloc: Global, id: Id<'_>, answer: Value) -> Result<Vec<u8>, AllocError>
+pub(crate) fn response(alloc: Global, id: &Id, answer: Value) -> Result<Vec<u8>, AllocError>
     requires { has_float (view answer) ≡ false }
-    ensures { IfOk result (λ v. v.items ≡ response (seen_id id.entry) (view answer)) }
+    ensures { IfOk result (λ v. v.items ≡ response id.now (view answer)) }
 {
     let id = id_value(alloc, id)?;
     let value = response_value(alloc, id, answer)?;
@@ -99,11 +98,11 @@ fn error_value(alloc: Global, id: Value, code: i32, text: &str) -> Result<Value,
 #[tactic(auto, unfolding(crate::specs::Replies::error), using(crate::proofs::Floats::error_has_none))]
 pub(crate) fn error(
     alloc: Global,
-    id: Option<Id<'_>>,
+    id: Option<&Id>,
     code: i32,
     text: &str,
 ) -> Result<Vec<u8>, AllocError>
-    ensures { IfOk result (λ v. v.items ≡ error (option_map seen_id id.entry) code text.now) }
+    ensures { IfOk result (λ v. v.items ≡ error (option_map (λ i. i.now) id.entry) code text.now) }
 {
     let id = id_or_null(alloc, id)?;
     let value = error_value(alloc, id, code, text)?;

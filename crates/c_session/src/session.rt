@@ -56,9 +56,9 @@ impl Session {
     ) -> Result<Reply, SessionError>
         requires store { D.faults store.old + 1 < 2 ^ 64 }
         requires few { handled_by self.old < 2 ^ 62 }
-        ensures handled { IfOk result (λ reply. Handled (state_of self.old) content.now (state_of self.new) reply.bytes.items reply.end (D.answers store.old) (D.answers store.new)) }
-        ensures answered { IfOk result (λ reply. IsAnswered (message content.now) reply.bytes.items) }
-        ensures kept { IfOk result (λ reply. IsRefusal (message content.now) reply.bytes.items → state_of self.new ≡ state_of self.old) }
+        ensures handled { IfOk result (λ reply. Handled (state_of self.old) content.now (state_of self.new) reply.bytes reply.end (D.answers store.old) (D.answers store.new)) }
+        ensures answered { IfOk result (λ reply. IsAnswered (message content.now) reply.bytes) }
+        ensures kept { IfOk result (λ reply. IsRefusal (message content.now) reply.bytes → state_of self.new ≡ state_of self.old) }
         ensures count { OnOk result (handled_by self.new ≡ handled_by self.old + 1) }
         ensures steps { _steps.new ≡ _steps.old }
         ensures counted { OnOk result (D.faults store.new ≡ D.faults store.old) }
@@ -68,7 +68,10 @@ impl Session {
             Ok(value) => value,
             Err(_) => return Err(SessionError::NoMemory),
         };
-        let message = message_of(&value);
+        let message = match message_of(self.current.alloc, &value) {
+            Ok(message) => message,
+            Err(_) => return Err(SessionError::NoMemory),
+        };
         self.handled += 1;
         match self.current.on_message(&message, store) {
             Ok(reply) => Ok(reply),

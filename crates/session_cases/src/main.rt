@@ -69,7 +69,7 @@ fn push_line(out: &mut String, line: &str) -> Result<(), AllocError> {
 }
 
 fn push_reply(alloc: Global, out: &mut String, reply: &Reply) -> Result<(), AllocError> {
-    let contents = contents_of(alloc, &reply.bytes)?;
+    let contents = contents_of(alloc, reply.bytes.as_slice())?;
     out.push_str(contents.as_str())?;
     let Some(status) = reply.end else {
         return Ok(());

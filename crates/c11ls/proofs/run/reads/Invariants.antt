@@ -1,7 +1,6 @@
 use Rattle.std.proofs.Common.{◌≡◌, ◌<◌, ◌+◌, ◌-◌, ◌^◌, vec_len}
 use Rattle.c11ls.specs.Going.{Going, IsInStep}
 use Rattle.c_session.specs.Sessions.{state_of, handled_by}
-use Rattle.project_conf.specs.Options.{no_options}
 use Rattle.c11ls.specs.Turn.{Stands}
 use Rattle.c11ls.proofs.run.reads.Given as goal
 
@@ -10,7 +9,7 @@ invariant-reads g l =
     let wire = g.W.Wire in
     let store = g.D.Store in
     record {
-      going : Going no_options (wire.told l.fn.wire) (wire.told l.wire) (store.answers l.fn.store) (store.answers l.store) (state_of l.session) l.frames l.taken;
+      going : Going l.fn.options (wire.told l.fn.wire) (wire.told l.wire) (store.answers l.fn.store) (store.answers l.store) (state_of l.session) l.frames l.taken;
       stands : Stands (wire.read_faults l.fn.wire) (wire.read_faults l.wire) (wire.write_faults l.fn.wire) (wire.write_faults l.wire)
           (store.faults l.fn.store) (store.faults l.store);
       room : vec_len l.buffer ≡ 65536;

@@ -17,4 +17,4 @@ front_written s s' content bytes given end w w' a a' handled is sent = record {
 }
 
 pub returns-in-Err-clause-turned : goal.returns-in-Err-clause-turned
-returns-in-Err-clause-turned g c = front_written _ _ _ _ _ _ _ _ _ _ c.in-Ok.ensures.handled c.as_slice.ensures.value c.in-Err.ensures.front
+returns-in-Err-clause-turned g c = front_written _ _ _ _ _ _ _ _ _ _ c.in-Ok.ensures.handled c.as_slice.ensures c.in-Err.ensures.front

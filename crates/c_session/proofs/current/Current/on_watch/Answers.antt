@@ -1,5 +1,4 @@
 use Rattle.std.proofs.Common.{refl}
-use Rattle.c_session.specs.Refused.{of_params}
 use Rattle.c_session.specs.Sessions.{current_state}
 use Rattle.c_session.proofs.Asking.{gave_up, stays}
 use Rattle.c_session.proofs.Reasoning.{params_refused_by}

@@ -8,16 +8,19 @@ use Rattle.c_session.proofs.session.Session.handle.Goals as goal
 pub returns-in-Err-clause-refused : goal.returns-in-Err-clause-refused
 returns-in-Err-clause-refused g c = (refl, gave_up (stays _ _))
 
+pub returns-in-Err-message_of-clause-refused : goal.returns-in-Err-message_of-clause-refused
+returns-in-Err-message_of-clause-refused g c = (refl, gave_up (stays _ _))
+
 pub returns-in-Ok-on_message-clause-handled : goal.returns-in-Ok-on_message-clause-handled
-returns-in-Ok-on_message-clause-handled g c = asked_handled (state_of c.args.self.now) _ _ _ _ _ _ c.in-Ok.ensures c.message_of-message.ensures c.in-Ok-on_message.ensures.handled
+returns-in-Ok-on_message-clause-handled g c = asked_handled (state_of c.args.self.now) _ _ _ _ _ _ c.in-Ok.ensures c.in-Ok-message_of.ensures c.in-Ok-on_message.ensures.handled
 
 pub returns-in-Ok-on_message-clause-answered : goal.returns-in-Ok-on_message-clause-answered
 returns-in-Ok-on_message-clause-answered g c = handled_answered (state_of c.args.self.now) _ _ _ _
-    (asked_handled (state_of c.args.self.now) _ _ _ _ _ _ c.in-Ok.ensures c.message_of-message.ensures c.in-Ok-on_message.ensures.handled)
+    (asked_handled (state_of c.args.self.now) _ _ _ _ _ _ c.in-Ok.ensures c.in-Ok-message_of.ensures c.in-Ok-on_message.ensures.handled)
 
 pub returns-in-Ok-on_message-clause-kept : goal.returns-in-Ok-on_message-clause-kept
 returns-in-Ok-on_message-clause-kept g c = handled_kept (state_of c.args.self.now) _ _ _ _
-    (asked_handled (state_of c.args.self.now) _ _ _ _ _ _ c.in-Ok.ensures c.message_of-message.ensures c.in-Ok-on_message.ensures.handled)
+    (asked_handled (state_of c.args.self.now) _ _ _ _ _ _ c.in-Ok.ensures c.in-Ok-message_of.ensures c.in-Ok-on_message.ensures.handled)
 
 pub returns-clause-refused : goal.returns-clause-refused
-returns-clause-refused g c = asked_refused (state_of c.args.self.now) _ _ _ _ _ _ _ c.in-Err-on_message.error c.in-Ok.ensures c.message_of-message.ensures c.in-Err-on_message.ensures.refused
+returns-clause-refused g c = asked_refused (state_of c.args.self.now) _ _ _ _ _ _ _ c.in-Err-on_message.error c.in-Ok.ensures c.in-Ok-message_of.ensures c.in-Err-on_message.ensures.refused
