@@ -7,7 +7,7 @@ use Rattle.c_literals.specs.Digits.{small}
 grows : (base n d : ℕ) → 1 ≤ base → n ≤ n * base + d
 grows base n d some = grind arith
 
-keeps : (base n : ℕ) (ds : List ℕ) → 1 ≤ base → n ≤ digits_value_after base n ds
+pub keeps : (base n : ℕ) (ds : List ℕ) → 1 ≤ base → n ≤ digits_value_after base n ds
 keeps base n [] some = omega arith
 keeps base n (c ∷ cs) some =
     let here : n ≤ n * base + digit_value c = grows base n (digit_value c) some in

@@ -1,2 +1,3 @@
+pub mod CCharLemmas
 pub mod DigitLemmas
 mod Wrapping

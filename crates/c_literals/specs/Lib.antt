@@ -1,6 +1,10 @@
+pub mod CChars
+pub mod Character
 pub mod Conversions
 pub mod Digits
 pub mod Floating
 pub mod Integer
+pub mod Kept
 pub mod Operators
 pub mod Ranges
+pub mod Units

@@ -2,14 +2,19 @@
 #![tactic(auto)]
 
 mod arith;
+mod characters;
 mod digits;
+mod escapes;
 mod floatings;
 mod integers;
 mod literal;
 mod ops;
+mod prefix;
 mod ranges;
+mod seen;
 mod suffixes;
 
+pub use characters::character;
 pub use floatings::integer;
 pub use literal::Literal;
 pub use ops::{Op, convert, value_op};

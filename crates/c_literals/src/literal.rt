@@ -7,6 +7,15 @@ pub(crate) const TOO_LARGE: u16 = 311;
 /// The rule that a preprocessing number breaks which is no constant.
 pub(crate) const BAD_NUMBER: u16 = 312;
 
+/// The rule that a text breaks whose quotes aren't closed.
+pub(crate) const OPEN: u16 = 102;
+
+/// The rule that a character constant breaks whose number of units has no value.
+pub(crate) const BAD_CHARACTER: u16 = 313;
+
+/// The rule that an escape breaks which is none, or has a value past the range of its unit.
+pub(crate) const BAD_ESCAPE: u16 = 314;
+
 /// A constant.
 #[derive(Clone, Copy, Debug, PartialEq, Eq, Drop)]
 pub enum Literal {

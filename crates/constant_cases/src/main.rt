@@ -1,11 +1,11 @@
 // Constants, case by case: reads calls from standard input, one a line, and prints the answer of each behind its line. A
 // value is its number, `?` where it is Unknown, `!` and a rule where it is Faulty, `-` where it isn't read. `integer
-// SPELLING` asks what a preprocessing number is as a constant.
+// SPELLING` asks what a preprocessing number is as a constant, `character SPELLING` what a character constant is.
 #![tactic(auto)]
 
 mod words;
 
-use c_literals::{Literal, convert, integer, value_op};
+use c_literals::{Literal, character, convert, integer, value_op};
 use std::io;
 use std::io::Read;
 use type_data::Value;
@@ -41,6 +41,9 @@ fn show_literal(rt: &HostRuntime, line: &str, literal: Literal) -> io::Result<()
 fn show(rt: &HostRuntime, line: &str) -> io::Result<()> {
     if let Some(spelling) = line.strip_prefix("integer ") {
         return show_literal(rt, line, integer(spelling));
+    }
+    if let Some(spelling) = line.strip_prefix("character ") {
+        return show_literal(rt, line, character(spelling));
     }
     match answered(line) {
         Some(Value::Known(number)) => println!(rt; "{line} = {number}"),
