@@ -8,10 +8,10 @@ use Rattle.query_core.specs.Queries.{Queries, AreLawful}
 use Rattle.query_core.specs.Graph.{Held, at, node_of, record_of, inputs}
 use Rattle.query_core.specs.Stored.{Stored, Changes, Adds, node_at}
 use Rattle.query_core.specs.Answering.{IsNumbered}
-use Rattle.query_core.specs.Soundness.{IsSound}
+use Rattle.query_core.specs.Soundness.{IsSound, IsUnswept}
 use Rattle.query_core.specs.Changes.{Puts, SetsInput, IsFresh, IsStamped, Moves}
 use Rattle.query_core.specs.declared.store.Node.{Node}
-use Rattle.query_core.proofs.Puts.{Keeps, sound_puts, same_key}
+use Rattle.query_core.proofs.Puts.{Keeps, sound_puts, unswept_puts, same_key}
 
 pub is_some_from : {X : Type 0} (o : Option X) (x : X) → o ≡ Some x → IsSome o
 is_some_from o x e = rw e refl
@@ -90,10 +90,11 @@ module _ {K V : Type 0} where
       ] refl
 
   module _ (q : Queries K V) (laws : AreLawful q) (old : Held K V) (sound : IsSound q old) (fresh : IsFresh q old) where
-    pub input_keeps : (i : ℕ) (r : Node K V) → q.is_input r.key ≡ true → r.reads ≡ [] → (r.verified_at ≤ old.revision) × (r.changed_at ≤ old.revision)
+    pub input_keeps : (i : ℕ) (r : Node K V) → q.is_input r.key ≡ true → r.input ≡ true → r.reads ≡ [] → (r.verified_at ≤ old.revision) × (r.changed_at ≤ old.revision)
         → ((s : Node K V) → at old i ≡ Some s → ((r.value ≡ s.value) × (r.changed_at ≡ s.changed_at)) ⊎ (r.changed_at ≡ old.revision)) → Keeps q old i r
-    input_keeps i r is none stamps still = record {
+    input_keeps i r is flag none stamps still = record {
       current = rw is refl;
+      flag = flag ∙ sym is;
       reads = λ j h. absurd (let bad : ⊥ = subst (λ l. Has l j) none h in bad);
       inputs = λ _. none;
       replays = λ isnt first left e. absurd (let bad : ⊥ = cc in bad);
@@ -157,17 +158,20 @@ module _ {K V : Type 0} where
     pub sound : IsSound q new
     pub sets : SetsInput q old new k v
     pub fresh : IsFresh q new
+    pub unswept : IsUnswept q old → IsUnswept q new
 
   module _ (q : Queries K V) (laws : AreLawful q) (eq : K → K → Bool) (same : (a b : K) → eq a b ≡ q.same a b) (s s' : Stored K V) (n : ℕ) (rs : List K)
       (sound : IsSound q (held s n rs)) (fresh : IsFresh q (held s n rs)) (k : K) (v : V) (is : q.is_input k ≡ true) where
-    pub set_done : (i : ℕ) (r : Node K V) → Puts q (held s n rs) (held s' n rs) i r → r.key ≡ k → r.value ≡ v → r.reads ≡ [] → r.verified_at ≤ n → r.changed_at ≤ n
+    pub set_done : (i : ℕ) (r : Node K V) → Puts q (held s n rs) (held s' n rs) i r → r.key ≡ k → r.value ≡ v → r.reads ≡ [] → r.input ≡ true → r.verified_at ≤ n → r.changed_at ≤ n
         → IsStamped n (record_of q (held s n rs) k) r
         → ((e : Node K V) → at (held s n rs) i ≡ Some e → ((r.value ≡ e.value) × (r.changed_at ≡ e.changed_at)) ⊎ (r.changed_at ≡ n))
         → SetDone q (held s n rs) (held s' n rs) k v
-    set_done i r puts key value none va ca stamped still =
+    set_done i r puts key value none flag va ca stamped still =
         let is' : q.is_input r.key ≡ true = subst (λ x. q.is_input x ≡ true) (sym key) is in
+        let keeps = input_keeps q laws (held s n rs) sound fresh i r is' flag none (va, ca) still in
         record {
-          sound = sound_puts q laws (held s n rs) (held s' n rs) i r sound puts (input_keeps q laws (held s n rs) sound fresh i r is' none (va, ca) still) (inl refl);
+          sound = sound_puts q laws (held s n rs) (held s' n rs) i r sound puts keeps (inl refl);
+          unswept = λ u. unswept_puts q laws (held s n rs) (held s' n rs) i r sound puts keeps u (inl refl);
           sets = record {
             node = i;
             entry = r;
@@ -184,25 +188,25 @@ module _ {K V : Type 0} where
         }
 
     pub set_changed : (veq : V → V → Bool) → ((a b : V) → veq a b ≡ true → a ≡ b) → ((a : V) → veq a a ≡ true) → (i : ℕ) → lookup (eq k) s.numbers ≡ Some i → (reads : List ℕ) → reads ≡ []
-        → ((r : Node K V) → node_at s i ≡ Some r → Changes s s' i (record { key = r.key; value = v; reads = reads; verified_at = n; changed_at = cond (veq r.value v) r.changed_at n }))
+        → ((r : Node K V) → node_at s i ≡ Some r → Changes s s' i (record { key = r.key; value = v; reads = reads; input = r.input; verified_at = n; changed_at = cond (veq r.value v) r.changed_at n }))
         → SetDone q (held s n rs) (held s' n rs) k v
     set_changed veq means itself i found reads none ch =
         let st = stored_node q eq same s n rs sound k i found in
-        let new : Node K V = record { key = st.0.key; value = v; reads = reads; verified_at = n; changed_at = cond (veq st.0.value v) st.0.changed_at n } in
+        let new : Node K V = record { key = st.0.key; value = v; reads = reads; input = st.0.input; verified_at = n; changed_at = cond (veq st.0.value v) st.0.changed_at n } in
         let puts = puts_changes q laws s s' n rs rs sound i st.0 new st.1 refl (ch st.0 st.1) in
         let moves : Moves n st.0 new = moves_if veq means itself n st.0 new refl in
         let was : record_of q (held s n rs) k ≡ Some st.0 = ap (λ o. option_map_or (at (held s n rs)) o None) (sym (lookup_same eq q.same same k s.numbers) ∙ found) ∙ st.1 in
         let small : cond (veq st.0.value v) st.0.changed_at n ≤ n = elim moves [ inl p ↦ (let le = (sound.stamps i st.0 st.1).1 in let e = p.1 in omega arith) | inr p ↦ (let e = p.1 in omega arith) ] in
-        set_done i new puts st.2 refl none (omega arith) small (subst (λ o. IsStamped n o new) (sym was) moves)
+        set_done i new puts st.2 refl none (sound.flagged i st.0 st.1 ∙ subst (λ x. q.is_input x ≡ true) (sym st.2) is) (omega arith) small (subst (λ o. IsStamped n o new) (sym was) moves)
         (λ e at_e. let same_e : st.0 ≡ e = (let h = st.1 in cc) in
         subst (λ (x : Node K V). ((new.value ≡ x.value) × (new.changed_at ≡ x.changed_at)) ⊎ (new.changed_at ≡ n)) same_e
         (elim moves [ inl p ↦ inl p | inr p ↦ inr p.1 ]))
 
-    pub set_added : lookup (eq k) s.numbers ≡ None → (i : ℕ) (reads : List ℕ) → reads ≡ [] → Adds eq s s' i (record { key = k; value = v; reads = reads; verified_at = n; changed_at = n })
+    pub set_added : lookup (eq k) s.numbers ≡ None → (i : ℕ) (reads : List ℕ) → reads ≡ [] → Adds eq s s' i (record { key = k; value = v; reads = reads; input = true; verified_at = n; changed_at = n })
         → SetDone q (held s n rs) (held s' n rs) k v
     set_added absent i reads none ad =
-        let new : Node K V = record { key = k; value = v; reads = reads; verified_at = n; changed_at = n } in
+        let new : Node K V = record { key = k; value = v; reads = reads; input = true; verified_at = n; changed_at = n } in
         let puts = puts_adds q eq same s s' n rs rs i new absent ad in
         let was : record_of q (held s n rs) k ≡ None = ap (λ o. option_map_or (at (held s n rs)) o None) (sym (lookup_same eq q.same same k s.numbers) ∙ absent) in
-        set_done i new puts refl refl none (omega arith) (omega arith) (subst (λ o. IsStamped n o new) (sym was) refl)
+        set_done i new puts refl refl none refl (omega arith) (omega arith) (subst (λ o. IsStamped n o new) (sym was) refl)
         (λ e at_e. inr refl)

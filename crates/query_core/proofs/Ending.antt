@@ -5,13 +5,13 @@ use Rattle.std.proofs.lemmas.List.{reverse-append, drop_at, length_push}
 use Rattle.query_core.specs.Lists.{Has, Each}
 use Rattle.query_core.specs.Queries.{Queries, AreLawful}
 use Rattle.query_core.specs.Graph.{Held, node_of, inputs, is_current, is_verified}
-use Rattle.query_core.specs.Soundness.{IsSound}
-use Rattle.query_core.specs.Changes.{Leaves, IsRun, IsReached, IsHolding, Walked, ran}
+use Rattle.query_core.specs.Soundness.{IsSound, IsUnswept}
+use Rattle.query_core.specs.Changes.{LeavesBy, IsRunBy, IsRun, IsReached, IsHolding, WalkedBy, Walked, ran}
 use Rattle.query_core.specs.Changes.IsReached.{itself, along}
 use Rattle.query_core.specs.Walk.{IsFrame, Leads, IsOutdated, Finishes, IsStep}
 use Rattle.query_core.specs.declared.frame.Frame.{Frame}
 use Rattle.query_core.specs.declared.frame.Moved.TheVariants.{Waits, Done}
-use Rattle.query_core.proofs.Words.{Has-left, Has-right, Each-append}
+use Rattle.query_core.proofs.Words.{Has-left, Has-right, Each-append, one_less}
 use Rattle.query_core.proofs.Values.{current_value}
 use Rattle.query_core.proofs.Reading.{verified_is}
 use Rattle.query_core.proofs.Walking.{verified_here, verified_stays, leads_rank, leads_reached, leads_stay, same_current, frame_stays}
@@ -66,12 +66,6 @@ lex_falls n d b r r' lt = omega arith
 pub lex : (m n b r r' : ℕ) → n < m → r' < b → n * b + r' < m * b + r
 lex m n b r r' nm lt = let e : n + 1 + (m - n - 1) ≡ m = omega arith in subst (λ x. n * b + r' < x * b + r) e (lex_falls n (m - n - 1) b r r' lt)
 
-one_less : (a b : Bool) → (a ≡ true → b ≡ true) → cond b 0 1 ≤ cond a 0 1
-one_less true true h = omega arith
-one_less true false h = let bad : ⊥ = (let e = h refl in cc) in absurd bad
-one_less false true h = omega arith
-one_less false false h = omega arith
-
 closed_counts : (b : Bool) → b ≡ true → cond {A = ℕ} b 0 1 ≡ 0
 closed_counts b e = ap (λ (x : Bool). cond {A = ℕ} x 0 1) e
 
@@ -109,18 +103,20 @@ module _ {K V : Type 0} where
   pub record Walk {S : Type 0} (q : Queries K V) (has_read : K → S → List (K × V) → Type 0) (g0 : Held K V) (root : K) (g : Held K V) (k : K) (path : List (Frame K S)) (steps0 steps : ℕ) : Type 0 where
     pub sound0 : IsSound q g0
     pub sound : IsSound q g
+    pub unswept : IsUnswept q g
     pub added : List K
-    pub left : Left q g0 g root added
+    pub left : Left q g0 g (IsReached (q.asks (inputs q g0)) root) added
     pub due : Each (IsRun q g0 root) added
     pub counted : steps ≡ steps0 + length added
     pub leads : Leads q has_read g root k path
 
-  pub walk_begins : {S : Type 0} (q : Queries K V) (has_read : K → S → List (K × V) → Type 0) (g : Held K V) (root k : K) (steps : ℕ) → IsSound q g → k ≡ root → Walk q has_read g root g k [] steps steps
-  walk_begins q has_read g root k steps sound e = record {
+  pub walk_begins : {S : Type 0} (q : Queries K V) (has_read : K → S → List (K × V) → Type 0) (g : Held K V) (root k : K) (steps : ℕ) → IsSound q g → IsUnswept q g → k ≡ root → Walk q has_read g root g k [] steps steps
+  walk_begins q has_read g root k steps sound unswept e = record {
     sound0 = sound;
     sound = sound;
+    unswept = unswept;
     added = [];
-    left = left_none q g root;
+    left = left_none q g (IsReached (q.asks (inputs q g)) root);
     due = tt;
     counted = omega arith;
     leads = e;
@@ -134,6 +130,7 @@ module _ {K V : Type 0} where
         let base : Walk q has_read g0 root g on (frame ∷ path) steps0 steps' = record {
           sound0 = w.sound0;
           sound = w.sound;
+          unswept = w.unswept;
           added = w.added;
           left = w.left;
           due = w.due;
@@ -149,10 +146,10 @@ module _ {K V : Type 0} where
         let same = ap (λ h. open_count q h (reach (q.asks (inputs q g0)) (q.rank (inputs q g0) root) root) * (q.rank (inputs q g0) root + 1)) eg in
         omega arith
 
-    module _ (g' : Held K V) (i steps' : ℕ) (stale : is_verified q g k ≡ false) (sound' : IsSound q g') (f : Finishes q g g' k i) (count : steps' + length g.runs ≡ steps + length g'.runs) where
+    module _ (g' : Held K V) (i steps' : ℕ) (stale : is_verified q g k ≡ false) (sound' : IsSound q g') (unswept' : IsUnswept q g') (f : Finishes q g g' k i) (count : steps' + length g.runs ≡ steps + length g'.runs) where
       -- what has been done once the key is finished
       pub record Now (added : List K) : Type 0 where
-        pub left : Left q g0 g' root added
+        pub left : Left q g0 g' (IsReached (q.asks (inputs q g0)) root) added
         pub due : Each (IsRun q g0 root) added
         pub counted : steps' ≡ steps0 + length added
 
@@ -165,7 +162,7 @@ module _ {K V : Type 0} where
             | inl h ↦ (
               w.added,
               record {
-                left = left_touched q laws g0 g w.sound0 w.sound root w.added w.left g' k i stale f h.0 h.1.0 h.1.1.0 h.1.1.1;
+                left = left_touched q laws g0 g w.sound0 w.sound w.unswept (IsReached (q.asks (inputs q g0)) root) w.added w.left g' k i stale f h.0 h.1.0 h.1.1.0 h.1.1.1;
                 due = w.due;
                 counted = (let l = ap length h.0 in let c = w.counted in omega arith);
               },
@@ -174,12 +171,12 @@ module _ {K V : Type 0} where
               | inl m ↦ (
                 w.added ++ k ∷ [],
                 record {
-                  left = left_ran q laws g0 g w.sound0 w.sound root w.added w.left g' k i stale f m.0 m.1 m.3;
+                  left = left_ran q laws g0 g w.sound0 w.sound w.unswept (IsReached (q.asks (inputs q g0)) root) w.added w.left g' k i stale f m.0 m.1 m.3;
                   due = Each-append (IsRun q g0 root) w.added (k ∷ []) w.due (
                     record {
                       reached = reached_key;
-                      stale = stale_before q laws g0 g w.sound0 w.sound root w.added w.left k stale;
-                      due = due_before q laws g0 g w.sound0 w.sound root w.added w.left k stale (subst (λ x. q.is_input x ≡ false) f.key m.1) (subst (IsOutdated q g) f.key m.2);
+                      stale = stale_before q laws g0 g w.sound0 w.sound w.unswept (IsReached (q.asks (inputs q g0)) root) w.added w.left k stale;
+                      due = due_before q laws g0 g w.sound0 w.sound w.unswept (IsReached (q.asks (inputs q g0)) root) w.added w.left k stale (subst (λ x. q.is_input x ≡ false) f.key m.1) (subst (IsOutdated q g) f.key m.2);
                     },
                     tt,
                   );
@@ -189,7 +186,7 @@ module _ {K V : Type 0} where
               | inr m ↦ (
                 w.added,
                 record {
-                  left = left_unset q laws g0 g w.sound0 w.sound root w.added w.left g' k i stale f m.0 m.1 m.2 m.3 m.4 reached_key;
+                  left = left_unset q laws g0 g w.sound0 w.sound w.unswept (IsReached (q.asks (inputs q g0)) root) w.added w.left g' k i stale f m.0 m.1 m.2 m.3 m.4 reached_key;
                   due = w.due;
                   counted = (let l = ap length m.0 in let c = w.counted in omega arith);
                 },
@@ -215,6 +212,7 @@ module _ {K V : Type 0} where
             record {
               sound0 = w.sound0;
               sound = sound';
+              unswept = unswept';
               added = now.0;
               left = now.1.left;
               due = now.1.due;
@@ -229,8 +227,8 @@ module _ {K V : Type 0} where
           let l = subst (Leads q has_read g root k) e w.leads in
           to_do_done frame.key (subst (λ I. q.rank I frame.key ≤ q.rank I root) w.left.inputs_same (leads_rank q has_read laws g root frame.key rest l.2))
 
-  pub leaves_from : (q : Queries K V) (g0 g : Held K V) (root : K) (added : List K) → Left q g0 g root added → Leaves q g0 g root added
-  leaves_from q g0 g root added l = record {
+  pub leaves_from : (q : Queries K V) (g0 g : Held K V) (reached : K → Type 0) (added : List K) → Left q g0 g reached added → LeavesBy q g0 g reached added
+  leaves_from q g0 g reached added l = record {
     revision = l.revision;
     runs = l.runs;
     inputs_stay = l.inputs_same;
@@ -245,10 +243,10 @@ module _ {K V : Type 0} where
   pub ran_is : (g0 g : Held K V) (added : List K) → g.runs ≡ g0.runs ++ added → ran g0 g ≡ added
   ran_is g0 g added e = ap (drop (length g0.runs)) e ∙ drop_at g0.runs added (length g0.runs) refl
 
-  pub walked_from : (q : Queries K V) (g0 : Held K V) (root : K) (g : Held K V) (added : List K) → IsSound q g → Left q g0 g root added → Each (IsRun q g0 root) added → Walked q g0 root g
-  walked_from q g0 root g added sound left due =
+  pub walked_from : (q : Queries K V) (g0 : Held K V) (reached : K → Type 0) (g : Held K V) (added : List K) → IsSound q g → IsUnswept q g → Left q g0 g reached added → Each (IsRunBy q g0 reached) added → WalkedBy q g0 reached g
+  walked_from q g0 reached g added sound unswept left due =
       let e = ran_is g0 g added left.runs in
-      record { sound = sound; leaves = subst (Leaves q g0 g root) (sym e) (leaves_from q g0 g root added left); due = subst (Each (IsRun q g0 root)) (sym e) due }
+      record { sound = sound; unswept = unswept; leaves = subst (LeavesBy q g0 g reached) (sym e) (leaves_from q g0 g reached added left); due = subst (Each (IsRunBy q g0 reached)) (sym e) due }
 
 module _ {K V S : Type 0} (q : Queries K V) (has_read : K → S → List (K × V) → Type 0) (laws : AreLawful q) (g0 : Held K V) (root : K) (g : Held K V) (k : K) (items : List (Frame K S)) (steps0 steps : ℕ)
     (w : Walk q has_read g0 root g k (reverse items) steps0 steps) where
@@ -265,7 +263,7 @@ module _ {K V S : Type 0} (q : Queries K V) (has_read : K → S → List (K × V
 
   -- after a step that gave nothing, or waits, the graph is as before it
   pub given_up : (g' : Held K V) → g' ≡ g → Walked q g0 root g'
-  given_up g' e = subst (Walked q g0 root) (sym e) (walked_from q g0 root g w.added w.sound w.left w.due)
+  given_up g' e = subst (Walked q g0 root) (sym e) (walked_from q g0 (IsReached (q.asks (inputs q g0)) root) g w.added w.sound w.unswept w.left w.due)
 
   pub ran_length : (g' : Held K V) → g' ≡ g → steps ≡ steps0 + length (ran g0 g')
   ran_length g' e = w.counted ∙ ap (λ l. steps0 + length l) (sym (ran_is g0 g w.added w.left.runs) ∙ ap (ran g0) (sym e))
@@ -273,17 +271,17 @@ module _ {K V S : Type 0} (q : Queries K V) (has_read : K → S → List (K × V
   module _ (g' : Held K V) (i steps' : ℕ) (stale : is_verified q g k ≡ false) (s : IsStep q has_read g g' k steps steps' (Done i)) where
     pub goes_on : (frame : Frame K S) (items' : List (Frame K S)) → items ≡ items' ++ frame ∷ [] → Walk q has_read g0 root g' frame.key (reverse items') steps0 steps' × IsFrame q has_read g' frame
     goes_on frame items' e =
-        walk_goes_on q has_read laws g0 root g k (reverse items) steps0 steps w g' i steps' stale s.1 s.0 s.2 frame (reverse items') (ap reverse e ∙ reverse-append items' (frame ∷ []))
+        walk_goes_on q has_read laws g0 root g k (reverse items) steps0 steps w g' i steps' stale s.1 s.3 s.0 s.2 frame (reverse items') (ap reverse e ∙ reverse-append items' (frame ∷ []))
 
     pub goes_on_less : (frame : Frame K S) (items' : List (Frame K S)) → items ≡ items' ++ frame ∷ [] → to_do q g0 root g' frame.key < to_do q g0 root g k
     goes_on_less frame items' e =
-        to_do_goes_on q has_read laws g0 root g k (reverse items) steps0 steps w g' i steps' stale s.1 s.0 s.2 frame (reverse items') (ap reverse e ∙ reverse-append items' (frame ∷ []))
+        to_do_goes_on q has_read laws g0 root g k (reverse items) steps0 steps w g' i steps' stale s.1 s.3 s.0 s.2 frame (reverse items') (ap reverse e ∙ reverse-append items' (frame ∷ []))
 
-    all_done : (added : List K) × Now q has_read laws g0 root g k (reverse items) steps0 steps w g' i steps' stale s.1 s.0 s.2 added
-    all_done = now q has_read laws g0 root g k (reverse items) steps0 steps w g' i steps' stale s.1 s.0 s.2
+    all_done : (added : List K) × Now q has_read laws g0 root g k (reverse items) steps0 steps w g' i steps' stale s.1 s.3 s.0 s.2 added
+    all_done = now q has_read laws g0 root g k (reverse items) steps0 steps w g' i steps' stale s.1 s.3 s.0 s.2
 
     pub ends_walked : Walked q g0 root g'
-    ends_walked = walked_from q g0 root g' all_done.0 s.1 all_done.1.left all_done.1.due
+    ends_walked = walked_from q g0 (IsReached (q.asks (inputs q g0)) root) g' all_done.0 s.1 s.3 all_done.1.left all_done.1.due
 
     pub ends_counted : steps' ≡ steps0 + length (ran g0 g')
     ends_counted = all_done.1.counted ∙ ap (λ l. steps0 + length l) (sym (ran_is g0 g' all_done.0 all_done.1.left.runs))

@@ -5,9 +5,9 @@ use Rattle.std.specs.Option.{option_map_or}
 use Rattle.query_core.specs.Lists.{Has}
 use Rattle.query_core.specs.Queries.{Queries, AreLawful}
 use Rattle.query_core.specs.Graph.{Held, at, node_of, record_of, inputs, is_current, is_verified}
-use Rattle.query_core.specs.Soundness.{IsSound}
+use Rattle.query_core.specs.Soundness.{IsSound, IsUnswept}
 use Rattle.query_core.specs.Due.{IsDue}
-use Rattle.query_core.specs.Changes.{IsStamped, Moves, IsLeft, IsReached}
+use Rattle.query_core.specs.Changes.{IsStamped, Moves, IsLeft}
 use Rattle.query_core.specs.Walk.{IsOutdated, Finishes}
 use Rattle.query_core.specs.declared.store.Node.{Node}
 use Rattle.query_core.proofs.Words.{Has-left, Has-right, Has-middle}
@@ -23,16 +23,16 @@ module _ {K V : Type 0} where
   IsLeftOrRan now added r new = IsLeft now r new ⊎ (Has added r.key × ((s : Node K V) × ((new ≡ Some s) × (s.key ≡ r.key) × Moves now r s)))
 
   -- `Leaves`, with one fact for each record at entry
-  pub record Left (q : Queries K V) (old new : Held K V) (root : K) (added : List K) : Type 0 where
+  pub record Left (q : Queries K V) (old new : Held K V) (reached : K → Type 0) (added : List K) : Type 0 where
     pub revision : new.revision ≡ old.revision
     pub runs : new.runs ≡ old.runs ++ added
     pub inputs_same : inputs q new ≡ inputs q old
     pub kept : (i : ℕ) (r : Node K V) → at old i ≡ Some r → IsLeftOrRan old.revision added r (at new i)
     pub fresh : (i : ℕ) (s : Node K V) → at old i ≡ None → at new i ≡ Some s
-        → (s.changed_at ≡ old.revision) × (Has added s.key ⊎ ((q.is_input s.key ≡ true) × (s.value ≡ q.unset s.key) × IsReached (q.asks (inputs q old)) root s.key))
+        → (s.changed_at ≡ old.revision) × (Has added s.key ⊎ ((q.is_input s.key ≡ true) × (s.value ≡ q.unset s.key) × reached s.key))
 
-  pub left_none : (q : Queries K V) (g : Held K V) (root : K) → Left q g g root []
-  left_none q g root = record {
+  pub left_none : (q : Queries K V) (g : Held K V) (reached : K → Type 0) → Left q g g reached []
+  left_none q g reached = record {
     revision = refl;
     runs = sym (append-nil g.runs);
     inputs_same = refl;
@@ -41,10 +41,10 @@ module _ {K V : Type 0} where
   }
 
   -- what a record has become, by `Left`: one with its key, value and stamp of change, or a run of its key
-  abbrev Became : List K → ℕ → Node K V → Node K V → Type 0
+  abbrev pub Became : List K → ℕ → Node K V → Node K V → Type 0
   Became added now r s = (s.key ≡ r.key) × (Moves now r s × (((s.verified_at ≡ r.verified_at) × (s ≡ r)) ⊎ ((s.verified_at ≡ now) ⊎ Has added r.key)))
 
-  became : (now : ℕ) (added : List K) (r : Node K V) (new : Option (Node K V)) → IsLeftOrRan now added r new → (s : Node K V) × ((new ≡ Some s) × Became added now r s)
+  pub became : (now : ℕ) (added : List K) (r : Node K V) (new : Option (Node K V)) → IsLeftOrRan now added r new → (s : Node K V) × ((new ≡ Some s) × Became added now r s)
   became now added r new h =
       elim h [
         | inl a ↦ elim a [
@@ -54,12 +54,12 @@ module _ {K V : Type 0} where
         | inr b ↦ (b.1.0, (b.1.1.0, (b.1.1.1, (b.1.1.2, inr (inr b.0)))))
       ]
 
-  module _ (q : Queries K V) (laws : AreLawful q) (g0 g : Held K V) (sound0 : IsSound q g0) (sound : IsSound q g) (root : K) (added : List K) (left : Left q g0 g root added) where
+  module _ (q : Queries K V) (laws : AreLawful q) (g0 g : Held K V) (sound0 : IsSound q g0) (sound : IsSound q g) (unswept : IsUnswept q g) (reached : K → Type 0) (added : List K) (left : Left q g0 g reached added) where
     not_added : (k : K) → is_verified q g k ≡ false → ¬ Has added k
-    not_added k stale h = not_ran q g sound k stale (subst (λ l. Has l k) (sym left.runs) (Has-right g0.runs added k h))
+    not_added k stale h = not_ran q g unswept k stale (subst (λ l. Has l k) (sym left.runs) (Has-right g0.runs added k h))
 
     -- the record of a key that isn't verified, and no input, is that at entry
-    stale_record : (k : K) → is_verified q g k ≡ false → q.is_input k ≡ false → (i : ℕ) (r : Node K V) → at g i ≡ Some r → r.key ≡ k → at g0 i ≡ Some r
+    pub stale_record : (k : K) → is_verified q g k ≡ false → q.is_input k ≡ false → (i : ℕ) (r : Node K V) → at g i ≡ Some r → r.key ≡ k → at g0 i ≡ Some r
     stale_record k stale isnt i r e key =
         elim (at g0 i) as (λ o. at g0 i ≡ o → o ≡ Some r) [
           | None ↦ (λ n. let h = (left.fresh i r n e).1 in
@@ -81,7 +81,7 @@ module _ {K V : Type 0} where
         ] refl
 
     -- a key without a record had none
-    no_record_before : (k : K) → record_of q g k ≡ None → record_of q g0 k ≡ None
+    pub no_record_before : (k : K) → record_of q g k ≡ None → record_of q g0 k ≡ None
     no_record_before k none =
         elim (node_of q g0 k) as (λ o. node_of q g0 k ≡ o → record_of q g0 k ≡ None) [
           | None ↦ (λ n. record_none q g0 k n)
@@ -176,15 +176,15 @@ module _ {K V : Type 0} where
           ]
 
       fresh_other : (added' : List K) → ((x : K) → Has added x → Has added' x) → (j : ℕ) (s : Node K V) → at g0 j ≡ None → at g' j ≡ Some s → j ≢ i
-          → (s.changed_at ≡ g0.revision) × (Has added' s.key ⊎ ((q.is_input s.key ≡ true) × (s.value ≡ q.unset s.key) × IsReached (q.asks (inputs q g0)) root s.key))
+          → (s.changed_at ≡ g0.revision) × (Has added' s.key ⊎ ((q.is_input s.key ≡ true) × (s.value ≡ q.unset s.key) × reached s.key))
       fresh_other added' more j s none e n =
           let h = left.fresh j s none (sym (f.puts.others j n) ∙ e) in
           (h.0, elim h.1 [ inl a ↦ inl (more s.key a) | inr b ↦ inr b ])
 
       left_by : (added' : List K) → g'.runs ≡ g0.runs ++ added' → ((x : K) → Has added x → Has added' x)
           → ((r : Node K V) → at g0 i ≡ Some r → IsLeftOrRan g0.revision added' r (Some f.entry))
-          → (at g0 i ≡ None → (f.entry.changed_at ≡ g0.revision) × (Has added' f.entry.key ⊎ ((q.is_input f.entry.key ≡ true) × (f.entry.value ≡ q.unset f.entry.key) × IsReached (q.asks (inputs q g0)) root f.entry.key)))
-          → Left q g0 g' root added'
+          → (at g0 i ≡ None → (f.entry.changed_at ≡ g0.revision) × (Has added' f.entry.key ⊎ ((q.is_input f.entry.key ≡ true) × (f.entry.value ≡ q.unset f.entry.key) × reached f.entry.key)))
+          → Left q g0 g' reached added'
       left_by added' runs more here new = record {
         revision = same_revision;
         runs = runs;
@@ -195,12 +195,12 @@ module _ {K V : Type 0} where
         ];
         fresh = λ j s none e. elim (cases_eq j i) [
           | inl ji ↦ (let at_i : at g' i ≡ Some s = subst (λ n. at g' n ≡ Some s) ji e in let h = f.puts.here in let same : f.entry ≡ s = cc in
-              subst (λ (x : Node K V). (x.changed_at ≡ g0.revision) × (Has added' x.key ⊎ ((q.is_input x.key ≡ true) × (x.value ≡ q.unset x.key) × IsReached (q.asks (inputs q g0)) root x.key))) same (new (subst (λ n. at g0 n ≡ None) ji none)))
+              subst (λ (x : Node K V). (x.changed_at ≡ g0.revision) × (Has added' x.key ⊎ ((q.is_input x.key ≡ true) × (x.value ≡ q.unset x.key) × reached x.key))) same (new (subst (λ n. at g0 n ≡ None) ji none)))
           | inr n ↦ fresh_other added' more j s none e n
         ];
       }
 
-      pub left_touched : g'.runs ≡ g.runs → (s : Node K V) → at g i ≡ Some s → f.entry ≡ record s { verified_at = g.revision } → Left q g0 g' root added
+      pub left_touched : g'.runs ≡ g.runs → (s : Node K V) → at g i ≡ Some s → f.entry ≡ record s { verified_at = g.revision } → Left q g0 g' reached added
       left_touched runs s e is =
           let t : Node K V = record s { verified_at = g.revision } in
           left_by added (runs ∙ left.runs) (λ x h. h)
@@ -224,9 +224,9 @@ module _ {K V : Type 0} where
               ),
             )
           ]))
-          (λ none. subst (λ (x : Node K V). (x.changed_at ≡ g0.revision) × (Has added x.key ⊎ ((q.is_input x.key ≡ true) × (x.value ≡ q.unset x.key) × IsReached (q.asks (inputs q g0)) root x.key))) (sym is) (left.fresh i s none e))
+          (λ none. subst (λ (x : Node K V). (x.changed_at ≡ g0.revision) × (Has added x.key ⊎ ((q.is_input x.key ≡ true) × (x.value ≡ q.unset x.key) × reached x.key))) (sym is) (left.fresh i s none e))
 
-      pub left_ran : g'.runs ≡ g.runs ++ f.entry.key ∷ [] → q.is_input f.entry.key ≡ false → IsStamped g.revision (record_of q g f.entry.key) f.entry → Left q g0 g' root (added ++ k ∷ [])
+      pub left_ran : g'.runs ≡ g.runs ++ f.entry.key ∷ [] → q.is_input f.entry.key ≡ false → IsStamped g.revision (record_of q g f.entry.key) f.entry → Left q g0 g' reached (added ++ k ∷ [])
       left_ran runs isnt stamped =
           let isnt_k : q.is_input k ≡ false = subst (λ x. q.is_input x ≡ false) f.key isnt in
           let has : Has (added ++ k ∷ []) f.entry.key = subst (Has (added ++ k ∷ [])) (sym f.key) (Has-middle added [] k) in
@@ -278,8 +278,8 @@ module _ {K V : Type 0} where
             inl has,
           ))
 
-      pub left_unset : g'.runs ≡ g.runs → q.is_input f.entry.key ≡ true → at g i ≡ None → f.entry.value ≡ q.unset f.entry.key → f.entry.changed_at ≡ g.revision → IsReached (q.asks (inputs q g0)) root k → Left q g0 g' root added
-      left_unset runs is free value changed reached =
+      pub left_unset : g'.runs ≡ g.runs → q.is_input f.entry.key ≡ true → at g i ≡ None → f.entry.value ≡ q.unset f.entry.key → f.entry.changed_at ≡ g.revision → reached k → Left q g0 g' reached added
+      left_unset runs is free value changed was_reached =
           left_by added (runs ∙ left.runs) (λ x h. h)
           (λ r e0. let b = became g0.revision added r (at g i) (left.kept i r e0) in let x = b.1.0 in let bad : ⊥ = cc in absurd bad)
-          (λ none. (changed ∙ left.revision, inr (is, value, subst (IsReached (q.asks (inputs q g0)) root) (sym f.key) reached)))
+          (λ none. (changed ∙ left.revision, inr (is, value, subst reached (sym f.key) was_reached)))

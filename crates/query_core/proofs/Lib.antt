@@ -11,3 +11,5 @@ pub mod Leaving
 pub mod Ending
 pub mod Answering
 pub mod Setting
+pub mod Marking
+pub mod Sweeping

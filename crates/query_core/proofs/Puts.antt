@@ -5,7 +5,7 @@ use Rattle.std.specs.Option.{option_map}
 use Rattle.query_core.specs.Lists.{Has, Each, IsOnce}
 use Rattle.query_core.specs.Queries.{Queries, AreLawful}
 use Rattle.query_core.specs.Graph.{Held, at, node_of, is_current}
-use Rattle.query_core.specs.Soundness.{kept, IsUnchanged, Replays, IsSound}
+use Rattle.query_core.specs.Soundness.{kept, IsUnchanged, Replays, IsSound, IsUnswept}
 use Rattle.query_core.specs.Changes.{Puts}
 use Rattle.query_core.specs.declared.store.Node.{Node}
 use Rattle.query_core.specs.declared.rules.Step.{Step}
@@ -20,6 +20,7 @@ RunsOn q old new r = (new.runs ≡ old.runs) ⊎ ((new.runs ≡ old.runs ++ r.ke
 pub record Keeps {K V : Type 0} (q : Queries K V) (old : Held K V) (i : ℕ) (r : Node K V) : Type 0 where
   pub current : is_current q old r ≡ true
   pub reads : (j : ℕ) → Has r.reads j → (j ≢ i) × ((d : Node K V) × ((at old j ≡ Some d) × (is_current q old d ≡ true)))
+  pub flag : r.input ≡ q.is_input r.key
   pub inputs : q.is_input r.key ≡ true → r.reads ≡ []
   pub replays : q.is_input r.key ≡ false → (first left : List ℕ) → r.reads ≡ first ++ left → Replays old left r.value (q.step r.key (kept old first))
   pub stamps : (r.verified_at ≤ old.revision) × (r.changed_at ≤ old.revision)
@@ -191,9 +192,10 @@ module _ {K V : Type 0} (q : Queries K V) (laws : AreLawful q) (old new : Held K
           | inr n ↦ (h.0, (h.1.0, (node_there k h.0 h.1.1.0 n, stays h.0 h.1.0 h.1.1.1 n, h.1.1.2, h.1.1.3 ∙ sym puts.revision)))
         ]
 
-    ran_new : RunsOn q old new r → Each (IsRunNow new) new.runs
-    ran_new on =
-        let base = Each-map (IsRunNow old) (IsRunNow new) old.runs (λ k m h. ran_there k h) sound.ran in
+    -- the keys that ran are still verified
+    pub unswept_puts : IsUnswept q old → RunsOn q old new r → IsUnswept q new
+    unswept_puts unswept on =
+        let base = Each-map (IsRunNow old) (IsRunNow new) old.runs (λ k m h. ran_there k h) unswept in
         elim on [
           | inl e ↦ subst (Each (IsRunNow new)) (sym e) base
           | inr e ↦ subst (Each (IsRunNow new)) (sym e.0) (Each-append (IsRunNow new) old.runs (r.key ∷ []) base ((i, (r, (node_here, puts.here, e.1, stamp_here e.1))), tt))
@@ -229,6 +231,10 @@ module _ {K V : Type 0} (q : Queries K V) (laws : AreLawful q) (old new : Held K
           ];
       numbered = numbered_new;
       numbers = numbers_new;
-      ran = ran_new on;
       once = once_new on;
+      flagged = λ a e at_e.
+          elim (at_new a e at_e) [
+            | inl p ↦ subst (λ (x : Node K V). x.input ≡ q.is_input x.key) p.1 keeps.flag
+            | inr p ↦ sound.flagged a e p.1
+          ];
     }

@@ -1,5 +1,5 @@
 -- What is due after an input was set, or the next revision begun, was due before.
-use Rattle.std.proofs.Common.{◌≡◌, ◌≢◌, ℕ, ◌<◌, ◌+◌, true, false, cond, List, [], refl, ap, sym, ◌∙◌, subst, inl, inr, ◌⊎◌, Some, None, arith}
+use Rattle.std.proofs.Common.{◌≡◌, ℕ, true, false, cond, List, refl, ap, sym, ◌∙◌, subst, inl, inr, Some, None, arith}
 use Rattle.std.proofs.lemmas.Bool.{cases_eq}
 use Rattle.std.specs.Option.{option_map_or}
 use Rattle.query_core.specs.Lists.{Has}

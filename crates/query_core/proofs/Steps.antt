@@ -121,6 +121,7 @@ module _ {K V : Type 0} where
         let c = not_current q g sound k i r stale e key in
         record {
           current = stamped_current q g (record r { verified_at = g.revision }) refl;
+          flag = sound.flagged i r e;
           reads = λ j h. let s = Each-at (IsSettled q g r.verified_at) r.reads j settled h in (
             (λ ji. let bad : ⊥ = (let p = subst (λ n. at g n ≡ Some s.0) ji s.1.0 in let cur = s.1.1 in let same : s.0 ≡ r = cc in
                 let cr : is_current q g r ≡ true = subst (λ (x : Node K V). is_current q g x ≡ true) same cur in cc) in bad),
@@ -138,12 +139,13 @@ module _ {K V : Type 0} where
         }
 
     -- a run is entered
-    pub enter_keeps : (k : K) (i : ℕ) (r : Node K V) (reads : List ℕ) (v : V) → IsEntry q g k v reads → r.key ≡ k → r.value ≡ v → r.reads ≡ reads → r.verified_at ≡ g.revision → r.changed_at ≤ g.revision
+    pub enter_keeps : (k : K) (i : ℕ) (r : Node K V) (reads : List ℕ) (v : V) → IsEntry q g k v reads → r.key ≡ k → r.value ≡ v → r.reads ≡ reads → r.input ≡ false → r.verified_at ≡ g.revision → r.changed_at ≤ g.revision
         → ((s : Node K V) → at g i ≡ Some s → (s.key ≡ k) × (((r.value ≡ s.value) × (r.changed_at ≡ s.changed_at)) ⊎ (r.changed_at ≡ g.revision)))
         → Keeps q g i r
-    enter_keeps k i r reads v entry key value reads_is va ca was =
+    enter_keeps k i r reads v entry key value reads_is flag va ca was =
         record {
           current = stamped_current q g r va;
+          flag = flag ∙ sym (subst (λ x. q.is_input x ≡ false) (sym key) entry.no_input);
           reads = λ j h.
               let s = answered_at q g reads (q.asks (inputs q g) k) j entry.answered (subst (λ l. Has l j) reads_is h) in (
                 (λ ji. let p = subst (λ n. at g n ≡ Some s.0) ji s.1.0 in
@@ -171,10 +173,11 @@ module _ {K V : Type 0} where
         }
 
     -- an input that isn't set is made
-    pub unset_keeps : (i : ℕ) (r : Node K V) → at g i ≡ None → q.is_input r.key ≡ true → r.reads ≡ [] → r.verified_at ≤ g.revision → r.changed_at ≤ g.revision → Keeps q g i r
-    unset_keeps i r free is none va ca =
+    pub unset_keeps : (i : ℕ) (r : Node K V) → at g i ≡ None → q.is_input r.key ≡ true → r.input ≡ true → r.reads ≡ [] → r.verified_at ≤ g.revision → r.changed_at ≤ g.revision → Keeps q g i r
+    unset_keeps i r free is flag none va ca =
         record {
           current = ap (λ b. b || (r.verified_at == g.revision)) is;
+          flag = flag ∙ sym is;
           reads = λ j h. absurd (let bad : ⊥ = subst (λ l. Has l j) none h in bad);
           inputs = λ _. none;
           replays = λ isnt first left e. absurd (let bad : ⊥ = cc in bad);

@@ -1,5 +1,5 @@
 -- Lemmas on the words for lists, and on what a graph keeps of a list of nodes.
-use Rattle.std.proofs.Common.{◌≡◌, ℕ, zero, suc, ◌<◌, length, get_or, arith, List, [], ◌∷◌, ◌++◌, refl, ap, sym, ◌∙◌, subst, inl, inr, ◌⊎◌, Option, Some, None}
+use Rattle.std.proofs.Common.{◌≡◌, ℕ, zero, suc, ◌<◌, ◌≤◌, Bool, true, false, cond, length, get_or, arith, List, [], ◌∷◌, ◌++◌, refl, ap, sym, ◌∙◌, subst, inl, inr, ◌⊎◌, Option, Some, None}
 use Rattle.std.specs.Prelude.{filter_map, slice_get}
 use Rattle.std.specs.List.{cons_option}
 use Rattle.std.specs.Option.{option_map}
@@ -52,6 +52,13 @@ pub IsOnce-push : {X : Type 0} (xs : List X) (x : X) → IsOnce xs → ¬ Has xs
 IsOnce-push [] x o n = ((λ h. h), tt)
 IsOnce-push (y ∷ xs) x o n =
     ((λ h. elim (Has-append xs (x ∷ []) y h) [ inl a ↦ o.0 a | inr b ↦ elim b [ inl e ↦ n (inl (sym e)) | inr c ↦ c ] ]), IsOnce-push xs x o.1 (λ h. n (inr h)))
+
+-- what counts the tests that fail, counts fewer where more of them hold
+pub one_less : (a b : Bool) → (a ≡ true → b ≡ true) → cond b 0 1 ≤ cond a 0 1
+one_less true true h = omega arith
+one_less true false h = let bad : ⊥ = (let e = h refl in cc) in absurd bad
+one_less false true h = omega arith
+one_less false false h = omega arith
 
 cons_option-append : {X : Type 0} (o : Option X) (xs ys : List X) → cons_option o xs ++ ys ≡ cons_option o (xs ++ ys)
 cons_option-append None xs ys = refl

@@ -3,7 +3,7 @@ use Rattle.std.specs.Prelude.{◌≡◌, ◌≢◌, ℕ, ◌<◌, true, false, L
 use Rattle.query_core.specs.Lists.{Has, Each}
 use Rattle.query_core.specs.Queries.{Queries}
 use Rattle.query_core.specs.Graph.{Held, at, node_of, record_of, inputs, is_current, is_verified}
-use Rattle.query_core.specs.Soundness.{IsSound}
+use Rattle.query_core.specs.Soundness.{IsSound, IsUnswept}
 use Rattle.query_core.specs.Due.{IsDue}
 use Rattle.query_core.specs.declared.store.Node.{Node}
 
@@ -21,11 +21,15 @@ module _ {K V : Type 0} where
   abbrev pub ran : Held K V → Held K V → List K
   ran old new = drop (length old.runs) new.runs
 
-  -- a key that ran: it is reached from the demanded key, and at entry it wasn't verified and was due
-  pub record IsRun (q : Queries K V) (g : Held K V) (root k : K) : Type 0 where
-    pub reached : IsReached (q.asks (inputs q g)) root k
+  -- a key that ran: it is reached, and at entry it wasn't verified and was due
+  pub record IsRunBy (q : Queries K V) (g : Held K V) (reached_by : K → Type 0) (k : K) : Type 0 where
+    pub reached : reached_by k
     pub stale : is_verified q g k ≡ false
     pub due : IsDue q g (inputs q g) k
+
+  -- it is reached from the demanded key
+  abbrev pub IsRun : Queries K V → Held K V → K → K → Type 0
+  IsRun q g root k = IsRunBy q g (IsReached (q.asks (inputs q g)) root) k
 
   -- the stamp of change moves to now exactly where the value differs
   abbrev pub Moves : ℕ → Node K V → Node K V → Type 0
@@ -59,9 +63,9 @@ module _ {K V : Type 0} where
     pub runs : new.runs ≡ old.runs
     pub given : (x : K) → inputs q new x ≡ cond (q.same k x) v (inputs q old x)
 
-  -- What a demand of the root leaves: its keys run at their nodes, all other records stay, and the only other new records are
-  -- those of inputs that it reaches and that aren't set.
-  pub record Leaves (q : Queries K V) (old new : Held K V) (root : K) (added : List K) : Type 0 where
+  -- What is left where these keys ran: they have their nodes, all other records stay, and the only other new records are those of
+  -- inputs that are reached and that aren't set.
+  pub record LeavesBy (q : Queries K V) (old new : Held K V) (reached : K → Type 0) (added : List K) : Type 0 where
     pub revision : new.revision ≡ old.revision
     pub runs : new.runs ≡ old.runs ++ added
     pub inputs_stay : inputs q new ≡ inputs q old
@@ -69,14 +73,23 @@ module _ {K V : Type 0} where
     pub run : (i : ℕ) (r : Node K V) → at old i ≡ Some r → Has added r.key
         → (s : Node K V) × ((at new i ≡ Some s) × (s.key ≡ r.key) × Moves old.revision r s)
     pub fresh : (i : ℕ) (s : Node K V) → at old i ≡ None → at new i ≡ Some s
-        → (s.changed_at ≡ old.revision) × (Has added s.key ⊎ ((q.is_input s.key ≡ true) × (s.value ≡ q.unset s.key) × IsReached (q.asks (inputs q old)) root s.key))
+        → (s.changed_at ≡ old.revision) × (Has added s.key ⊎ ((q.is_input s.key ≡ true) × (s.value ≡ q.unset s.key) × reached s.key))
+
+  -- what a demand of the root leaves
+  abbrev pub Leaves : Queries K V → Held K V → Held K V → K → List K → Type 0
+  Leaves q old new root added = LeavesBy q old new (IsReached (q.asks (inputs q old)) root) added
 
   -- the node holds the key's record: it was verified now, and has the value of the key
   abbrev pub IsHolding : Queries K V → Held K V → Held K V → K → ℕ → Type 0
   IsHolding q old new k node = (r : Node K V) × ((node_of q new k ≡ Some node) × (at new node ≡ Some r) × (r.key ≡ k) × (is_current q new r ≡ true) × (r.value ≡ q.val (inputs q old) k))
 
-  -- what a walk has done, to the graph
-  pub record Walked (q : Queries K V) (g0 : Held K V) (root : K) (g : Held K V) : Type 0 where
+  -- what was done to the graph, by what was reached
+  pub record WalkedBy (q : Queries K V) (g0 : Held K V) (reached : K → Type 0) (g : Held K V) : Type 0 where
     pub sound : IsSound q g
-    pub leaves : Leaves q g0 g root (ran g0 g)
-    pub due : Each (IsRun q g0 root) (ran g0 g)
+    pub unswept : IsUnswept q g
+    pub leaves : LeavesBy q g0 g reached (ran g0 g)
+    pub due : Each (IsRunBy q g0 reached) (ran g0 g)
+
+  -- what a demand of the root has done, whether it was refused memory or not
+  abbrev pub Walked : Queries K V → Held K V → K → Held K V → Type 0
+  Walked q g0 root g = WalkedBy q g0 (IsReached (q.asks (inputs q g0)) root) g

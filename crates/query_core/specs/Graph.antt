@@ -6,8 +6,8 @@ use Rattle.query_core.specs.Queries.{Queries}
 use Rattle.query_core.specs.declared.store.Node.{Node}
 
 -- The records by node, the node of each key, the number of the revision, and the keys that ran in it, in order.
--- A record has a key, its value, the nodes that its run read in the order of asking, the revision in which it was last
--- verified, and the revision in which its value last changed.
+-- A record has a key, its value, the nodes that its run read in the order of asking, whether the key is an input, the revision in
+-- which it was last verified, and the revision in which its value last changed.
 pub record Held (K V : Type 0) : Type 0 where
   pub nodes : List (Option (Node K V))
   pub numbers : List (K × ℕ)

@@ -7,3 +7,5 @@ pub mod Stored
 pub mod Changes
 pub mod Answering
 pub mod Walk
+pub mod Marking
+pub mod Sweeping

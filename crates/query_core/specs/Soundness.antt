@@ -38,6 +38,12 @@ pub record IsSound {K V : Type 0} (q : Queries K V) (g : Held K V) : Type 0 wher
   -- a key has one node, that of its record
   pub numbered : (i : ℕ) (r : Node K V) → at g i ≡ Some r → node_of q g r.key ≡ Some i
   pub numbers : (k : K) (i : ℕ) → node_of q g k ≡ Some i → (r : Node K V) × (at g i ≡ Some r) × (r.key ≡ k)
-  -- the keys that ran are verified now, no inputs, and each ran once
-  pub ran : Each (λ k. (i : ℕ) × ((r : Node K V) × ((node_of q g k ≡ Some i) × (at g i ≡ Some r) × (q.is_input k ≡ false) × (r.verified_at ≡ g.revision)))) g.runs
+  -- each key ran once
   pub once : IsOnce g.runs
+  -- a record says whether its key is an input
+  pub flagged : (i : ℕ) (r : Node K V) → at g i ≡ Some r → r.input ≡ q.is_input r.key
+
+module _ {K V : Type 0} where
+  -- each key that ran has a record that was verified now, and is no input: so it is where no sweep was called in this revision
+  abbrev pub IsUnswept : Queries K V → Held K V → Type 0
+  IsUnswept q g = Each (λ k. (i : ℕ) × ((r : Node K V) × ((node_of q g k ≡ Some i) × (at g i ≡ Some r) × (q.is_input k ≡ false) × (r.verified_at ≡ g.revision)))) g.runs

@@ -3,7 +3,7 @@ use Rattle.std.specs.Prelude.{◌≡◌, ℕ, ◌<◌, ◌≤◌, ◌+◌, true,
 use Rattle.query_core.specs.Lists.{Has, Each}
 use Rattle.query_core.specs.Queries.{Queries, answers}
 use Rattle.query_core.specs.Graph.{Held, at, node_of, record_of, inputs, is_current, is_verified}
-use Rattle.query_core.specs.Soundness.{IsSound}
+use Rattle.query_core.specs.Soundness.{IsSound, IsUnswept}
 use Rattle.query_core.specs.Changes.{Puts, IsStamped}
 use Rattle.query_core.specs.declared.store.Node.{Node}
 use Rattle.query_core.specs.declared.frame.Frame.{Frame}
@@ -140,4 +140,4 @@ module _ {K V : Type 0} where
   abbrev pub IsStep : {S : Type 0} → Queries K V → (K → S → List (K × V) → Type 0) → Held K V → Held K V → K → ℕ → ℕ → Moved K S → Type 0
   IsStep q has_read old new k steps steps' (Waits frame on at_node) =
       (new ≡ old) × (steps' ≡ steps) × (frame.key ≡ k) × IsFrame q has_read old frame × Has (q.asks (inputs q old) k) on × (is_verified q old on ≡ false)
-  IsStep q has_read old new k steps steps' (Done node) = Finishes q old new k node × IsSound q new × (steps' + length old.runs ≡ steps + length new.runs)
+  IsStep q has_read old new k steps steps' (Done node) = Finishes q old new k node × IsSound q new × (steps' + length old.runs ≡ steps + length new.runs) × IsUnswept q new

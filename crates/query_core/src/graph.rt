@@ -1,17 +1,19 @@
-// The query graph: inputs, revisions, and look-ups. The walk of a demand stands in a module of its own.
+// The query graph: inputs, revisions, and look-ups. The walk of a demand and the sweep stand in modules of their own.
 
+mod sweep;
 mod walk;
 
 ghost use Rattle.std.specs.Prelude.{◌≡◌, ℕ, ◌+◌, ◌<◌, ◌^◌, [], true, None, Some, OnOk, OnErr, IsSome, count_by, is_some, Option};
-ghost use Rattle.std.specs.Option.{option_map};
+ghost use Rattle.std.specs.Option.{option_map, option_copied};
 ghost use Rattle.query_core.specs.Graph.{Held, at, node_of};
-ghost use Rattle.query_core.specs.Soundness.{IsSound};
+ghost use Rattle.query_core.specs.Soundness.{IsSound, IsUnswept};
 ghost use Rattle.query_core.specs.Changes.{IsFresh, SetsInput};
+ghost use Rattle.query_core.specs.Sweeping.{Sweeps};
 ghost use Rattle.query_core.specs.Due.{WasDue};
 
 use crate::keys::{Reads, TryCopy};
 use crate::rules::Rules;
-use crate::store::Store;
+use crate::store::{Node, Store};
 use std::alloc::{AllocError, Global};
 use std::marker::{Model, PhantomData};
 
@@ -64,6 +66,7 @@ impl<R: Rules> Graph<R> {
         ensures runs { result.runs ≡ [] }
         ensures sound { IsSound R.queries result }
         ensures fresh { IsFresh R.queries result }
+        ensures unswept { IsUnswept R.queries result }
     {
         Graph {
             alloc,
@@ -86,13 +89,21 @@ impl<R: Rules> Graph<R> {
         ensures err { OnErr result (self.new ≡ self.old) }
         ensures sound { IsSound R.queries self.new }
         ensures still_fresh { IsFresh R.queries self.new }
+        ensures still_unswept { IsUnswept R.queries self.old → IsUnswept R.queries self.new }
     {
         let now = self.revision;
         let reads = Reads::new(self.alloc);
         match self.store.node_of(&key) {
             Some(node) => self.store.renew(node, value, reads, now),
             None => {
-                self.store.add(key, value, reads, now)?;
+                self.store.add(Node {
+                    key,
+                    value,
+                    reads,
+                    input: true,
+                    verified_at: now,
+                    changed_at: now,
+                })?;
             }
         }
         Ok(())
@@ -107,6 +118,7 @@ impl<R: Rules> Graph<R> {
         ensures err { OnErr result (self.new ≡ self.old) }
         ensures sound { IsSound R.queries self.new }
         ensures still_fresh { IsFresh R.queries self.new }
+        ensures still_unswept { IsUnswept R.queries self.old → IsUnswept R.queries self.new }
     {
         let value = rules.unset(self.alloc, key)?;
         let copy = key.try_copy()?;
@@ -120,9 +132,26 @@ impl<R: Rules> Graph<R> {
         ensures due { (given : R.Key → R.Value) → WasDue R.queries self.old self.new given }
         ensures sound { IsSound R.queries self.new }
         ensures fresh { IsFresh R.queries self.new }
+        ensures unswept { IsUnswept R.queries self.new }
     {
         self.revision += 1;
         self.runs.clear();
+    }
+
+    /// The node of a key.
+    fn node_of(&self, key: &R::Key) -> Option<usize>
+        ensures value { result ≡ node_of R.queries self.now key.now }
+        ensures sound { IsSound R.queries self.now }
+    {
+        self.store.node_of(key)
+    }
+
+    /// The record at a node.
+    fn node(&self, node: usize) -> Option<&Node<R::Key, R::Value>>
+        ensures value { option_copied result ≡ at self.now node }
+        ensures sound { IsSound R.queries self.now }
+    {
+        self.store.node(node)
     }
 
     /// The value at a node, as it was worked out or set last.

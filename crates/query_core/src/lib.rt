@@ -4,6 +4,7 @@
 mod frame;
 mod graph;
 mod keys;
+mod marks;
 mod rules;
 mod store;
 

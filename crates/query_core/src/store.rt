@@ -1,13 +1,15 @@
 // The records of the keys: nodes in a slab, and the number of each key's node.
 
-ghost use Rattle.std.specs.Prelude.{◌≡◌, IfOk, OnErr, IsSome, None, Some, [], Option, count_by, is_some};
+ghost use Rattle.std.specs.Prelude.{◌≡◌, ◌+◌, ℕ, IfOk, OnErr, IsSome, None, Some, [], Option, count_by, is_some};
 ghost use Rattle.std.specs.Map.{lookup};
 ghost use Rattle.std.specs.Option.{option_copied};
-ghost use Rattle.query_core.specs.Stored.{Stored, Changes, Adds, node_at};
+ghost use Rattle.query_core.specs.Stored.{Stored, Changes, Adds, Removes, node_at, stays, left_at};
+ghost use Rattle.query_core.specs.Answering.{IsNumbered};
 ghost use Rattle.query_core.specs.declared.store.Node.{Node};
 ghost use Rattle.std.specs.Prelude.{if◌then◌else◌};
 
 use crate::keys::{Reads, TryCopy};
+use crate::marks::Marks;
 use indexmap::IndexMap;
 use slab::Slab;
 use std::alloc::{AllocError, Global};
@@ -23,6 +25,8 @@ pub struct Node<K, V> {
     pub(crate) value: V,
     /// The nodes that its run read, in the order of asking.
     pub(crate) reads: Reads,
+    /// Whether the key is an input.
+    pub(crate) input: bool,
     /// The revision in which it was last verified.
     pub(crate) verified_at: u64,
     /// The revision in which its value last changed.
@@ -77,30 +81,54 @@ impl<K: Eq + Hash + TryCopy + Drop, V: Drop> Store<K, V> {
     }
 
     /// Adds the record of a key that has none.
-    pub(crate) fn add(
-        &mut self,
-        record_key: K,
-        value: V,
-        reads: Reads,
-        now: u64,
-    ) -> Result<usize, AllocError>
-        requires { lookup (K.eq record_key) self.old.numbers ≡ None }
-        ensures ok { IfOk result (λ i. Adds K.eq self.old self.new i (record { key = record_key; value = value; reads = reads; verified_at = now; changed_at = now })) }
+    pub(crate) fn add(&mut self, added: Node<K, V>) -> Result<usize, AllocError>
+        requires { lookup (K.eq added.key) self.old.numbers ≡ None }
+        ensures ok { IfOk result (λ i. Adds K.eq self.old self.new i added) }
         ensures err { OnErr result (self.new ≡ self.old) }
     {
         self.nodes.reserve(1)?;
-        let copy = record_key.try_copy()?;
+        let copy = added.key.try_copy()?;
         let node = self.nodes.vacant_key();
         self.numbers.insert(copy, node).map_err(AllocError::from)?;
-        Ok(
-            self.nodes.insert_reserved(Node {
-                key: record_key,
-                value,
-                reads,
-                verified_at: now,
-                changed_at: now,
-            }),
-        )
+        Ok(self.nodes.insert_reserved(added))
+    }
+
+    /// Whether the record at the node is an input's, or the node is one of these; where there is no record, nothing is to go.
+    fn keeps(&self, node: usize, used: &Marks) -> bool
+        ensures { result ≡ stays used.now node (node_at self.now node) }
+    {
+        match self.nodes.get(node) {
+            Some(kept) => kept.input || used.contains(node),
+            None => true,
+        }
+    }
+
+    /// Removes the record at the node.
+    fn remove(&mut self, node: usize)
+        requires { IsSome (node_at self.old node) }
+        ensures removes { (r : Node K V) → node_at self.old node ≡ Some r → Removes K.eq self.old self.new node r }
+        ensures len { count_by is_some self.new.nodes + 1 ≡ count_by is_some self.old.nodes }
+    {
+        let removed = self.nodes.remove(node);
+        self.numbers.swap_remove(&removed.key);
+    }
+
+    /// Removes each record that is no input's and isn't at one of these nodes, and gives how many went. It takes no memory.
+    pub(crate) fn keep(&mut self, used: &Marks) -> usize
+        requires { IsNumbered K.eq self.old }
+        ensures left { (i : ℕ) → node_at self.new i ≡ left_at used.now i (node_at self.old i) }
+        ensures numbered { IsNumbered K.eq self.new }
+        ensures count { count_by is_some self.new.nodes + result ≡ count_by is_some self.old.nodes }
+    {
+        let mut removed = 0;
+        for node in 0..self.nodes.capacity() {
+            if self.keeps(node, used) {
+                continue;
+            }
+            self.remove(node);
+            removed += 1;
+        }
+        removed
     }
 
     /// Marks the record as verified in the revision `now`.
@@ -120,7 +148,7 @@ impl<K: Eq + Hash + TryCopy + Drop, V: Eq + Drop> Store<K, V> {
     pub(crate) fn renew(&mut self, node: usize, value: V, reads: Reads, now: u64)
         requires { IsSome (node_at self.old node) }
         ensures { (r : Node K V) → node_at self.old node ≡ Some r → Changes self.old self.new node
-            (record { key = r.key; value = value; reads = reads; verified_at = now; changed_at = (if V.eq r.value value then r.changed_at else now) }) }
+            (record { key = r.key; value = value; reads = reads; input = r.input; verified_at = now; changed_at = (if V.eq r.value value then r.changed_at else now) }) }
     {
         if let Some(kept) = self.nodes.get_mut(node) {
             let changed_at = if kept.value == value {

@@ -8,8 +8,8 @@ mod turns;
 
 pub use cells::{Cell, CellRules};
 pub use pick::{PickKey, PickRules};
-pub use sheet::{Edit, Shown, edit_all};
-pub use turns::{Input, Outcome, Turn, play};
+pub use sheet::{Edit, Shown, Swept, edit_all, sweep_after};
+pub use turns::{Between, Input, Outcome, Turn, play, sweep_between, sweep_once};
 
 #[cfg(test)]
 mod tests {
@@ -207,6 +207,119 @@ mod tests {
         assert_eq!(rt; all.len(), SHOWN.len());
         for (one, wanted) in all.iter().zip(SHOWN.iter()) {
             assert_eq!(rt; *one, *wanted);
+        }
+    }
+    // Nothing is a root, so `Pick` goes and its inputs stay; the next demand runs it anew.
+    #[test]
+    fn a_sweep_without_roots_removes_the_choice(rt: HostRuntime) {
+        let swept = sweep_between::<Brand>(rt.alloc(), Blank::new(1), &[]).expect(&rt, "memory");
+        assert_eq!(rt;
+            swept,
+            Between {
+                removed: 1,
+                left: 3,
+                after: Outcome {
+                    value: Some(5),
+                    runs: 1,
+                    records: 4,
+                },
+            }
+        );
+    }
+
+    #[test]
+    fn a_root_stays(rt: HostRuntime) {
+        let roots = [PickKey::Pick];
+        let swept = sweep_between::<Brand>(rt.alloc(), Blank::new(1), &roots).expect(&rt, "memory");
+        assert_eq!(rt;
+            swept,
+            Between {
+                removed: 0,
+                left: 4,
+                after: Outcome {
+                    value: Some(5),
+                    runs: 0,
+                    records: 4,
+                },
+            }
+        );
+    }
+
+    // With `rt try --test --fail-alloc N` an allocation of the sweep fails, and all records stay.
+    #[test]
+    fn a_sweep_removes_all_or_nothing(rt: HostRuntime) {
+        let (removed, left) = sweep_once::<Brand>(rt.alloc(), Blank::new(1)).expect(&rt, "memory");
+        match removed {
+            Some(count) => {
+                assert_eq!(rt; count, 1);
+                assert_eq!(rt; left, 3);
+            }
+            None => assert_eq!(rt; left, 4),
+        }
+    }
+
+    struct Sweep {
+        root: Cell,
+        removed: usize,
+        left: usize,
+        runs: [usize; 2],
+    }
+
+    // Over the half of input 0 stand a diamond of three cells and a chain of three.
+    static SHARED: [Edit; 2] = [
+        Edit {
+            input: 0,
+            value: 4,
+            demand: Cell::Top,
+        },
+        Edit {
+            input: 0,
+            value: 4,
+            demand: Cell::Chain(2),
+        },
+    ];
+
+    static SWEEPS: [Sweep; 4] = [
+        Sweep {
+            root: Cell::Top,
+            removed: 3,
+            left: 5,
+            runs: [0, 3],
+        },
+        Sweep {
+            root: Cell::Chain(1),
+            removed: 4,
+            left: 4,
+            runs: [3, 1],
+        },
+        Sweep {
+            root: Cell::Half(0),
+            removed: 6,
+            left: 2,
+            runs: [3, 3],
+        },
+        // a root without a record uses nothing
+        Sweep {
+            root: Cell::Chain(3),
+            removed: 7,
+            left: 1,
+            runs: [4, 3],
+        },
+    ];
+
+    #[test]
+    fn what_a_root_shares_stays(rt: HostRuntime) {
+        for sweep in SWEEPS.iter() {
+            let roots = [sweep.root];
+            let swept = sweep_after::<Brand>(rt.alloc(), Blank::new(1), &SHARED, &roots).expect(
+                &rt, "memory",
+            );
+            assert_eq!(rt; swept.removed, sweep.removed);
+            assert_eq!(rt; swept.left, sweep.left);
+            for (shown, wanted) in swept.again.iter().zip(sweep.runs.iter()) {
+                assert_eq!(rt; shown.value, 2);
+                assert_eq!(rt; shown.runs, *wanted);
+            }
         }
     }
 }

@@ -1,6 +1,6 @@
 // The cells, on a graph: edits and demands, and what each demand gave.
 
-ghost use Rattle.std.specs.Prelude.{◌≡◌, ◌+◌, ◌<◌, ◌^◌, length};
+ghost use Rattle.std.specs.Prelude.{◌≡◌, ◌+◌, ◌<◌, ◌^◌, OnOk, length};
 
 use crate::cells::{Cell, CellRules};
 use query_core::Graph;
@@ -23,6 +23,14 @@ pub struct Shown {
     pub runs: usize,
 }
 
+/// What a sweep between two times of the same edits gave: how many records it removed, how many it left, and what the edits gave then.
+#[derive(Debug, Drop)]
+pub struct Swept {
+    pub removed: usize,
+    pub left: usize,
+    pub again: Vec<Shown>,
+}
+
 /// Begins a revision, sets the input and demands the cell.
 fn make_edit<L: Ledger>(
     graph: &mut Graph<CellRules>,
@@ -41,6 +49,24 @@ fn make_edit<L: Ledger>(
     })
 }
 
+/// Makes the edits one after the other.
+fn make_edits<L: Ledger>(
+    alloc: Global,
+    graph: &mut Graph<CellRules>,
+    edits: &[Edit],
+    steps: &mut Steps<L>,
+) -> Result<Vec<Shown>, AllocError>
+    requires { graph.old.revision + length edits.now < 2000 }
+    ensures { OnOk result (graph.new.revision ≡ graph.old.revision + length edits.now) }
+{
+    let mut shown = Vec::new(alloc);
+    for next in edits {
+        let one = make_edit(graph, next, steps)?;
+        shown.push(one)?;
+    }
+    Ok(shown)
+}
+
 /// Makes the edits one after the other, on a graph with no input set.
 pub fn edit_all<L: Ledger>(
     alloc: Global,
@@ -53,11 +79,31 @@ pub fn edit_all<L: Ledger>(
     requires few { length edits.now < 1000 }
 {
     let mut steps = Steps::<L>::open(blank);
-    let mut shown = Vec::new(alloc);
     let mut graph = Graph::new(alloc);
-    for next in edits {
-        let one = make_edit(&mut graph, next, &mut steps)?;
-        shown.push(one)?;
-    }
-    Ok(shown)
+    make_edits(alloc, &mut graph, edits, &mut steps)
+}
+
+/// Makes the edits on a graph with no input set, sweeps with these roots, and makes the edits again.
+pub fn sweep_after<L: Ledger>(
+    alloc: Global,
+    blank: Blank,
+    edits: &[Edit],
+    roots: &[Cell],
+) -> Result<Swept, AllocError>
+    requires name { blank.name ≡ L.name }
+    requires parts { blank.parts ≡ L.parts }
+    requires some { 0 < L.parts }
+    requires few { length edits.now < 1000 }
+{
+    let mut steps = Steps::<L>::open(blank);
+    let mut graph = Graph::new(alloc);
+    make_edits(alloc, &mut graph, edits, &mut steps)?;
+    let removed = graph.sweep(roots)?;
+    let left = graph.len();
+    let again = make_edits(alloc, &mut graph, edits, &mut steps)?;
+    Ok(Swept {
+        removed,
+        left,
+        again,
+    })
 }

@@ -1,7 +1,8 @@
 // The choice, played on a graph: edits and demands, and what each demand gave.
 
 ghost use Rattle.std.specs.Prelude.{◌≡◌, ◌+◌, ◌<◌, ◌^◌, true, IfOk, length};
-ghost use Rattle.query_tests.specs.Pick.{is_input_key};
+ghost use Rattle.query_core.specs.Soundness.{IsUnswept};
+ghost use Rattle.query_tests.specs.Pick.{is_input_key, pick};
 
 use crate::pick::{PickKey, PickRules};
 use query_core::Graph;
@@ -43,11 +44,20 @@ fn key_of(input: Input) -> PickKey
     }
 }
 
+/// What a sweep between two demands of `Pick` gave: how many records it removed, how many it left, and what the second demand gave.
+#[derive(Clone, Copy, Debug, PartialEq, Eq, Drop)]
+pub struct Between {
+    pub removed: usize,
+    pub left: usize,
+    pub after: Outcome,
+}
+
 /// The value of `Pick`, and what ran for it.
 fn demanded<L: Ledger>(
     graph: &mut Graph<PickRules>,
     steps: &mut Steps<L>,
 ) -> Result<Outcome, AllocError>
+    requires { IsUnswept pick graph.old }
     ensures { graph.new.revision ≡ graph.old.revision }
 {
     let id = graph.demand(&PickRules {}, PickKey::Pick, steps)?;
@@ -81,7 +91,8 @@ fn take_turn<L: Ledger>(
 
 /// A graph with the inputs 0, 5 and 7.
 fn begun(alloc: Global) -> Result<Graph<PickRules>, AllocError>
-    ensures { IfOk result (λ g. g.revision ≡ 0) }
+    ensures revision { IfOk result (λ g. g.revision ≡ 0) }
+    ensures unswept { IfOk result (λ g. IsUnswept pick g) }
 {
     let mut graph = Graph::new(alloc);
     graph.set_input(PickKey::In0, 0)?;
@@ -110,4 +121,48 @@ pub fn play<L: Ledger>(
         outcomes.push(outcome)?;
     }
     Ok(outcomes)
+}
+
+/// Demands `Pick` on a graph with the inputs 0, 5 and 7, sweeps with these roots, and demands it again in the next revision.
+pub fn sweep_between<L: Ledger>(
+    alloc: Global,
+    blank: Blank,
+    roots: &[PickKey],
+) -> Result<Between, AllocError>
+    requires name { blank.name ≡ L.name }
+    requires parts { blank.parts ≡ L.parts }
+    requires some { 0 < L.parts }
+{
+    let mut steps = Steps::<L>::open(blank);
+    let mut graph = begun(alloc)?;
+    demanded(&mut graph, &mut steps)?;
+    let removed = graph.sweep(roots)?;
+    let left = graph.len();
+    graph.next_revision();
+    let after = demanded(&mut graph, &mut steps)?;
+    Ok(Between {
+        removed,
+        left,
+        after,
+    })
+}
+
+/// A sweep of the graph of the choice with one input as its root: how many records it removes, or `None` where it is refused memory, and
+/// how many are left.
+pub fn sweep_once<L: Ledger>(
+    alloc: Global,
+    blank: Blank,
+) -> Result<(Option<usize>, usize), AllocError>
+    requires name { blank.name ≡ L.name }
+    requires parts { blank.parts ≡ L.parts }
+    requires some { 0 < L.parts }
+{
+    let mut steps = Steps::<L>::open(blank);
+    let mut graph = begun(alloc)?;
+    demanded(&mut graph, &mut steps)?;
+    let removed = match graph.sweep(&[PickKey::In0]) {
+        Ok(removed) => Some(removed),
+        Err(_) => None,
+    };
+    Ok((removed, graph.len()))
 }

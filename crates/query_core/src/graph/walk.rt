@@ -3,7 +3,7 @@
 ghost use Rattle.std.specs.Prelude.{◌≡◌, ℕ, ◌+◌, ◌<◌, ◌≤◌, ◌++◌, ◌∷◌, [], slice_get, true, false, None, Some, Ok, Err, OnOk, OnErr, IfSome, IsSome, IfOk, IsOk, Option, length};
 ghost use Rattle.std.specs.Option.{option_copied};
 ghost use Rattle.query_core.specs.Graph.{at, node_of, record_of, is_current, is_verified};
-ghost use Rattle.query_core.specs.Soundness.{IsSound, kept};
+ghost use Rattle.query_core.specs.Soundness.{IsSound, IsUnswept, kept};
 ghost use Rattle.query_core.specs.Queries.{HasReadFirst, ticks};
 ghost use Rattle.query_core.specs.Walk.{IsFrame, IsStage, IsChecking, IsRunning, HasBegun, IsHalt, IsGivenUp, halted, IsLook, IsLookAt, IsSettledTo, IsCollected, IsEntry, IsStep, Finishes, AreAnswered};
 ghost use Rattle.query_core.specs.Lists.{Each, IsOnce};
@@ -25,22 +25,6 @@ impl<R: Rules> Graph<R> {
         ensures { result ≡ is_current R.queries self.now node.now }
     {
         rules.is_input(&node.key) || node.verified_at == self.revision
-    }
-
-    /// The node of a key.
-    fn node_of(&self, key: &R::Key) -> Option<usize>
-        ensures value { result ≡ node_of R.queries self.now key.now }
-        ensures sound { IsSound R.queries self.now }
-    {
-        self.store.node_of(key)
-    }
-
-    /// The record at a node.
-    fn node(&self, node: usize) -> Option<&Node<R::Key, R::Value>>
-        ensures value { option_copied result ≡ at self.now node }
-        ensures sound { IsSound R.queries self.now }
-    {
-        self.store.node(node)
     }
 
     /// The node of a key whose record was verified now.
@@ -221,9 +205,11 @@ impl<R: Rules> Graph<R> {
         requires no_input { R.queries.is_input key.now ≡ false }
         requires stale { is_verified R.queries self.old key.now ≡ false }
         requires numbered { node_of R.queries self.old key.now ≡ Some node }
+        requires unswept { IsUnswept R.queries self.old }
         requires settled { (r : Node R.Key R.Value) → at self.old node ≡ Some r → IsSettledTo R.queries self.old r (length r.reads) }
         ensures finishes { Finishes R.queries self.old self.new key.now node }
         ensures sound { IsSound R.queries self.new }
+        ensures unswept { IsUnswept R.queries self.new }
         ensures runs { self.new.runs ≡ self.old.runs }
     {
         let now = self.revision;
@@ -234,23 +220,35 @@ impl<R: Rules> Graph<R> {
     fn add_unset(&mut self, rules: &R, key: R::Key) -> Result<usize, AllocError>
         requires input { R.queries.is_input key ≡ true }
         requires absent { record_of R.queries self.old key ≡ None }
+        requires unswept { IsUnswept R.queries self.old }
         ensures finishes { IfOk result (λ node. Finishes R.queries self.old self.new key node) }
         ensures sound { OnOk result (IsSound R.queries self.new) }
+        ensures unswept { OnOk result (IsUnswept R.queries self.new) }
         ensures runs { self.new.runs ≡ self.old.runs }
         ensures err { OnErr result (self.new ≡ self.old) }
     {
         let value = rules.unset(self.alloc, &key)?;
         let reads = Reads::new(self.alloc);
         let now = self.revision;
-        let node = self.store.add(key, value, reads, now)?;
+        let added = Node {
+            key,
+            value,
+            reads,
+            input: true,
+            verified_at: now,
+            changed_at: now,
+        };
+        let node = self.store.add(added)?;
         Ok(node)
     }
 
     /// Enters the value of a run.
     fn enter(&mut self, key: R::Key, value: R::Value, reads: Reads) -> Result<usize, AllocError>
-        requires { IsEntry R.queries self.old key value reads }
+        requires entry { IsEntry R.queries self.old key value reads }
+        requires unswept { IsUnswept R.queries self.old }
         ensures finishes { IfOk result (λ node. Finishes R.queries self.old self.new key node) }
         ensures sound { OnOk result (IsSound R.queries self.new) }
+        ensures unswept { OnOk result (IsUnswept R.queries self.new) }
         ensures runs { OnOk result (self.new.runs ≡ self.old.runs ++ key ∷ []) }
         ensures err { OnErr result (self.new ≡ self.old) }
     {
@@ -264,7 +262,15 @@ impl<R: Rules> Graph<R> {
                 Ok(node)
             }
             None => {
-                let node = self.store.add(key, value, reads, now)?;
+                let added = Node {
+                    key,
+                    value,
+                    reads,
+                    input: false,
+                    verified_at: now,
+                    changed_at: now,
+                };
+                let node = self.store.add(added)?;
                 self.runs.push_reserved(ran);
                 Ok(node)
             }
@@ -312,6 +318,7 @@ impl<R: Rules> Graph<R> {
         steps: &mut Steps<L>,
     ) -> Result<Moved<R::Key, R::Run>, AllocError>
         requires stale { is_verified R.queries self.old key ≡ false }
+        requires unswept { IsUnswept R.queries self.old }
         requires running { IsRunning R.queries self.old key asked answered }
         requires begun { HasBegun R.queries R.has_read self.old key run asked }
         ensures ok { IfOk result (IsStep R.queries R.has_read self.old self.new key steps.old steps.new) }
@@ -347,6 +354,7 @@ impl<R: Rules> Graph<R> {
         steps: &mut Steps<L>,
     ) -> Result<Moved<R::Key, R::Run>, AllocError>
         requires stale { is_verified R.queries self.old key ≡ false }
+        requires unswept { IsUnswept R.queries self.old }
         requires running { IsRunning R.queries self.old key [] [] }
         ensures ok { IfOk result (IsStep R.queries R.has_read self.old self.new key steps.old steps.new) }
         ensures err { OnErr result (IsGivenUp self.old self.new steps.old steps.new) }
@@ -367,6 +375,7 @@ impl<R: Rules> Graph<R> {
         steps: &mut Steps<L>,
     ) -> Result<Moved<R::Key, R::Run>, AllocError>
         requires stale { is_verified R.queries self.old key ≡ false }
+        requires unswept { IsUnswept R.queries self.old }
         requires checking { IsChecking R.queries self.old key node place }
         ensures ok { IfOk result (IsStep R.queries R.has_read self.old self.new key steps.old steps.new) }
         ensures err { OnErr result (IsGivenUp self.old self.new steps.old steps.new) }
@@ -393,7 +402,8 @@ impl<R: Rules> Graph<R> {
         frame: Frame<R::Key, R::Run>,
         steps: &mut Steps<L>,
     ) -> Result<Moved<R::Key, R::Run>, AllocError>
-        requires { IsFrame R.queries R.has_read self.old frame }
+        requires frame { IsFrame R.queries R.has_read self.old frame }
+        requires unswept { IsUnswept R.queries self.old }
         ensures ok { IfOk result (IsStep R.queries R.has_read self.old self.new frame.key steps.old steps.new) }
         ensures err { OnErr result (IsGivenUp self.old self.new steps.old steps.new) }
     {
@@ -423,7 +433,8 @@ impl<R: Rules> Graph<R> {
         key: R::Key,
         steps: &mut Steps<L>,
     ) -> Result<NodeId, AllocError>
-        requires { is_verified R.queries self.old key ≡ false }
+        requires stale { is_verified R.queries self.old key ≡ false }
+        requires unswept { IsUnswept R.queries self.old }
         ensures walked { Walked R.queries self.old key self.new }
         ensures ok { IfOk result (λ id. IsHolding R.queries self.old self.new key id × (steps.new ≡ steps.old + length (ran self.old self.new))) }
         ensures err { OnErr result ((steps.old + length (ran self.old self.new) ≤ steps.new) × (steps.new ≤ steps.old + length (ran self.old self.new) + 1)) }
@@ -446,7 +457,8 @@ impl<R: Rules> Graph<R> {
         }
     }
 
-    /// The node of a key, whose record is verified now and holds the key's value over the inputs.
+    /// The node of a key, whose record is verified now and holds the key's value over the inputs. No `sweep` may have been called in
+    /// this revision.
     ///
     /// What is due on the way runs; each run is one step of the counter and one key of `runs`. A key that was verified in this revision is answered without
     /// memory. After want of memory the graph is sound, and each record whose key didn't run stands as before or counts as verified now;
@@ -457,7 +469,9 @@ impl<R: Rules> Graph<R> {
         key: R::Key,
         steps: &mut Steps<L>,
     ) -> Result<NodeId, AllocError>
+        requires unswept { IsUnswept R.queries self.old }
         ensures sound { IsSound R.queries self.new }
+        ensures still_unswept { IsUnswept R.queries self.new }
         ensures holds { IfOk result (λ id. IsHolding R.queries self.old self.new key id) }
         ensures leaves { Leaves R.queries self.old self.new key (ran self.old self.new) }
         ensures due { Each (IsRun R.queries self.old key) (ran self.old self.new) }

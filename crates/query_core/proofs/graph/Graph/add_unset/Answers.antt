@@ -1,5 +1,6 @@
 use Rattle.std.proofs.Common.{sym, subst, refl, ◌≡◌, None}
 use Rattle.query_core.specs.Graph.{record_of}
+use Rattle.query_core.specs.Soundness.{IsUnswept}
 use Rattle.query_core.proofs.graph.Graph.add_unset.Goals as goal
 use Rattle.query_core.proofs.Finishing.{unset_done}
 use Rattle.query_core.proofs.Calls.{no_number}
@@ -11,7 +12,7 @@ add-requires g c = no_number g.R.Rules.queries g.R.Key.PartialEq.eq g.met.R.Rule
 pub invariant_of-self-2 : goal.invariant_of-self-2
 invariant_of-self-2 g c =
     let absent = subst (λ o. record_of g.R.Rules.queries o c.args.key ≡ None) (sym c.self.view_is) c.requires.absent in
-    (unset_done g.R.Rules.queries g.met.R.Rules.lawful g.R.Key.PartialEq.eq g.met.R.Rules.same_keys c.self.inside.store c.add.new.self c.self.inside.revision c.self.inside.runs.items c.self.inside.runs.items c.self.invariant
+    (unset_done g.R.Rules.queries g.met.R.Rules.lawful g.R.Key.PartialEq.eq g.met.R.Rules.same_keys c.self.inside.store c.add.new.self c.self.inside.revision c.self.inside.runs.items c.self.inside.runs.items c.self.invariant (subst (IsUnswept g.R.Rules.queries) (sym c.self.view_is) c.requires.unswept)
     c.args.key c.in_ok-node.node c.in_ok-value.value c.new-reads.result refl absent
     (no_number g.R.Rules.queries g.R.Key.PartialEq.eq g.met.R.Rules.same_keys c.self.inside.store c.self.inside.revision c.self.inside.runs.items c.self.invariant c.args.key absent)
     c.requires.input c.in_ok-value.ensures c.new-reads.ensures c.in_ok-node.ensures.ok).sound
@@ -20,7 +21,7 @@ pub returns-clause-finishes : goal.returns-clause-finishes
 returns-clause-finishes g c =
     let absent = subst (λ o. record_of g.R.Rules.queries o c.args.key ≡ None) (sym c.self.view_is) c.requires.absent in
     rw (← c.self.view_is)
-    (unset_done g.R.Rules.queries g.met.R.Rules.lawful g.R.Key.PartialEq.eq g.met.R.Rules.same_keys c.self.inside.store c.add.new.self c.self.inside.revision c.self.inside.runs.items c.self.inside.runs.items c.self.invariant
+    (unset_done g.R.Rules.queries g.met.R.Rules.lawful g.R.Key.PartialEq.eq g.met.R.Rules.same_keys c.self.inside.store c.add.new.self c.self.inside.revision c.self.inside.runs.items c.self.inside.runs.items c.self.invariant (subst (IsUnswept g.R.Rules.queries) (sym c.self.view_is) c.requires.unswept)
     c.args.key c.in_ok-node.node c.in_ok-value.value c.new-reads.result refl absent
     (no_number g.R.Rules.queries g.R.Key.PartialEq.eq g.met.R.Rules.same_keys c.self.inside.store c.self.inside.revision c.self.inside.runs.items c.self.invariant c.args.key absent)
     c.requires.input c.in_ok-value.ensures c.new-reads.ensures c.in_ok-node.ensures.ok).finishes
@@ -28,7 +29,15 @@ returns-clause-finishes g c =
 pub returns-clause-sound : goal.returns-clause-sound
 returns-clause-sound g c =
     let absent = subst (λ o. record_of g.R.Rules.queries o c.args.key ≡ None) (sym c.self.view_is) c.requires.absent in
-    (unset_done g.R.Rules.queries g.met.R.Rules.lawful g.R.Key.PartialEq.eq g.met.R.Rules.same_keys c.self.inside.store c.add.new.self c.self.inside.revision c.self.inside.runs.items c.self.inside.runs.items c.self.invariant
+    (unset_done g.R.Rules.queries g.met.R.Rules.lawful g.R.Key.PartialEq.eq g.met.R.Rules.same_keys c.self.inside.store c.add.new.self c.self.inside.revision c.self.inside.runs.items c.self.inside.runs.items c.self.invariant (subst (IsUnswept g.R.Rules.queries) (sym c.self.view_is) c.requires.unswept)
     c.args.key c.in_ok-node.node c.in_ok-value.value c.new-reads.result refl absent
     (no_number g.R.Rules.queries g.R.Key.PartialEq.eq g.met.R.Rules.same_keys c.self.inside.store c.self.inside.revision c.self.inside.runs.items c.self.invariant c.args.key absent)
     c.requires.input c.in_ok-value.ensures c.new-reads.ensures c.in_ok-node.ensures.ok).sound
+
+pub returns-clause-unswept : goal.returns-clause-unswept
+returns-clause-unswept g c =
+    let absent = subst (λ o. record_of g.R.Rules.queries o c.args.key ≡ None) (sym c.self.view_is) c.requires.absent in
+    (unset_done g.R.Rules.queries g.met.R.Rules.lawful g.R.Key.PartialEq.eq g.met.R.Rules.same_keys c.self.inside.store c.add.new.self c.self.inside.revision c.self.inside.runs.items c.self.inside.runs.items c.self.invariant (subst (IsUnswept g.R.Rules.queries) (sym c.self.view_is) c.requires.unswept)
+    c.args.key c.in_ok-node.node c.in_ok-value.value c.new-reads.result refl absent
+    (no_number g.R.Rules.queries g.R.Key.PartialEq.eq g.met.R.Rules.same_keys c.self.inside.store c.self.inside.revision c.self.inside.runs.items c.self.invariant c.args.key absent)
+    c.requires.input c.in_ok-value.ensures c.new-reads.ensures c.in_ok-node.ensures.ok).unswept

@@ -1,5 +1,6 @@
 use Rattle.std.proofs.Common.{sym, subst, ap, ◌∙◌, ◌++◌, ◌∷◌, []}
 use Rattle.query_core.specs.Walk.{IsEntry}
+use Rattle.query_core.specs.Soundness.{IsUnswept}
 use Rattle.query_core.proofs.graph.Graph.enter.Goals as goal
 use Rattle.query_core.proofs.Calls.{stored_node, is_some_from}
 use Rattle.query_core.proofs.Finishing.{enter_old, enter_new}
@@ -11,44 +12,58 @@ renew-requires g c =
 
 pub invariant_of-self-in-Some-1 : goal.invariant_of-self-in-Some-1
 invariant_of-self-in-Some-1 g c =
-    (enter_old g.R.Rules.queries g.met.R.Rules.lawful g.R.Key.PartialEq.eq g.met.R.Rules.same_keys c.self.inside.store c.renew.new.self c.self.inside.revision c.self.inside.runs.items c.push_reserved.new.self.items c.self.invariant c.args.key
+    (enter_old g.R.Rules.queries g.met.R.Rules.lawful g.R.Key.PartialEq.eq g.met.R.Rules.same_keys c.self.inside.store c.renew.new.self c.self.inside.revision c.self.inside.runs.items c.push_reserved.new.self.items c.self.invariant (subst (IsUnswept g.R.Rules.queries) (sym c.self.view_is) c.requires.unswept) c.args.key
     g.R.Value.PartialEq.eq g.met.R.Rules.same_values g.met.R.Value.Eq.laws.refl c.in-Some.node c.args.value c.args.reads
     (c.push_reserved.ensures.items ∙ ap (λ l. l ++ c.in_ok-ran.ran ∷ []) c.in_ok-reserve.ensures.items ∙ ap (λ x. c.self.inside.runs.items ++ x ∷ []) c.in_ok-ran.ensures)
-    (subst (λ o. IsEntry g.R.Rules.queries o c.args.key c.args.value c.args.reads) (sym c.self.view_is) c.requires) (sym c.in-Some.ensures) c.renew.ensures).sound
+    (subst (λ o. IsEntry g.R.Rules.queries o c.args.key c.args.value c.args.reads) (sym c.self.view_is) c.requires.entry) (sym c.in-Some.ensures) c.renew.ensures).sound
 
 pub returns-in-Some-clause-finishes : goal.returns-in-Some-clause-finishes
 returns-in-Some-clause-finishes g c =
     rw (← c.self.view_is)
-    (enter_old g.R.Rules.queries g.met.R.Rules.lawful g.R.Key.PartialEq.eq g.met.R.Rules.same_keys c.self.inside.store c.renew.new.self c.self.inside.revision c.self.inside.runs.items c.push_reserved.new.self.items c.self.invariant c.args.key
+    (enter_old g.R.Rules.queries g.met.R.Rules.lawful g.R.Key.PartialEq.eq g.met.R.Rules.same_keys c.self.inside.store c.renew.new.self c.self.inside.revision c.self.inside.runs.items c.push_reserved.new.self.items c.self.invariant (subst (IsUnswept g.R.Rules.queries) (sym c.self.view_is) c.requires.unswept) c.args.key
     g.R.Value.PartialEq.eq g.met.R.Rules.same_values g.met.R.Value.Eq.laws.refl c.in-Some.node c.args.value c.args.reads
     (c.push_reserved.ensures.items ∙ ap (λ l. l ++ c.in_ok-ran.ran ∷ []) c.in_ok-reserve.ensures.items ∙ ap (λ x. c.self.inside.runs.items ++ x ∷ []) c.in_ok-ran.ensures)
-    (subst (λ o. IsEntry g.R.Rules.queries o c.args.key c.args.value c.args.reads) (sym c.self.view_is) c.requires) (sym c.in-Some.ensures) c.renew.ensures).finishes
+    (subst (λ o. IsEntry g.R.Rules.queries o c.args.key c.args.value c.args.reads) (sym c.self.view_is) c.requires.entry) (sym c.in-Some.ensures) c.renew.ensures).finishes
 
 pub invariant_of-self-in-None : goal.invariant_of-self-in-None
 invariant_of-self-in-None g c =
-    (enter_new g.R.Rules.queries g.met.R.Rules.lawful g.R.Key.PartialEq.eq g.met.R.Rules.same_keys c.self.inside.store c.add.new.self c.self.inside.revision c.self.inside.runs.items c.push_reserved-in-None.new.self.items c.self.invariant c.args.key
+    (enter_new g.R.Rules.queries g.met.R.Rules.lawful g.R.Key.PartialEq.eq g.met.R.Rules.same_keys c.self.inside.store c.add.new.self c.self.inside.revision c.self.inside.runs.items c.push_reserved-in-None.new.self.items c.self.invariant (subst (IsUnswept g.R.Rules.queries) (sym c.self.view_is) c.requires.unswept) c.args.key
     c.in_ok-node-in-None.node c.args.value c.args.reads
     (c.push_reserved-in-None.ensures.items ∙ ap (λ l. l ++ c.in_ok-ran.ran ∷ []) c.in_ok-reserve.ensures.items ∙ ap (λ x. c.self.inside.runs.items ++ x ∷ []) c.in_ok-ran.ensures)
-    (subst (λ o. IsEntry g.R.Rules.queries o c.args.key c.args.value c.args.reads) (sym c.self.view_is) c.requires) (sym c.in-None.ensures) c.in_ok-node-in-None.ensures.ok).sound
+    (subst (λ o. IsEntry g.R.Rules.queries o c.args.key c.args.value c.args.reads) (sym c.self.view_is) c.requires.entry) (sym c.in-None.ensures) c.in_ok-node-in-None.ensures.ok).sound
 
 pub returns-in_ok-node-in-None-clause-finishes : goal.returns-in_ok-node-in-None-clause-finishes
 returns-in_ok-node-in-None-clause-finishes g c =
     rw (← c.self.view_is)
-    (enter_new g.R.Rules.queries g.met.R.Rules.lawful g.R.Key.PartialEq.eq g.met.R.Rules.same_keys c.self.inside.store c.add.new.self c.self.inside.revision c.self.inside.runs.items c.push_reserved-in-None.new.self.items c.self.invariant c.args.key
+    (enter_new g.R.Rules.queries g.met.R.Rules.lawful g.R.Key.PartialEq.eq g.met.R.Rules.same_keys c.self.inside.store c.add.new.self c.self.inside.revision c.self.inside.runs.items c.push_reserved-in-None.new.self.items c.self.invariant (subst (IsUnswept g.R.Rules.queries) (sym c.self.view_is) c.requires.unswept) c.args.key
     c.in_ok-node-in-None.node c.args.value c.args.reads
     (c.push_reserved-in-None.ensures.items ∙ ap (λ l. l ++ c.in_ok-ran.ran ∷ []) c.in_ok-reserve.ensures.items ∙ ap (λ x. c.self.inside.runs.items ++ x ∷ []) c.in_ok-ran.ensures)
-    (subst (λ o. IsEntry g.R.Rules.queries o c.args.key c.args.value c.args.reads) (sym c.self.view_is) c.requires) (sym c.in-None.ensures) c.in_ok-node-in-None.ensures.ok).finishes
+    (subst (λ o. IsEntry g.R.Rules.queries o c.args.key c.args.value c.args.reads) (sym c.self.view_is) c.requires.entry) (sym c.in-None.ensures) c.in_ok-node-in-None.ensures.ok).finishes
 
 pub returns-in-Some-clause-sound : goal.returns-in-Some-clause-sound
 returns-in-Some-clause-sound g c =
-    (enter_old g.R.Rules.queries g.met.R.Rules.lawful g.R.Key.PartialEq.eq g.met.R.Rules.same_keys c.self.inside.store c.renew.new.self c.self.inside.revision c.self.inside.runs.items c.push_reserved.new.self.items c.self.invariant c.args.key
+    (enter_old g.R.Rules.queries g.met.R.Rules.lawful g.R.Key.PartialEq.eq g.met.R.Rules.same_keys c.self.inside.store c.renew.new.self c.self.inside.revision c.self.inside.runs.items c.push_reserved.new.self.items c.self.invariant (subst (IsUnswept g.R.Rules.queries) (sym c.self.view_is) c.requires.unswept) c.args.key
     g.R.Value.PartialEq.eq g.met.R.Rules.same_values g.met.R.Value.Eq.laws.refl c.in-Some.node c.args.value c.args.reads
     (c.push_reserved.ensures.items ∙ ap (λ l. l ++ c.in_ok-ran.ran ∷ []) c.in_ok-reserve.ensures.items ∙ ap (λ x. c.self.inside.runs.items ++ x ∷ []) c.in_ok-ran.ensures)
-    (subst (λ o. IsEntry g.R.Rules.queries o c.args.key c.args.value c.args.reads) (sym c.self.view_is) c.requires) (sym c.in-Some.ensures) c.renew.ensures).sound
+    (subst (λ o. IsEntry g.R.Rules.queries o c.args.key c.args.value c.args.reads) (sym c.self.view_is) c.requires.entry) (sym c.in-Some.ensures) c.renew.ensures).sound
 
 pub returns-in_ok-node-in-None-clause-sound : goal.returns-in_ok-node-in-None-clause-sound
 returns-in_ok-node-in-None-clause-sound g c =
-    (enter_new g.R.Rules.queries g.met.R.Rules.lawful g.R.Key.PartialEq.eq g.met.R.Rules.same_keys c.self.inside.store c.add.new.self c.self.inside.revision c.self.inside.runs.items c.push_reserved-in-None.new.self.items c.self.invariant c.args.key
+    (enter_new g.R.Rules.queries g.met.R.Rules.lawful g.R.Key.PartialEq.eq g.met.R.Rules.same_keys c.self.inside.store c.add.new.self c.self.inside.revision c.self.inside.runs.items c.push_reserved-in-None.new.self.items c.self.invariant (subst (IsUnswept g.R.Rules.queries) (sym c.self.view_is) c.requires.unswept) c.args.key
     c.in_ok-node-in-None.node c.args.value c.args.reads
     (c.push_reserved-in-None.ensures.items ∙ ap (λ l. l ++ c.in_ok-ran.ran ∷ []) c.in_ok-reserve.ensures.items ∙ ap (λ x. c.self.inside.runs.items ++ x ∷ []) c.in_ok-ran.ensures)
-    (subst (λ o. IsEntry g.R.Rules.queries o c.args.key c.args.value c.args.reads) (sym c.self.view_is) c.requires) (sym c.in-None.ensures) c.in_ok-node-in-None.ensures.ok).sound
+    (subst (λ o. IsEntry g.R.Rules.queries o c.args.key c.args.value c.args.reads) (sym c.self.view_is) c.requires.entry) (sym c.in-None.ensures) c.in_ok-node-in-None.ensures.ok).sound
+
+pub returns-in-Some-clause-unswept : goal.returns-in-Some-clause-unswept
+returns-in-Some-clause-unswept g c =
+    (enter_old g.R.Rules.queries g.met.R.Rules.lawful g.R.Key.PartialEq.eq g.met.R.Rules.same_keys c.self.inside.store c.renew.new.self c.self.inside.revision c.self.inside.runs.items c.push_reserved.new.self.items c.self.invariant (subst (IsUnswept g.R.Rules.queries) (sym c.self.view_is) c.requires.unswept) c.args.key
+    g.R.Value.PartialEq.eq g.met.R.Rules.same_values g.met.R.Value.Eq.laws.refl c.in-Some.node c.args.value c.args.reads
+    (c.push_reserved.ensures.items ∙ ap (λ l. l ++ c.in_ok-ran.ran ∷ []) c.in_ok-reserve.ensures.items ∙ ap (λ x. c.self.inside.runs.items ++ x ∷ []) c.in_ok-ran.ensures)
+    (subst (λ o. IsEntry g.R.Rules.queries o c.args.key c.args.value c.args.reads) (sym c.self.view_is) c.requires.entry) (sym c.in-Some.ensures) c.renew.ensures).unswept
+
+pub returns-in_ok-node-in-None-clause-unswept : goal.returns-in_ok-node-in-None-clause-unswept
+returns-in_ok-node-in-None-clause-unswept g c =
+    (enter_new g.R.Rules.queries g.met.R.Rules.lawful g.R.Key.PartialEq.eq g.met.R.Rules.same_keys c.self.inside.store c.add.new.self c.self.inside.revision c.self.inside.runs.items c.push_reserved-in-None.new.self.items c.self.invariant (subst (IsUnswept g.R.Rules.queries) (sym c.self.view_is) c.requires.unswept) c.args.key
+    c.in_ok-node-in-None.node c.args.value c.args.reads
+    (c.push_reserved-in-None.ensures.items ∙ ap (λ l. l ++ c.in_ok-ran.ran ∷ []) c.in_ok-reserve.ensures.items ∙ ap (λ x. c.self.inside.runs.items ++ x ∷ []) c.in_ok-ran.ensures)
+    (subst (λ o. IsEntry g.R.Rules.queries o c.args.key c.args.value c.args.reads) (sym c.self.view_is) c.requires.entry) (sym c.in-None.ensures) c.in_ok-node-in-None.ensures.ok).unswept

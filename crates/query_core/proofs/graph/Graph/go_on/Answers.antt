@@ -1,4 +1,4 @@
-use Rattle.std.proofs.Common.{sym, subst, ◌∙◌, ap, add-zero, ◌+◌}
+use Rattle.std.proofs.Common.{subst, ◌∙◌, ap, add-zero, ◌+◌}
 use Rattle.query_core.specs.Soundness.{IsSound}
 use Rattle.query_core.specs.Walk.{IsCollected}
 use Rattle.query_core.specs.Queries.{ticks}

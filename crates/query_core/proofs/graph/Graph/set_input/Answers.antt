@@ -68,3 +68,17 @@ returns-in_ok-add-in-None-clause-due g c =
     (set_added g.R.Rules.queries g.met.R.Rules.lawful g.R.Key.PartialEq.eq g.met.R.Rules.same_keys c.self.inside.store c.add.new.self c.self.inside.revision c.self.inside.runs.items c.self.invariant
     (subst (IsFresh g.R.Rules.queries) (sym c.self.view_is) c.requires.fresh) c.args.key c.args.value c.requires.input
     (sym c.in-None.ensures) c.in_ok-add-in-None.field-0 c.new-reads.result c.new-reads.ensures c.in_ok-add-in-None.ensures.ok).sets c.requires.input)
+
+pub returns-in-Some-clause-still_unswept : goal.returns-in-Some-clause-still_unswept
+returns-in-Some-clause-still_unswept g c =
+    rw (← c.self.view_is)
+    (set_changed g.R.Rules.queries g.met.R.Rules.lawful g.R.Key.PartialEq.eq g.met.R.Rules.same_keys c.self.inside.store c.renew.new.self c.self.inside.revision c.self.inside.runs.items c.self.invariant
+    (subst (IsFresh g.R.Rules.queries) (sym c.self.view_is) c.requires.fresh) c.args.key c.args.value c.requires.input
+    g.R.Value.PartialEq.eq g.met.R.Rules.same_values g.met.R.Value.Eq.laws.refl c.in-Some.node (sym c.in-Some.ensures) c.new-reads.result c.new-reads.ensures c.renew.ensures).unswept
+
+pub returns-in_ok-add-in-None-clause-still_unswept : goal.returns-in_ok-add-in-None-clause-still_unswept
+returns-in_ok-add-in-None-clause-still_unswept g c =
+    rw (← c.self.view_is)
+    (set_added g.R.Rules.queries g.met.R.Rules.lawful g.R.Key.PartialEq.eq g.met.R.Rules.same_keys c.self.inside.store c.add.new.self c.self.inside.revision c.self.inside.runs.items c.self.invariant
+    (subst (IsFresh g.R.Rules.queries) (sym c.self.view_is) c.requires.fresh) c.args.key c.args.value c.requires.input
+    (sym c.in-None.ensures) c.in_ok-add-in-None.field-0 c.new-reads.result c.new-reads.ensures c.in_ok-add-in-None.ensures.ok).unswept

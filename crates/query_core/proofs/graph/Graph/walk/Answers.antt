@@ -9,7 +9,7 @@ use Rattle.query_core.proofs.graph.Graph.walk.Goals as goal
 pub steps-init : goal.steps-init
 steps-init g c = record {
   walk = rw c.new-path.ensures.items
-      (walk_begins g.R.Rules.queries g.R.Rules.has_read c.args.self.now c.args.key c.begin-top.result.key c.args.steps.now (subst (IsSound g.R.Rules.queries) c.self.view_is c.self.invariant) c.begin-top.ensures.key);
+      (walk_begins g.R.Rules.queries g.R.Rules.has_read c.args.self.now c.args.key c.begin-top.result.key c.args.steps.now (subst (IsSound g.R.Rules.queries) c.self.view_is c.self.invariant) c.requires.unswept c.begin-top.ensures.key);
   frame = c.begin-top.ensures.frame;
 }
 
