@@ -13,3 +13,4 @@ pub mod Answering
 pub mod Setting
 pub mod Marking
 pub mod Sweeping
+pub mod Composing

@@ -9,3 +9,4 @@ pub mod Answering
 pub mod Walk
 pub mod Marking
 pub mod Sweeping
+pub mod Laws

@@ -4,11 +4,13 @@
 mod frame;
 mod graph;
 mod keys;
+mod laws;
 mod marks;
 mod rules;
 mod store;
 
 pub use graph::{Graph, NodeId};
 pub use keys::{Keys, Reads, TryCopy};
+pub use laws::{demands_begin, demands_go_on, due_before_demands, held_on, verified_holds};
 pub use rules::{Answers, Rules, Step};
 pub use store::Node;
