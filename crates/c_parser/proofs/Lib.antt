@@ -1,7 +1,10 @@
-mod Chains
+mod Fronts
+mod Joins
 mod Marks
-mod Primaries
-mod Spellings
+mod Parsing
+mod Pushes
+mod Spans
 mod Tables
 mod Uniqueness
+mod Views
 mod Wholes

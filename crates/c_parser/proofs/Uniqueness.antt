@@ -1,133 +1,779 @@
--- No two proper trees spell the same tokens.
-use Rattle.std.proofs.Common.{◌≡◌, refl, ap, sym, ◌∙◌, subst, ℕ, zero, suc, ◌+◌, ◌-◌, ◌<◌, ◌≤◌, List, length, arith}
-use Rattle.tree_data.specs.Trees.{Tree, Name_of, Constant_of, Paren_of, Binary_of, Pairs, None_more, Pair_then}
+-- No two trees of a level hold from one place on, where the level stops behind them.
+use Rattle.std.proofs.Common.{◌≡◌, refl, ap, sym, ◌∙◌, subst, ℕ, zero, suc, ◌+◌, ◌-◌, ◌<◌, ◌≤◌, List, [], ◌∷◌, length, arith, true≢false}
+use Rattle.tree_data.specs.Trees.{Tree, Name_of, Constant_of, Text_of, Paren_of, Postfix_of, Unary_of, Binary_of, Conditional_of, Assign_of, Behind, Operand_of, Index_of, Call_of, Call_with_of, Member_of, Step_of, Behinds, None_behind, Behind_then, Front, Operator_of, Choice_of, Left_of, Fronts, None_before, Front_then}
 use Rattle.c_parser.specs.declared.kinds.Kind.{Kind}
-use Rattle.c_parser.specs.Grammar.{IsExpression}
-use Rattle.c_parser.specs.Kinds.{level_at}
-use Rattle.c_parser.specs.Reading.{Reads, ReadsPairs, Stops}
-use Rattle.c_parser.proofs.Chains.{Only, OnlyPairs, loosely, level_only, joined_more, stops_more}
-use Rattle.c_parser.proofs.Primaries.{name_only, constant_only, paren_only, closed}
-use Rattle.c_parser.proofs.Spellings.{expression_reads}
-use Rattle.c_parser.proofs.Wholes.{stops_at_end}
+use Rattle.c_parser.specs.declared.kinds.Kind.TheVariants.{Identifier, Constant, Text, OpenParen, CloseParen, OpenBracket, CloseBracket, Member, Step, Question, Colon, Assignment, End}
+use Rattle.c_parser.specs.Grammar.{IsExpression, IsBefore}
+use Rattle.c_parser.specs.Joining.{followed, preceded}
+use Rattle.c_parser.specs.Kinds.{kind_at, level_at}
+use Rattle.c_parser.specs.Levels.{IsBinary, behinds_level, rank}
+use Rattle.c_parser.specs.Reading.{HoldTexts, Holds, HoldsBehind, HoldBehinds, HoldsFront, HoldFronts, Reads, Stops}
+use Rattle.c_parser.proofs.Marks.{clash, leveled, no_prefix, level_most, stops_at}
+use Rattle.c_parser.proofs.Spans.{expression_reads}
+use Rattle.c_parser.proofs.Views.{lowered, looser, loosely, begins, followed_more, preceded_more, Following, Preceding, Primary, a_name, a_constant, a_text, a_paren, postfix_view, binary_view, unary_view, conditional_view, assign_view, cast_view, primary_view, first_postfix, index_view, Calling, no_arguments, arguments, call_view, member_view, step_view, operand_view, operator_view, choice_view, left_view}
+use native.Mathlib.Decide.{dec_lt}
 
-none_only : (ks : List Kind) → (n b : ℕ) → Stops ks n b → OnlyPairs ks n b None_more b
-none_only ks n b s None_more b' h s' = (refl, sym h)
-none_only ks n b s (Pair_then o t ps) b' h s' =
-    let low : level_at ks b < n = s in
-    let same : level_at ks b ≡ n = h.2 in
+-- each tree of this level that holds from a is this one
+abbrev pub Only : List Kind → ℕ → ℕ → Tree → ℕ → Type 0
+Only ks n a t b = (t' : Tree) → (b' : ℕ) → Reads ks n t' a b' → Stops ks n b' → (t ≡ t') × (b ≡ b')
+
+abbrev pub OnlyBehinds : List Kind → ℕ → ℕ → Behinds → ℕ → Type 0
+OnlyBehinds ks l a xs b = (xs' : Behinds) → (b' : ℕ) → HoldBehinds ks l xs' a b' → Stops ks l b' → (xs ≡ xs') × (b ≡ b')
+
+abbrev pub OnlyBehind : List Kind → ℕ → ℕ → Behind → ℕ → Type 0
+OnlyBehind ks l a x b = (x' : Behind) → (b' : ℕ) → HoldsBehind ks l x' a b' → Stops ks (l + 1) b' → (x ≡ x') × (b ≡ b')
+
+abbrev pub OnlyFronts : List Kind → ℕ → ℕ → Fronts → Tree → ℕ → Type 0
+OnlyFronts ks l a xs t b =
+    (xs' : Fronts) → (m' : ℕ) → (t' : Tree) → (b' : ℕ) → HoldFronts ks l xs' a m' → Reads ks (l + 1) t' m' b' → Stops ks l b'
+    → (xs ≡ xs') × (t ≡ t') × (b ≡ b')
+
+pub any_stop : (ks : List Kind) → (b : ℕ) → Stops ks 17 b
+any_stop ks b = level_most (kind_at ks b)
+
+-- primary expressions
+texts_only : (ks : List Kind) → (ns : List ℕ) → (a b : ℕ) → HoldTexts ks ns a b
+    → (ns' : List ℕ) → (b' : ℕ) → HoldTexts ks ns' a b' → (ns ≡ ns') × (b ≡ b')
+texts_only ks [] a b h [] b' h' = (refl, h.0 ∙ sym h'.0)
+texts_only ks [] a b h (n ∷ ns) b' h' = absurd (h.1 h'.1)
+texts_only ks (n ∷ ns) a b h [] b' h' = absurd (h'.1 h.1)
+texts_only ks (n ∷ ns) a b h (n' ∷ ns') b' h' =
+    let more = texts_only ks ns (a + 1) b h.2 ns' b' h'.2 in
+    (ap (λ x. x ∷ ns) (h.0 ∙ sym h'.0) ∙ ap (λ xs. n' ∷ xs) more.0, more.1)
+
+same_name : (ks : List Kind) → (t : Tree) → (a b : ℕ) → t ≡ Name_of a → kind_at ks a ≡ Identifier → b ≡ a + 1
+    → (t' : Tree) → (b' : ℕ) → Primary ks t' a b' → (t ≡ t') × (b ≡ b')
+same_name ks t a b e k f t' b' (a_name e' k' f') = (e ∙ sym e', f ∙ sym f')
+same_name ks t a b e k f t' b' (a_constant e' k' f') = clash (kind_at ks a) Identifier Constant k k' (λ x. omega (arith, x))
+same_name ks t a b e k f t' b' (a_text ns e' k' f') = clash (kind_at ks a) Identifier Text k k' (λ x. omega (arith, x))
+same_name ks t a b e k f t' b' (a_paren u c e' k' r l f') = clash (kind_at ks a) Identifier OpenParen k k' (λ x. omega (arith, x))
+
+same_constant : (ks : List Kind) → (t : Tree) → (a b : ℕ) → t ≡ Constant_of a → kind_at ks a ≡ Constant → b ≡ a + 1
+    → (t' : Tree) → (b' : ℕ) → Primary ks t' a b' → (t ≡ t') × (b ≡ b')
+same_constant ks t a b e k f t' b' (a_name e' k' f') = clash (kind_at ks a) Constant Identifier k k' (λ x. omega (arith, x))
+same_constant ks t a b e k f t' b' (a_constant e' k' f') = (e ∙ sym e', f ∙ sym f')
+same_constant ks t a b e k f t' b' (a_text ns e' k' f') = clash (kind_at ks a) Constant Text k k' (λ x. omega (arith, x))
+same_constant ks t a b e k f t' b' (a_paren u c e' k' r l f') = clash (kind_at ks a) Constant OpenParen k k' (λ x. omega (arith, x))
+
+same_text : (ks : List Kind) → (t : Tree) → (a b : ℕ) → (ns : List ℕ) → t ≡ Text_of ns → kind_at ks a ≡ Text → HoldTexts ks ns a b
+    → (t' : Tree) → (b' : ℕ) → Primary ks t' a b' → (t ≡ t') × (b ≡ b')
+same_text ks t a b ns e k f t' b' (a_name e' k' f') = clash (kind_at ks a) Text Identifier k k' (λ x. omega (arith, x))
+same_text ks t a b ns e k f t' b' (a_constant e' k' f') = clash (kind_at ks a) Text Constant k k' (λ x. omega (arith, x))
+same_text ks t a b ns e k f t' b' (a_text ns' e' k' f') =
+    let same = texts_only ks ns a b f ns' b' f' in
+    (e ∙ ap Text_of same.0 ∙ sym e', same.1)
+same_text ks t a b ns e k f t' b' (a_paren u c e' k' r l f') = clash (kind_at ks a) Text OpenParen k k' (λ x. omega (arith, x))
+
+pub closed : (ks : List Kind) → (c : ℕ) → kind_at ks c ≡ CloseParen → Stops ks 1 c
+closed ks c e = stops_at ks 1 c CloseParen e (omega arith)
+
+same_paren : (ks : List Kind) → (a : ℕ) → (u : Tree) → (c : ℕ) → kind_at ks a ≡ OpenParen → Only ks 1 (a + 1) u c
+    → (t' : Tree) → (b' : ℕ) → Primary ks t' a b' → (Paren_of a u c ≡ t') × (c + 1 ≡ b')
+same_paren ks a u c k only t' b' (a_name e' k' f') = clash (kind_at ks a) OpenParen Identifier k k' (λ x. omega (arith, x))
+same_paren ks a u c k only t' b' (a_constant e' k' f') = clash (kind_at ks a) OpenParen Constant k k' (λ x. omega (arith, x))
+same_paren ks a u c k only t' b' (a_text ns e' k' f') = clash (kind_at ks a) OpenParen Text k k' (λ x. omega (arith, x))
+same_paren ks a u c k only t' b' (a_paren u' c' e' k' r l f') =
+    let same = only u' c' r (closed ks c' l) in
+    (ap (λ x. Paren_of a x c) same.0 ∙ ap (λ x. Paren_of a u' x) same.1 ∙ sym e', ap (λ x. x + 1) same.1 ∙ sym f')
+
+-- a level from the next one
+pub following_only : (ks : List Kind) → (l a : ℕ) → (make : Tree → Behinds → Tree)
+    → ((t : Tree) → (b : ℕ) → Reads ks l t a b → Following ks l make t a b)
+    → (f : Tree) → (m : ℕ) → (xs : Behinds) → (b : ℕ) → Only ks (l + 1) a f m → OnlyBehinds ks l m xs b
+    → Only ks l a (followed make f xs) b
+following_only ks l a make view f m xs b x y t' b' h s =
+    let v = view t' b' h in
+    let front = x v.first v.behind v.reads (loosely ks l v.more v.behind b' v.goes s) in
+    let back = y v.more b' (subst (λ k. HoldBehinds ks l v.more k b') (sym front.1) v.goes) s in
+    (ap (λ k. followed make k xs) front.0 ∙ ap (λ k. followed make v.first k) back.0 ∙ sym v.is, back.1)
+
+pub preceding_only : (ks : List Kind) → (n l a : ℕ) → n ≤ l → (make : Fronts → Tree → Tree)
+    → ((t : Tree) → (b : ℕ) → Reads ks n t a b → Preceding ks l make t a b)
+    → (xs : Fronts) → (t : Tree) → (b : ℕ) → OnlyFronts ks l a xs t b → Only ks n a (preceded make xs t) b
+preceding_only ks n l a le make view xs t b x t' b' h s =
+    let v = view t' b' h in
+    let same = x v.before v.behind v.last b' v.goes v.reads (looser ks n l b' le s) in
+    (ap (λ k. preceded make k t) same.0 ∙ ap (λ k. preceded make v.before k) same.1 ∙ sym v.is, same.2)
+
+pub none_behind : (ks : List Kind) → (l b : ℕ) → Stops ks l b → OnlyBehinds ks l b None_behind b
+none_behind ks l b s None_behind b' h s' = (refl, sym h)
+none_behind ks l b s (Behind_then x xs) b' h s' =
+    let low : level_at ks b < l = s in
+    let same : level_at ks b ≡ l = begins ks l x b h.0 h.1 in
     absurd (omega arith)
 
--- what is the only tree of a level is the only one of each lower level that stops behind it
-down : (ks : List Kind) → (d n a : ℕ) → (t : Tree) → (b : ℕ) → Only ks (n + d) a t b → Stops ks n b → Only ks n a t b
-down ks zero n a t b h s =
-    let e : n + zero ≡ n = omega arith in
-    subst (λ k. Only ks k a t b) e h
-down ks (suc d) n a t b h s =
-    let e : n + suc d ≡ (n + 1) + d = omega arith in
-    let more : Only ks (n + 1) a t b =
-    down ks d (n + 1) a t b (subst (λ k. Only ks k a t b) e h) (stops_more ks n b s) in
-    level_only ks n a t b None_more b more (none_only ks n b s)
+-- the three levels at which something stands in front
+pub data Fronting (l : ℕ) : Type 0 where
+  by_operators : l ≡ 15 → Fronting l
+  by_choices : l ≡ 3 → Fronting l
+  by_places : l ≡ 2 → Fronting l
 
-lower : (ks : List Kind) → (m n a : ℕ) → (t : Tree) → (b : ℕ) → n ≤ m → Only ks m a t b → Stops ks n b → Only ks n a t b
-lower ks m n a t b le h s =
+choice_first : {A : Type 0} → (ks : List Kind) → (a : ℕ) → (t : Tree) → (b : ℕ) → Only ks 4 a t b → Stops ks 3 b
+    → (x : Front) → (m : ℕ) → HoldsFront ks 3 x a m → A
+choice_first ks a t b only s x m h =
+    let v = choice_view ks x a m h in
+    let same = only v.test v.question v.tests (stops_at ks 4 v.question Question v.asks (omega arith)) in
+    let low : level_at ks b < 3 = s in
+    let e : level_at ks b ≡ 3 = ap (λ k. level_at ks k) same.1 ∙ leveled (kind_at ks v.question) Question v.asks in
+    absurd (omega arith)
+
+left_first : {A : Type 0} → (ks : List Kind) → (a : ℕ) → (t : Tree) → (b : ℕ) → Only ks 3 a t b → Stops ks 2 b
+    → (x : Front) → (m : ℕ) → HoldsFront ks 2 x a m → A
+left_first ks a t b only s x m h =
+    let v = left_view ks x a m h in
+    let same =
+    only
+    v.place
+    v.operator
+    (lowered ks 3 15 v.place a v.operator (omega arith) v.reads)
+    (stops_at ks 3 v.operator Assignment v.assigns (omega arith)) in
+    let low : level_at ks b < 2 = s in
+    let e : level_at ks b ≡ 2 = ap (λ k. level_at ks k) same.1 ∙ leveled (kind_at ks v.operator) Assignment v.assigns in
+    absurd (omega arith)
+
+operator_first : {A : Type 0} → (ks : List Kind) → (a : ℕ) → (t : Tree) → (b : ℕ) → Reads ks 16 t a b
+    → (x : Front) → (m : ℕ) → HoldsFront ks 15 x a m → A
+operator_first ks a t b h x m g =
+    let v = operator_view ks x a m g in
+    absurd (true≢false (sym v.1 ∙ first_postfix ks t a b h))
+
+-- where an expression of the next level stands, nothing stands in front
+not_first : {A : Type 0} → (ks : List Kind) → (l a : ℕ) → (t : Tree) → (b : ℕ) → Fronting l → Reads ks (l + 1) t a b
+    → Only ks (l + 1) a t b → Stops ks l b → (x : Front) → (m : ℕ) → HoldsFront ks l x a m → A
+not_first ks l a t b (by_operators e) r only s x m h =
+    operator_first ks a t b (subst (λ k. Reads ks (k + 1) t a b) e r) x m (subst (λ k. HoldsFront ks k x a m) e h)
+not_first ks l a t b (by_choices e) r only s x m h =
+    choice_first
+    ks
+    a
+    t
+    b
+    (subst (λ k. Only ks (k + 1) a t b) e only)
+    (subst (λ k. Stops ks k b) e s)
+    x
+    m
+    (subst (λ k. HoldsFront ks k x a m) e h)
+not_first ks l a t b (by_places e) r only s x m h =
+    left_first
+    ks
+    a
+    t
+    b
+    (subst (λ k. Only ks (k + 1) a t b) e only)
+    (subst (λ k. Stops ks k b) e s)
+    x
+    m
+    (subst (λ k. HoldsFront ks k x a m) e h)
+
+pub none_before : (ks : List Kind) → (l a : ℕ) → (t : Tree) → (b : ℕ) → Fronting l → Reads ks (l + 1) t a b
+    → Only ks (l + 1) a t b → Stops ks l b → OnlyFronts ks l a None_before t b
+none_before ks l a t b f r only s None_before m' t' b' h' r' s' =
+    let same = only t' b' (subst (λ k. Reads ks (l + 1) t' k b') h' r') (looser ks l (l + 1) b' (omega arith) s') in
+    (refl, same.0, same.1)
+none_before ks l a t b f r only s (Front_then x xs) m' t' b' h' r' s' = not_first ks l a t b f r only s x h'.0 h'.1
+
+-- from a level to those below it
+data Level (n : ℕ) : Type 0 where
+  at_binary : IsBinary n → Level n
+  at_front : Fronting n → Level n
+  at_cast : n ≡ 14 → Level n
+  at_postfix : n ≡ 16 → Level n
+
+level_is : (n : ℕ) → 1 ≤ n → n ≤ 16 → Level n
+level_is n low high =
+    elim (dec_lt n 2) [
+      | yes a ↦ let a' : n < 2 = a in at_binary (omega arith, omega arith, (λ e. omega (arith, e)), (λ e. omega (arith, e)))
+      | no a ↦
+          let a' : n < 2 → ⊥ = a in
+          elim (dec_lt n 3) [
+            | yes b ↦ let b' : n < 3 = b in at_front (by_places (omega arith))
+            | no b ↦
+                let b' : n < 3 → ⊥ = b in
+                elim (dec_lt n 4) [
+                  | yes c ↦ let c' : n < 4 = c in at_front (by_choices (omega arith))
+                  | no c ↦
+                      let c' : n < 4 → ⊥ = c in
+                      elim (dec_lt n 14) [
+                        | yes d ↦ let d' : n < 14 = d in at_binary (omega arith, omega arith, (λ e. omega (arith, e)), (λ e. omega (arith, e)))
+                        | no d ↦
+                            let d' : n < 14 → ⊥ = d in
+                            elim (dec_lt n 15) [
+                              | yes e ↦ let e' : n < 15 = e in at_cast (omega arith)
+                              | no e ↦
+                                  let e' : n < 15 → ⊥ = e in
+                                  elim (dec_lt n 16) [
+                                    | yes f ↦ let f' : n < 16 = f in at_front (by_operators (omega arith))
+                                    | no f ↦ let f' : n < 16 → ⊥ = f in at_postfix (omega arith)
+                                  ]
+                            ]
+                      ]
+                ]
+          ]
+    ]
+
+front_step : (ks : List Kind) → (n a : ℕ) → (t : Tree) → (b : ℕ) → Fronting n → OnlyFronts ks n a None_before t b → Only ks n a t b
+front_step ks n a t b (by_operators e) h =
+    subst (λ k. Only ks k a t b) (sym e)
+    (preceding_only
+    ks
+    15
+    15
+    a
+    (omega arith)
+    Unary_of
+    (λ t b h. unary_view ks t a b h)
+    None_before
+    t
+    b
+    (subst (λ k. OnlyFronts ks k a None_before t b) e h))
+front_step ks n a t b (by_choices e) h =
+    subst (λ k. Only ks k a t b) (sym e)
+    (preceding_only
+    ks
+    3
+    3
+    a
+    (omega arith)
+    Conditional_of
+    (λ t b h. conditional_view ks t a b h)
+    None_before
+    t
+    b
+    (subst (λ k. OnlyFronts ks k a None_before t b) e h))
+front_step ks n a t b (by_places e) h =
+    subst (λ k. Only ks k a t b) (sym e)
+    (preceding_only
+    ks
+    2
+    2
+    a
+    (omega arith)
+    Assign_of
+    (λ t b h. assign_view ks t a b h)
+    None_before
+    t
+    b
+    (subst (λ k. OnlyFronts ks k a None_before t b) e h))
+
+postfix_step : (ks : List Kind) → (a : ℕ) → (t : Tree) → (b : ℕ) → Only ks 17 a t b → Stops ks 16 b → Only ks 16 a t b
+postfix_step ks a t b only s =
+    following_only ks 16 a Postfix_of (λ t b h. postfix_view ks t a b h) t b None_behind b only (none_behind ks 16 b s)
+
+cast_step : (ks : List Kind) → (a : ℕ) → (t : Tree) → (b : ℕ) → Only ks 15 a t b → Only ks 14 a t b
+cast_step ks a t b only t' b' h s = only t' b' (cast_view ks t' a b' h) (looser ks 14 15 b' (omega arith) s)
+
+step : (ks : List Kind) → (n a : ℕ) → (t : Tree) → (b : ℕ) → Level n → Reads ks (n + 1) t a b → Only ks (n + 1) a t b
+    → Stops ks n b → Only ks n a t b
+step ks n a t b (at_binary i) r only s =
+    following_only ks n a Binary_of (λ t b h. binary_view ks n i t a b h) t b None_behind b only (none_behind ks n b s)
+step ks n a t b (at_front f) r only s = front_step ks n a t b f (none_before ks n a t b f r only s)
+step ks n a t b (at_cast e) r only s =
+    subst (λ k. Only ks k a t b) (sym e) (cast_step ks a t b (subst (λ k. Only ks (k + 1) a t b) e only))
+step ks n a t b (at_postfix e) r only s =
+    subst (λ k. Only ks k a t b) (sym e)
+    (postfix_step ks a t b (subst (λ k. Only ks (k + 1) a t b) e only) (subst (λ k. Stops ks k b) e s))
+
+down : (ks : List Kind) → (d n a : ℕ) → (t : Tree) → (b : ℕ) → 1 ≤ n → n + d ≤ 17 → Reads ks (n + d) t a b
+    → Only ks (n + d) a t b → Stops ks n b → Only ks n a t b
+down ks zero n a t b low high r only s =
+    let e : n + zero ≡ n = omega arith in
+    subst (λ k. Only ks k a t b) e only
+down ks (suc d) n a t b low high r only s =
+    let e : n + suc d ≡ (n + 1) + d = omega arith in
+    let more : (n + 1) + d ≤ 17 = omega arith in
+    let high' : n ≤ 16 = omega arith in
+    let r' : Reads ks ((n + 1) + d) t a b = subst (λ k. Reads ks k t a b) e r in
+    let next : Only ks (n + 1) a t b =
+    down ks d (n + 1) a t b (omega arith) more r' (subst (λ k. Only ks k a t b) e only) (looser ks n (n + 1) b (omega arith) s) in
+    step
+    ks
+    n
+    a
+    t
+    b
+    (level_is n low high')
+    (lowered ks (n + 1) ((n + 1) + d) t a b (omega arith) r')
+    next
+    s
+
+pub lower : (ks : List Kind) → (m n a : ℕ) → (t : Tree) → (b : ℕ) → 1 ≤ n → n ≤ m → m ≤ 17 → Reads ks m t a b → Only ks m a t b
+    → Stops ks n b → Only ks n a t b
+lower ks m n a t b low le high r only s =
     let e : m ≡ n + (m - n) = omega arith in
-    down ks (m - n) n a t b (subst (λ k. Only ks k a t b) e h) s
+    down
+    ks
+    (m - n)
+    n
+    a
+    t
+    b
+    low
+    (omega arith)
+    (subst (λ k. Reads ks k t a b) e r)
+    (subst (λ k. Only ks k a t b) e only)
+    s
+
+pub rank_most : (ks : List Kind) → (t : Tree) → (a b : ℕ) → Holds ks t a b → rank ks t ≤ 17
+rank_most ks (Name_of n) a b h = omega arith
+rank_most ks (Constant_of n) a b h = omega arith
+rank_most ks (Text_of ns) a b h = omega arith
+rank_most ks (Paren_of o t c) a b h = omega arith
+rank_most ks (Postfix_of f bs) a b h = omega arith
+rank_most ks (Unary_of fs t) a b h = omega arith
+rank_most ks (Binary_of f bs) a b h =
+    let most : behinds_level ks bs ≤ 13 = h.2.1 in
+    omega arith
+rank_most ks (Conditional_of fs t) a b h = omega arith
+rank_most ks (Assign_of fs t) a b h = omega arith
+
+-- the only one of its own level is the only one of each level that has it
+placed : (ks : List Kind) → (n : ℕ) → (t : Tree) → (a b : ℕ) → 1 ≤ n → Reads ks n t a b → Stops ks n b
+    → Only ks (rank ks t) a t b → Only ks n a t b
+placed ks n t a b low h s only =
+    let own : rank ks t ≤ rank ks t = omega arith in
+    lower ks (rank ks t) n a t b low h.0 (rank_most ks t a b h.1) (own, h.1) only s
+
+-- what stands in front, and no expression of the next level
+record OnlyFront (ks : List Kind) (l a : ℕ) (x : Front) (m : ℕ) : Type 0 where
+  same : (x' : Front) → (m' : ℕ) → HoldsFront ks l x' a m' → (x ≡ x') × (m ≡ m')
+  not_next : (t : Tree) → (b : ℕ) → Reads ks (l + 1) t a b → Stops ks l b → ⊥
+
+operator_only : (ks : List Kind) → (o a m : ℕ) → HoldsFront ks 15 (Operator_of o) a m → OnlyFront ks 15 a (Operator_of o) m
+operator_only ks o a m h = record {
+  same = λ x' m' h'.
+      let v = operator_view ks x' a m' h' in
+      (ap Operator_of h.1 ∙ sym v.0, h.3 ∙ sym v.2);
+  not_next = λ t b r s. operator_first ks a t b r (Operator_of o) m h;
+}
+
+choice_only : (ks : List Kind) → (t : Tree) → (q : ℕ) → (e : Tree) → (c a m : ℕ) → HoldsFront ks 3 (Choice_of t q e c) a m
+    → Only ks 4 a t q → Only ks 1 (q + 1) e c → OnlyFront ks 3 a (Choice_of t q e c) m
+choice_only ks t q e c a m h x y = record {
+  same = λ x' m' h'.
+      let v = choice_view ks x' a m' h' in
+      let one = x v.test v.question v.tests (stops_at ks 4 v.question Question v.asks (omega arith)) in
+      let two =
+      y
+      v.middle
+      v.colon
+      (subst (λ k. Reads ks 1 v.middle (k + 1) v.colon) (sym one.1) v.reads)
+      (stops_at ks 1 v.colon Colon v.parts (omega arith)) in (
+        ap (λ k. Choice_of k q e c) one.0
+            ∙ ap (λ k. Choice_of v.test k e c) one.1
+            ∙ ap (λ k. Choice_of v.test v.question k c) two.0
+            ∙ ap (λ k. Choice_of v.test v.question v.middle k) two.1
+            ∙ sym v.is,
+        h.7 ∙ ap (λ k. k + 1) two.1 ∙ sym v.ends,
+      );
+  not_next = λ u b r s.
+      let one = x u b r (looser ks 3 4 b (omega arith) s) in
+      let low : level_at ks b < 3 = s in
+      let same : level_at ks b ≡ 3 = ap (λ k. level_at ks k) (sym one.1) ∙ leveled (kind_at ks q) Question h.3 in
+      absurd (omega arith);
+}
+
+left_only : (ks : List Kind) → (t : Tree) → (o a m : ℕ) → HoldsFront ks 2 (Left_of t o) a m → Only ks 3 a t o
+    → OnlyFront ks 2 a (Left_of t o) m
+left_only ks t o a m h x = record {
+  same = λ x' m' h'.
+      let v = left_view ks x' a m' h' in
+      let one =
+      x
+      v.place
+      v.operator
+      (lowered ks 3 15 v.place a v.operator (omega arith) v.reads)
+      (stops_at ks 3 v.operator Assignment v.assigns (omega arith)) in (
+        ap (λ k. Left_of k o) one.0 ∙ ap (λ k. Left_of v.place k) one.1 ∙ sym v.is,
+        h.4 ∙ ap (λ k. k + 1) one.1 ∙ sym v.ends,
+      );
+  not_next = λ u b r s.
+      let one = x u b r (looser ks 2 3 b (omega arith) s) in
+      let low : level_at ks b < 2 = s in
+      let same : level_at ks b ≡ 2 = ap (λ k. level_at ks k) (sym one.1) ∙ leveled (kind_at ks o) Assignment h.3 in
+      absurd (omega arith);
+}
+
+fronts_with : (ks : List Kind) → (l : ℕ) → (x : Front) → (xs : Fronts) → (a k m : ℕ) → (t : Tree) → (b : ℕ)
+    → OnlyFront ks l a x k → OnlyFronts ks l k xs t b → OnlyFronts ks l a (Front_then x xs) t b
+fronts_with ks l x xs a k m t b one more None_before m' t' b' h' r' s' =
+    absurd (one.not_next t' b' (subst (λ y. Reads ks (l + 1) t' y b') h' r') s')
+fronts_with ks l x xs a k m t b one more (Front_then x' xs') m' t' b' h' r' s' =
+    let first = one.same x' h'.0 h'.1 in
+    let rest = more xs' m' t' b' (subst (λ y. HoldFronts ks l xs' y m') (sym first.1) h'.2) r' s' in
+    (ap (λ y. Front_then y xs) first.0 ∙ ap (λ y. Front_then x' y) rest.0, rest.1, rest.2)
+
+behinds_with : (ks : List Kind) → (l : ℕ) → (x : Behind) → (xs : Behinds) → (a k b : ℕ) → level_at ks a ≡ l
+    → OnlyBehind ks l a x k → OnlyBehinds ks l k xs b → OnlyBehinds ks l a (Behind_then x xs) b
+behinds_with ks l x xs a k b here one more None_behind b' h' s' =
+    let low : level_at ks a < l = subst (λ y. level_at ks y < l) h' s' in
+    absurd (omega arith)
+behinds_with ks l x xs a k b here one more (Behind_then x' xs') b' h' s' =
+    let first = one x' h'.0 h'.1 (loosely ks l xs' h'.0 b' h'.2 s') in
+    let rest = more xs' b' (subst (λ y. HoldBehinds ks l xs' y b') (sym first.1) h'.2) s' in
+    (ap (λ y. Behind_then y xs) first.0 ∙ ap (λ y. Behind_then x' y) rest.0, rest.1)
+
+operand_only : (ks : List Kind) → (l o : ℕ) → (t : Tree) → (a m : ℕ) → HoldsBehind ks l (Operand_of o t) a m
+    → Only ks (l + 1) (a + 1) t m → OnlyBehind ks l a (Operand_of o t) m
+operand_only ks l o t a m h only x' m' h' s' =
+    let v = operand_view ks l x' a m' h.0 h' in
+    let same = only v.operand m' v.reads s' in
+    (ap (λ y. Operand_of y t) h.1 ∙ ap (λ y. Operand_of a y) same.0 ∙ sym v.is, same.1)
+
+pub index_closes : (ks : List Kind) → (c : ℕ) → kind_at ks c ≡ CloseBracket → Stops ks 1 c
+index_closes ks c e = stops_at ks 1 c CloseBracket e (omega arith)
+
+pub index_only : (ks : List Kind) → (t : Tree) → (c a : ℕ) → kind_at ks a ≡ OpenBracket → Only ks 1 (a + 1) t c
+    → OnlyBehind ks 16 a (Index_of a t c) (c + 1)
+index_only ks t c a k only x' m' h' s' =
+    let v = index_view ks x' a m' k h' in
+    let same = only v.inner v.closing v.reads (index_closes ks v.closing v.closes) in
+    (ap (λ y. Index_of a y c) same.0 ∙ ap (λ y. Index_of a v.inner y) same.1 ∙ sym v.is, ap (λ y. y + 1) same.1 ∙ sym v.ends)
+
+-- no expression begins with `)`
+no_closing : {A : Type 0} → (ks : List Kind) → (a : ℕ) → kind_at ks a ≡ CloseParen → (t : Tree) → (b : ℕ) → Primary ks t a b → A
+no_closing ks a k t b (a_name e k' f) = clash (kind_at ks a) CloseParen Identifier k k' (λ x. omega (arith, x))
+no_closing ks a k t b (a_constant e k' f) = clash (kind_at ks a) CloseParen Constant k k' (λ x. omega (arith, x))
+no_closing ks a k t b (a_text ns e k' f) = clash (kind_at ks a) CloseParen Text k k' (λ x. omega (arith, x))
+no_closing ks a k t b (a_paren u c e k' r l f) = clash (kind_at ks a) CloseParen OpenParen k k' (λ x. omega (arith, x))
 
 mutual
-  pub reads_only : (ks : List Kind) → (n : ℕ) → (t : Tree) → (a b : ℕ) → n ≤ 14 → Reads ks n t a b → Stops ks n b
-      → Only ks n a t b
-  reads_only ks n (Name_of m) a b le h s =
-      lower
+  pub empty_call : {A : Type 0} → (ks : List Kind) → (t : Tree) → (a b : ℕ) → kind_at ks a ≡ CloseParen → Holds ks t a b → A
+  empty_call ks (Name_of n) a b k h = clash (kind_at ks a) CloseParen Identifier k h.1 (λ x. omega (arith, x))
+  empty_call ks (Constant_of n) a b k h = clash (kind_at ks a) CloseParen Constant k h.1 (λ x. omega (arith, x))
+  empty_call ks (Text_of ns) a b k h = clash (kind_at ks a) CloseParen Text k h.0 (λ x. omega (arith, x))
+  empty_call ks (Paren_of o t c) a b k h = clash (kind_at ks a) CloseParen OpenParen k h.1 (λ x. omega (arith, x))
+  empty_call ks (Postfix_of f bs) a b k h = empty_call ks f a h.0 k h.3
+  empty_call ks (Unary_of fs t) a b k h = empty_front ks 15 fs a h.0 k h.1 h.2
+  empty_call ks (Binary_of f bs) a b k h = empty_call ks f a h.0 k h.4
+  empty_call ks (Conditional_of fs t) a b k h = empty_front ks 3 fs a h.0 k h.1 h.2
+  empty_call ks (Assign_of fs t) a b k h = empty_front ks 2 fs a h.0 k h.1 h.2
+
+  empty_front : {A : Type 0} → (ks : List Kind) → (l : ℕ) → (xs : Fronts) → (a m : ℕ) → kind_at ks a ≡ CloseParen → IsBefore xs
+      → HoldFronts ks l xs a m → A
+  empty_front ks l None_before a m k i h = absurd i
+  empty_front ks l (Front_then (Operator_of o) xs) a m k i h = no_prefix (kind_at ks a) CloseParen k refl h.1.2
+  empty_front ks l (Front_then (Choice_of t q e c) xs) a m k i h = empty_call ks t a q k h.1.2
+  empty_front ks l (Front_then (Left_of t o) xs) a m k i h = empty_call ks t a o k h.1.2
+
+same_call : (ks : List Kind) → (a : ℕ) → kind_at ks (a + 1) ≡ CloseParen
+    → (x' : Behind) → (m' : ℕ) → Calling ks x' a m' → (Call_of a (a + 1) ≡ x') × (a + 2 ≡ m')
+same_call ks a k x' m' (no_arguments e k' f) = (sym e, sym f)
+same_call ks a k x' m' (arguments t m bs c e r h k' f) = empty_call ks t (a + 1) m k r.1
+
+pub call_only : (ks : List Kind) → (a : ℕ) → kind_at ks a ≡ OpenParen → kind_at ks (a + 1) ≡ CloseParen
+    → OnlyBehind ks 16 a (Call_of a (a + 1)) (a + 2)
+call_only ks a k l x' m' h' s' = same_call ks a l x' m' (call_view ks x' a m' k h')
+
+same_arguments : (ks : List Kind) → (a : ℕ) → (t : Tree) → (m : ℕ) → (bs : Behinds) → (c : ℕ) → Holds ks t (a + 1) m
+    → Only ks 2 (a + 1) t m → OnlyBehinds ks 1 m bs c
+    → (x' : Behind) → (m' : ℕ) → Calling ks x' a m' → (Call_with_of a t bs c ≡ x') × (c + 1 ≡ m')
+same_arguments ks a t m bs c h x y x' m' (no_arguments e k' f) = empty_call ks t (a + 1) m k' h
+same_arguments ks a t m bs c h x y x' m' (arguments t' n bs' c' e r g k' f) =
+    let one = x t' n r (loosely ks 1 bs' n c' g (closed ks c' k')) in
+    let two = y bs' c' (subst (λ k. HoldBehinds ks 1 bs' k c') (sym one.1) g) (closed ks c' k') in (
+      ap (λ k. Call_with_of a k bs c) one.0
+          ∙ ap (λ k. Call_with_of a t' k c) two.0
+          ∙ ap (λ k. Call_with_of a t' bs' k) two.1
+          ∙ sym e,
+      ap (λ k. k + 1) two.1 ∙ sym f,
+    )
+
+pub call_with_only : (ks : List Kind) → (a : ℕ) → kind_at ks a ≡ OpenParen → (t : Tree) → (m : ℕ) → (bs : Behinds) → (c : ℕ)
+    → Holds ks t (a + 1) m → Only ks 2 (a + 1) t m → OnlyBehinds ks 1 m bs c
+    → OnlyBehind ks 16 a (Call_with_of a t bs c) (c + 1)
+call_with_only ks a k t m bs c h x y x' m' h' s' =
+    same_arguments ks a t m bs c h x y x' m' (call_view ks x' a m' k h')
+
+pub member_only : (ks : List Kind) → (a : ℕ) → kind_at ks a ≡ Member → OnlyBehind ks 16 a (Member_of a (a + 1)) (a + 2)
+member_only ks a k x' m' h' s' =
+    let v = member_view ks x' a m' k h' in
+    (sym v.is, sym v.ends)
+
+pub step_only : (ks : List Kind) → (a : ℕ) → kind_at ks a ≡ Step → OnlyBehind ks 16 a (Step_of a) (a + 1)
+step_only ks a k x' m' h' s' =
+    let v = step_view ks x' a m' k h' in
+    (sym v.0, sym v.1)
+
+-- a postfix operator that is told by its first token is the only one there, whatever its parts are called
+suffix_at : (ks : List Kind) → (l a : ℕ) → (x y : Behind) → (m k : ℕ) → l ≡ 16 → y ≡ x → k ≡ m → OnlyBehind ks 16 a x m
+    → OnlyBehind ks l a y k
+suffix_at ks l a x y m k e f g only x' m' h' s' =
+    let same = only x' m' (subst (λ n. HoldsBehind ks n x' a m') e h') (any_stop ks m') in
+    (f ∙ same.0, g ∙ same.1)
+
+call_end : (a c m : ℕ) → c ≡ a + 1 → m ≡ c + 1 → m ≡ a + 2
+call_end a c m e f = omega (arith, e, f)
+
+mutual
+  own_only : (ks : List Kind) → (t : Tree) → (a b : ℕ) → Holds ks t a b → Stops ks (rank ks t) b → Only ks (rank ks t) a t b
+  own_only ks (Name_of n) a b h s = λ t' b' h' s'.
+      same_name ks (Name_of n) a b (ap Name_of h.0) h.1 h.2 t' b' (primary_view ks t' a b' h')
+  own_only ks (Constant_of n) a b h s = λ t' b' h' s'.
+      same_constant ks (Constant_of n) a b (ap Constant_of h.0) h.1 h.2 t' b' (primary_view ks t' a b' h')
+  own_only ks (Text_of ns) a b h s = λ t' b' h' s'.
+      same_text ks (Text_of ns) a b ns refl h.0 h.1 t' b' (primary_view ks t' a b' h')
+  own_only ks (Paren_of o t c) a b h s = λ t' b' h' s'.
+      let end = closed ks c h.4 in
+      let inner =
+      placed ks 1 t (a + 1) c (omega arith) (h.2, h.3) end
+      (own_only ks t (a + 1) c h.3 (looser ks 1 (rank ks t) c h.2 end)) in
+      let same = same_paren ks a t c h.1 inner t' b' (primary_view ks t' a b' h') in
+      (ap (λ x. Paren_of x t c) h.0 ∙ same.0, h.5 ∙ same.1)
+  own_only ks (Postfix_of f bs) a b h s =
+      let first =
+      placed ks 17 f a h.0 (omega arith) (h.2, h.3) (any_stop ks h.0)
+      (own_only ks f a h.0 h.3 (looser ks 17 (rank ks f) h.0 h.2 (any_stop ks h.0))) in
+      subst
+      (λ x. Only ks 16 a x b)
+      (followed_more Postfix_of f bs h.1)
+      (following_only ks 16 a Postfix_of (λ t b h. postfix_view ks t a b h) f h.0 bs b first (behinds_only ks 16 bs h.0 b h.4 s))
+  own_only ks (Unary_of fs t) a b h s =
+      let end = looser ks 15 16 b (omega arith) s in
+      let last =
+      placed ks 16 t h.0 b (omega arith) (h.3, h.4) end (own_only ks t h.0 b h.4 (looser ks 16 (rank ks t) b h.3 end)) in
+      subst
+      (λ x. Only ks 15 a x b)
+      (preceded_more Unary_of fs t h.1)
+      (preceding_only
       ks
-      14
-      n
+      15
+      15
       a
-      (Name_of m)
+      (omega arith)
+      Unary_of
+      (λ t b h. unary_view ks t a b h)
+      fs
+      t
       b
-      le
-      (subst
-      (λ x. Only ks 14 a (Name_of m) x)
-      (sym h.2)
-      (name_only ks a (Name_of m) (sym h.1) (ap Name_of h.0)))
-      s
-  reads_only ks n (Constant_of m) a b le h s =
-      lower
+      (fronts_only ks 15 (by_operators refl) fs a h.0 t b h.2 (h.3, h.4) last s))
+  own_only ks (Binary_of f bs) a b h s =
+      let end = loosely ks (behinds_level ks bs) bs h.0 b h.5 s in
+      let low : 1 ≤ behinds_level ks bs + 1 = omega arith in
+      let first =
+      placed ks (behinds_level ks bs + 1) f a h.0 low (h.3, h.4) end
+      (own_only ks f a h.0 h.4 (looser ks (behinds_level ks bs + 1) (rank ks f) h.0 h.3 end)) in
+      subst
+      (λ x. Only ks (behinds_level ks bs) a x b)
+      (followed_more Binary_of f bs h.1)
+      (following_only
       ks
-      14
-      n
+      (behinds_level ks bs)
       a
-      (Constant_of m)
+      Binary_of
+      (λ t b g. binary_view ks (behinds_level ks bs) h.2 t a b g)
+      f
+      h.0
+      bs
       b
-      le
-      (subst
-      (λ x. Only ks 14 a (Constant_of m) x)
-      (sym h.2)
-      (constant_only ks a (Constant_of m) (sym h.1) (ap Constant_of h.0)))
-      s
-  reads_only ks n (Paren_of o t c) a b le h s =
-      lower
+      first
+      (behinds_only ks (behinds_level ks bs) bs h.0 b h.5 s))
+  own_only ks (Conditional_of fs t) a b h s =
+      let end = looser ks 3 4 b (omega arith) s in
+      let last =
+      placed ks 4 t h.0 b (omega arith) (h.3, h.4) end (own_only ks t h.0 b h.4 (looser ks 4 (rank ks t) b h.3 end)) in
+      subst
+      (λ x. Only ks 3 a x b)
+      (preceded_more Conditional_of fs t h.1)
+      (preceding_only
       ks
-      14
-      n
+      3
+      3
       a
-      (Paren_of o t c)
+      (omega arith)
+      Conditional_of
+      (λ t b h. conditional_view ks t a b h)
+      fs
+      t
       b
-      le
-      (subst
-      (λ x. Only ks 14 a (Paren_of o t c) x)
-      (sym h.4)
-      (paren_only
+      (fronts_only ks 3 (by_choices refl) fs a h.0 t b h.2 (h.3, h.4) last s))
+  own_only ks (Assign_of fs t) a b h s =
+      let end = looser ks 2 3 b (omega arith) s in
+      let last =
+      placed ks 3 t h.0 b (omega arith) (h.3, h.4) end (own_only ks t h.0 b h.4 (looser ks 3 (rank ks t) b h.3 end)) in
+      subst
+      (λ x. Only ks 2 a x b)
+      (preceded_more Assign_of fs t h.1)
+      (preceding_only
       ks
+      2
+      2
       a
+      (omega arith)
+      Assign_of
+      (λ t b h. assign_view ks t a b h)
+      fs
+      t
+      b
+      (fronts_only ks 2 (by_places refl) fs a h.0 t b h.2 (h.3, h.4) last s))
+
+  pub behind_only : (ks : List Kind) → (l : ℕ) → (x : Behind) → (a m : ℕ) → HoldsBehind ks l x a m → Stops ks (l + 1) m → OnlyBehind ks l a x m
+  behind_only ks l (Operand_of o t) a m h s =
+      operand_only
+      ks
+      l
+      o
+      t
+      a
+      m
+      h
+      (placed ks (l + 1) t (a + 1) m (omega arith) (h.3, h.4) s (own_only ks t (a + 1) m h.4 (looser ks (l + 1) (rank ks t) m h.3 s)))
+  behind_only ks l (Index_of o t c) a m h s =
+      let end = index_closes ks c h.5 in
+      suffix_at
+      ks
+      l
+      a
+      (Index_of a t c)
+      (Index_of o t c)
+      (c + 1)
+      m
+      h.0
+      (ap (λ y. Index_of y t c) h.1)
+      h.6
+      (index_only
+      ks
       t
       c
-      (Paren_of o t c)
-      h.1
-      (reads_only ks 4 t (a + 1) c (omega arith) h.2 (closed ks c h.3))
-      (ap (λ x. Paren_of x t c) h.0)))
-      s
-  reads_only ks n (Binary_of f ps) a b le h s =
-      let low : level_at ks b < n = s in
-      let more : n ≤ h.0 = h.2 in
-      let most : h.0 ≤ 13 = h.3 in
-      let here : Stops ks h.0 b = (let lt : level_at ks b < h.0 = omega arith in lt) in
-      let first : Only ks (h.0 + 1) a f h.1 =
-      reads_only ks (h.0 + 1) f a h.1 (omega arith) h.4 (loosely ks h.0 ps h.1 b h.6 here) in
-      let rest : OnlyPairs ks h.0 h.1 ps b = pairs_only ks h.0 ps h.1 b most h.6 here in
-      lower
-      ks
-      h.0
-      n
       a
-      (Binary_of f ps)
-      b
-      more
-      (subst (λ x. Only ks h.0 a x b) (joined_more f ps h.5) (level_only ks h.0 a f h.1 ps b first rest))
-      s
+      h.2
+      (placed ks 1 t (a + 1) c (omega arith) (h.3, h.4) end (own_only ks t (a + 1) c h.4 (looser ks 1 (rank ks t) c h.3 end))))
+  behind_only ks l (Call_of o c) a m h s =
+      suffix_at
+      ks
+      l
+      a
+      (Call_of a (a + 1))
+      (Call_of o c)
+      (a + 2)
+      m
+      h.0
+      (ap (λ y. Call_of y c) h.1 ∙ ap (λ y. Call_of a y) h.3)
+      (call_end a c m h.3 h.5)
+      (call_only ks a h.2 (ap (λ y. kind_at ks y) (sym h.3) ∙ h.4))
+  behind_only ks l (Call_with_of o t bs c) a m h s =
+      let end = closed ks c h.7 in
+      let loose = loosely ks 1 bs h.0 c h.6 end in
+      suffix_at
+      ks
+      l
+      a
+      (Call_with_of a t bs c)
+      (Call_with_of o t bs c)
+      (c + 1)
+      m
+      h.1
+      (ap (λ y. Call_with_of y t bs c) h.2)
+      h.8
+      (call_with_only
+      ks
+      a
+      h.3
+      t
+      h.0
+      bs
+      c
+      h.5
+      (placed ks 2 t (a + 1) h.0 (omega arith) (h.4, h.5) loose (own_only ks t (a + 1) h.0 h.5 (looser ks 2 (rank ks t) h.0 h.4 loose)))
+      (behinds_only ks 1 bs h.0 c h.6 end))
+  behind_only ks l (Member_of o n) a m h s =
+      suffix_at
+      ks
+      l
+      a
+      (Member_of a (a + 1))
+      (Member_of o n)
+      (a + 2)
+      m
+      h.0
+      (ap (λ y. Member_of y n) h.1 ∙ ap (λ y. Member_of a y) h.3)
+      (call_end a n m h.3 h.5)
+      (member_only ks a h.2)
+  behind_only ks l (Step_of o) a m h s =
+      suffix_at ks l a (Step_of a) (Step_of o) (a + 1) m h.0 (ap Step_of h.1) h.3 (step_only ks a h.2)
 
-  pairs_only : (ks : List Kind) → (n : ℕ) → (ps : Pairs) → (a b : ℕ) → n ≤ 13 → ReadsPairs ks n ps a b → Stops ks n b
-      → OnlyPairs ks n a ps b
-  pairs_only ks n None_more a b le h s qs b' h' s' =
-      let all : OnlyPairs ks n a None_more b =
-      subst (λ x. OnlyPairs ks n x None_more b) h (none_only ks n b s) in
-      all qs b' h' s'
-  pairs_only ks n (Pair_then o t ps) a b le h s None_more b' h' s' =
-      let low : level_at ks a < n = subst (λ x. level_at ks x < n) h' s' in
-      let same : level_at ks a ≡ n = h.2 in
-      absurd (omega arith)
-  pairs_only ks n (Pair_then o t ps) a b le h s (Pair_then o' t' qs) b' h' s' =
-      let one : (t ≡ t') × (h.0 ≡ h'.0) =
-      reads_only ks (n + 1) t (a + 1) h.0 (omega arith) h.3 (loosely ks n ps h.0 b h.4 s)
-      t' h'.0 h'.3 (loosely ks n qs h'.0 b' h'.4 s') in
-      let more : (ps ≡ qs) × (b ≡ b') =
-      pairs_only ks n ps h.0 b le h.4 s qs b' (subst (λ x. ReadsPairs ks n qs x b') (sym one.1) h'.4) s' in (
-        ap (λ x. Pair_then x t ps) (h.1 ∙ sym h'.1)
-            ∙ ap (λ x. Pair_then o' x ps) one.0
-            ∙ ap (λ x. Pair_then o' t' x) more.0,
-        more.1,
-      )
+  pub behinds_only : (ks : List Kind) → (l : ℕ) → (xs : Behinds) → (a b : ℕ) → HoldBehinds ks l xs a b → Stops ks l b → OnlyBehinds ks l a xs b
+  behinds_only ks l None_behind a b h s = subst (λ y. OnlyBehinds ks l y None_behind b) h (none_behind ks l b s)
+  behinds_only ks l (Behind_then x xs) a b h s =
+      behinds_with
+      ks
+      l
+      x
+      xs
+      a
+      h.0
+      b
+      (begins ks l x a h.0 h.1)
+      (behind_only ks l x a h.0 h.1 (loosely ks l xs h.0 b h.2 s))
+      (behinds_only ks l xs h.0 b h.2 s)
+
+  front_only : (ks : List Kind) → (l : ℕ) → (x : Front) → (a m : ℕ) → HoldsFront ks l x a m → OnlyFront ks l a x m
+  front_only ks l (Operator_of o) a m h =
+      subst
+      (λ k. OnlyFront ks k a (Operator_of o) m)
+      (sym h.0)
+      (operator_only ks o a m (refl, h.1, h.2, h.3))
+  front_only ks l (Choice_of t q e c) a m h =
+      let one = stops_at ks 4 q Question h.3 (omega arith) in
+      let two = stops_at ks 1 c Colon h.6 (omega arith) in
+      subst
+      (λ k. OnlyFront ks k a (Choice_of t q e c) m)
+      (sym h.0)
+      (choice_only
+      ks
+      t
+      q
+      e
+      c
+      a
+      m
+      (refl, h.1, h.2, h.3, h.4, h.5, h.6, h.7)
+      (placed ks 4 t a q (omega arith) (h.1, h.2) one (own_only ks t a q h.2 (looser ks 4 (rank ks t) q h.1 one)))
+      (placed ks 1 e (q + 1) c (omega arith) (h.4, h.5) two (own_only ks e (q + 1) c h.5 (looser ks 1 (rank ks e) c h.4 two))))
+  front_only ks l (Left_of t o) a m h =
+      let end = stops_at ks 3 o Assignment h.3 (omega arith) in
+      let low = lowered ks 3 15 t a o (omega arith) (h.1, h.2) in
+      subst
+      (λ k. OnlyFront ks k a (Left_of t o) m)
+      (sym h.0)
+      (left_only
+      ks
+      t
+      o
+      a
+      m
+      (refl, h.1, h.2, h.3, h.4)
+      (placed ks 3 t a o (omega arith) low end (own_only ks t a o h.2 (looser ks 3 (rank ks t) o low.0 end))))
+
+  fronts_only : (ks : List Kind) → (l : ℕ) → Fronting l → (xs : Fronts) → (a m : ℕ) → (t : Tree) → (b : ℕ) → HoldFronts ks l xs a m
+      → Reads ks (l + 1) t m b → Only ks (l + 1) m t b → Stops ks l b → OnlyFronts ks l a xs t b
+  fronts_only ks l f None_before a m t b h r only s =
+      subst (λ k. OnlyFronts ks l k None_before t b) h (none_before ks l m t b f r only s)
+  fronts_only ks l f (Front_then x xs) a m t b h r only s =
+      fronts_with
+      ks
+      l
+      x
+      xs
+      a
+      h.0
+      m
+      t
+      b
+      (front_only ks l x a h.0 h.1)
+      (fronts_only ks l f xs h.0 m t b h.2 r only s)
+
+-- unique reading by places
+pub reads_only : (ks : List Kind) → (n : ℕ) → (t : Tree) → (a b : ℕ) → 1 ≤ n → Reads ks n t a b → Stops ks n b → Only ks n a t b
+reads_only ks n t a b low h s = placed ks n t a b low h s (own_only ks t a b h.1 (looser ks n (rank ks t) b h.0 s))
+
+past_end : (ks : List Kind) → kind_at ks (length ks) ≡ End
+past_end [] = refl
+past_end (k ∷ ks) = past_end ks
+
+pub stops_at_end : (ks : List Kind) → Stops ks 1 (length ks)
+stops_at_end ks = stops_at ks 1 (length ks) End (past_end ks) (omega arith)
 
 pub unique : (ks : List Kind) → (t u : Tree) → IsExpression ks t → IsExpression ks u → t ≡ u
 unique ks t u x y =
-    (reads_only ks 4 t 0 (length ks) (omega arith) (expression_reads ks t x) (stops_at_end ks)
+    (reads_only ks 1 t 0 (length ks) (omega arith) (expression_reads ks t x) (stops_at_end ks)
     u (length ks) (expression_reads ks u y) (stops_at_end ks)).0

@@ -1,44 +1,167 @@
--- The grammar of expressions (ISO C11 6.5.1, 6.5.5 to 6.5.14): what a tree spells, and which trees are proper.
-use Rattle.std.specs.Prelude.{◌≡◌, ℕ, zero, suc, ◌+◌, ◌≤◌, List, [], ◌∷◌, ◌++◌, length, Some, None}
-use Rattle.tree_data.specs.Trees.{Tree, Name_of, Constant_of, Paren_of, Binary_of, Pairs, None_more, Pair_then}
+-- The grammar of expressions (ISO C11 6.5) without type names: what a tree spells, and which trees are proper. A case a
+-- production; productions that go on to the left or to the right by themselves are lists, of one part at least.
+use Rattle.std.specs.Prelude.{◌≡◌, ℕ, zero, suc, ◌+◌, ◌≤◌, List, [], ◌∷◌, ◌++◌, length, Some, None, true}
+use Rattle.tree_data.specs.Trees.{Tree, Name_of, Constant_of, Text_of, Paren_of, Postfix_of, Unary_of, Binary_of, Conditional_of, Assign_of, Behind, Operand_of, Index_of, Call_of, Call_with_of, Member_of, Step_of, Behinds, None_behind, Behind_then, Front, Operator_of, Choice_of, Left_of, Fronts, None_before, Front_then}
 use Rattle.c_parser.specs.declared.answers.ParseError.{ParseError}
 use Rattle.c_parser.specs.declared.answers.ParseError.TheVariants.{Syntax, TooDeep, NoMemory}
 use Rattle.c_parser.specs.declared.kinds.Kind.{Kind}
-use Rattle.c_parser.specs.declared.kinds.Kind.TheVariants.{Identifier, Constant, OpenParen, CloseParen}
+use Rattle.c_parser.specs.declared.kinds.Kind.TheVariants.{Identifier, Constant, Text, OpenParen, CloseParen, OpenBracket, CloseBracket, Member, Step, Question, Colon, Assignment}
 use Rattle.c_parser.specs.Brackets.{too_deep}
-use Rattle.c_parser.specs.Kinds.{kind_at, level_at}
+use Rattle.c_parser.specs.Kinds.{kind_at, level_at, is_prefix, is_word}
+use Rattle.c_parser.specs.Levels.{expression, assignment_expression, conditional_expression, logical_OR_expression, unary_expression, postfix_expression, primary_expression, IsBinary, behinds_level, rank}
 
 -- the numbers of a tree's tokens, in order
 abbrev mutual
   pub spell : Tree → List ℕ
   spell (Name_of n) = n ∷ []
   spell (Constant_of n) = n ∷ []
+  spell (Text_of ns) = ns
   spell (Paren_of o t c) = o ∷ (spell t ++ c ∷ [])
-  spell (Binary_of f ps) = spell f ++ spell_pairs ps
+  spell (Postfix_of f bs) = spell f ++ spell_behinds bs
+  spell (Unary_of fs t) = spell_fronts fs ++ spell t
+  spell (Binary_of f bs) = spell f ++ spell_behinds bs
+  spell (Conditional_of fs t) = spell_fronts fs ++ spell t
+  spell (Assign_of fs t) = spell_fronts fs ++ spell t
 
-  pub spell_pairs : Pairs → List ℕ
-  spell_pairs None_more = []
-  spell_pairs (Pair_then o t ps) = o ∷ (spell t ++ spell_pairs ps)
+  pub spell_behind : Behind → List ℕ
+  spell_behind (Operand_of o t) = o ∷ spell t
+  spell_behind (Index_of o t c) = o ∷ (spell t ++ c ∷ [])
+  spell_behind (Call_of o c) = o ∷ c ∷ []
+  spell_behind (Call_with_of o t bs c) = o ∷ (spell t ++ (spell_behinds bs ++ c ∷ []))
+  spell_behind (Member_of o n) = o ∷ n ∷ []
+  spell_behind (Step_of o) = o ∷ []
 
-abbrev pub IsMore : Pairs → Type 0
-IsMore None_more = ⊥
-IsMore (Pair_then o t ps) = Unit {0}
+  pub spell_behinds : Behinds → List ℕ
+  spell_behinds None_behind = []
+  spell_behinds (Behind_then b bs) = spell_behind b ++ spell_behinds bs
 
--- the tree is of this level of precedence or one that binds more: 4 (logical-OR-expression) to 13
--- (multiplicative-expression), 14 for primary-expression. A list of operands with operators of one level is one tree
+  pub spell_front : Front → List ℕ
+  spell_front (Operator_of o) = o ∷ []
+  spell_front (Choice_of t q e c) = spell t ++ (q ∷ (spell e ++ c ∷ []))
+  spell_front (Left_of t o) = spell t ++ o ∷ []
+
+  pub spell_fronts : Fronts → List ℕ
+  spell_fronts None_before = []
+  spell_fronts (Front_then f fs) = spell_front f ++ spell_fronts fs
+
+abbrev pub IsMore : Behinds → Type 0
+IsMore None_behind = ⊥
+IsMore (Behind_then b bs) = Unit {0}
+
+abbrev pub IsBefore : Fronts → Type 0
+IsBefore None_before = ⊥
+IsBefore (Front_then f fs) = Unit {0}
+
+-- all string literals side by side behind this one, which are one with it (5.1.1.2p1, phase 6)
+abbrev pub GoOn : List Kind → ℕ → List ℕ → Type 0
+GoOn kinds n [] = kind_at kinds (n + 1) ≡ Text → ⊥
+GoOn kinds n (m ∷ ms) = (kind_at kinds m ≡ Text) × GoOn kinds m ms
+
+abbrev pub AreTexts : List Kind → List ℕ → Type 0
+AreTexts kinds [] = ⊥
+AreTexts kinds (n ∷ ns) = (kind_at kinds n ≡ Text) × GoOn kinds n ns
+
+-- each part of the tree is what the tree's production has there; `l ≤ rank kinds t` says that t is of the nonterminal l
 abbrev mutual
-  pub Proper : List Kind → ℕ → Tree → Type 0
-  Proper kinds n (Name_of m) = kind_at kinds m ≡ Identifier
-  Proper kinds n (Constant_of m) = kind_at kinds m ≡ Constant
-  Proper kinds n (Paren_of o t c) =
-      (kind_at kinds o ≡ OpenParen) × Proper kinds 4 t × (kind_at kinds c ≡ CloseParen)
-  Proper kinds n (Binary_of f ps) =
-      (l : ℕ) × (n ≤ l) × (l ≤ 13) × Proper kinds (l + 1) f × IsMore ps × ProperPairs kinds l ps
+  pub IsFormed : List Kind → Tree → Type 0
+  -- 6.5.1 primary-expression : identifier | constant | string-literal | ( expression )
+  IsFormed kinds (Name_of n) = kind_at kinds n ≡ Identifier
+  IsFormed kinds (Constant_of n) = kind_at kinds n ≡ Constant
+  IsFormed kinds (Text_of ns) = AreTexts kinds ns
+  IsFormed kinds (Paren_of o t c) =
+      (kind_at kinds o ≡ OpenParen)
+      × (expression ≤ rank kinds t) × IsFormed kinds t
+      × (kind_at kinds c ≡ CloseParen)
+  -- 6.5.2 postfix-expression : primary-expression with postfix operators behind it
+  IsFormed kinds (Postfix_of f bs) =
+      IsMore bs
+      × (primary_expression ≤ rank kinds f) × IsFormed kinds f
+      × AreBehind kinds postfix_expression bs
+  -- 6.5.3 unary-expression : unary operators in front of a postfix-expression
+  IsFormed kinds (Unary_of fs t) =
+      IsBefore fs
+      × AreInFront kinds unary_expression fs
+      × (postfix_expression ≤ rank kinds t) × IsFormed kinds t
+  -- 6.5.5 to 6.5.14, 6.5.17 operands of the next nonterminal with operators between them
+  IsFormed kinds (Binary_of f bs) =
+      IsMore bs
+      × IsBinary (behinds_level kinds bs)
+      × (behinds_level kinds bs + 1 ≤ rank kinds f) × IsFormed kinds f
+      × AreBehind kinds (behinds_level kinds bs) bs
+  -- 6.5.15 conditional-expression : logical-OR-expression ? expression : conditional-expression
+  IsFormed kinds (Conditional_of fs t) =
+      IsBefore fs
+      × AreInFront kinds conditional_expression fs
+      × (logical_OR_expression ≤ rank kinds t) × IsFormed kinds t
+  -- 6.5.16 assignment-expression : unary-expression assignment-operator assignment-expression
+  IsFormed kinds (Assign_of fs t) =
+      IsBefore fs
+      × AreInFront kinds assignment_expression fs
+      × (conditional_expression ≤ rank kinds t) × IsFormed kinds t
 
-  pub ProperPairs : List Kind → ℕ → Pairs → Type 0
-  ProperPairs kinds l None_more = Unit {0}
-  ProperPairs kinds l (Pair_then o t ps) =
-      (level_at kinds o ≡ l) × Proper kinds (l + 1) t × ProperPairs kinds l ps
+  -- what an expression of the nonterminal l goes on with
+  pub IsBehind : List Kind → ℕ → Behind → Type 0
+  IsBehind kinds l (Operand_of o t) =
+      IsBinary l
+      × (level_at kinds o ≡ l)
+      × (l + 1 ≤ rank kinds t) × IsFormed kinds t
+  -- 6.5.2 [ expression ]
+  IsBehind kinds l (Index_of o t c) =
+      (l ≡ postfix_expression)
+      × (kind_at kinds o ≡ OpenBracket)
+      × (expression ≤ rank kinds t) × IsFormed kinds t
+      × (kind_at kinds c ≡ CloseBracket)
+  -- ( argument-expression-list opt ), whose arguments are assignment-expressions with commas between them
+  IsBehind kinds l (Call_of o c) =
+      (l ≡ postfix_expression)
+      × (kind_at kinds o ≡ OpenParen)
+      × (kind_at kinds c ≡ CloseParen)
+  IsBehind kinds l (Call_with_of o t bs c) =
+      (l ≡ postfix_expression)
+      × (kind_at kinds o ≡ OpenParen)
+      × (assignment_expression ≤ rank kinds t) × IsFormed kinds t
+      × AreBehind kinds expression bs
+      × (kind_at kinds c ≡ CloseParen)
+  -- . identifier | -> identifier
+  IsBehind kinds l (Member_of o n) =
+      (l ≡ postfix_expression)
+      × (kind_at kinds o ≡ Member)
+      × (is_word (kind_at kinds n) ≡ true)
+  -- ++ | --
+  IsBehind kinds l (Step_of o) =
+      (l ≡ postfix_expression)
+      × (kind_at kinds o ≡ Step)
+
+  pub AreBehind : List Kind → ℕ → Behinds → Type 0
+  AreBehind kinds l None_behind = Unit {0}
+  AreBehind kinds l (Behind_then b bs) = IsBehind kinds l b × AreBehind kinds l bs
+
+  -- what an expression of the nonterminal l begins with
+  pub IsInFront : List Kind → ℕ → Front → Type 0
+  -- 6.5.3 ++ | -- | unary-operator | sizeof
+  IsInFront kinds l (Operator_of o) =
+      (l ≡ unary_expression)
+      × (is_prefix (kind_at kinds o) ≡ true)
+  -- 6.5.15 logical-OR-expression ? expression :
+  IsInFront kinds l (Choice_of t q e c) =
+      (l ≡ conditional_expression)
+      × (logical_OR_expression ≤ rank kinds t) × IsFormed kinds t
+      × (kind_at kinds q ≡ Question)
+      × (expression ≤ rank kinds e) × IsFormed kinds e
+      × (kind_at kinds c ≡ Colon)
+  -- 6.5.16 unary-expression assignment-operator
+  IsInFront kinds l (Left_of t o) =
+      (l ≡ assignment_expression)
+      × (unary_expression ≤ rank kinds t) × IsFormed kinds t
+      × (kind_at kinds o ≡ Assignment)
+
+  pub AreInFront : List Kind → ℕ → Fronts → Type 0
+  AreInFront kinds l None_before = Unit {0}
+  AreInFront kinds l (Front_then f fs) = IsInFront kinds l f × AreInFront kinds l fs
+
+-- the tree is of the nonterminal n
+abbrev pub Proper : List Kind → ℕ → Tree → Type 0
+Proper kinds n t = (n ≤ rank kinds t) × IsFormed kinds t
 
 -- so many numbers from this one on
 abbrev pub numbers : ℕ → ℕ → List ℕ
@@ -47,7 +170,7 @@ numbers from (suc n) = from ∷ numbers (from + 1) n
 
 -- a proper tree that spells tokens of these kinds, all of them
 pub record IsExpression (kinds : List Kind) (t : Tree) : Type 0 where
-  pub proper : Proper kinds 4 t
+  pub proper : Proper kinds expression t
   pub spells : spell t ≡ numbers 0 (length kinds)
 
 -- the tokens mean this tree and no other

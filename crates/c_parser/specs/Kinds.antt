@@ -1,10 +1,14 @@
--- The kinds of tokens by their numbers, and the level of precedence at which an operator goes on (ISO C11 6.5.5 to 6.5.14).
-use Rattle.std.specs.Prelude.{ℕ, ◌<◌, List, length, slice_index_or}
+-- The kinds of tokens by their numbers, and what those of operators begin or go on with (ISO C11 6.5).
+use Rattle.std.specs.Prelude.{ℕ, ◌<◌, List, length, slice_index_or, Bool, true, false}
 use Rattle.c_parser.specs.declared.kinds.Kind.{Kind}
-use Rattle.c_parser.specs.declared.kinds.Kind.TheVariants.{Or, And, Bar, Caret, Ampersand, Equality, Relation, Shift, Sign, Star, Quotient, End}
+use Rattle.c_parser.specs.declared.kinds.Kind.TheVariants.{Identifier, TypeName, OpenParen, OpenBracket, Member, Step, SizeOf, Complement, Question, Assignment, Comma, Or, And, Bar, Caret, Ampersand, Equality, Relation, Shift, Sign, Star, Quotient, End}
 
--- `||` is at 4, `*` at 13; 0 for what is no binary operator
+-- the level of precedence at which an expression goes on with such a token behind it, 0 where it doesn't: 1 for `,`,
+-- 2 for assignment, 3 for `?`, from `||` at 4 to `*` at 13, 16 for postfix operators
 abbrev pub level_of : Kind → ℕ
+level_of Comma = 1
+level_of Assignment = 2
+level_of Question = 3
 level_of Or = 4
 level_of And = 5
 level_of Bar = 6
@@ -16,7 +20,27 @@ level_of Shift = 11
 level_of Sign = 12
 level_of Star = 13
 level_of Quotient = 13
+level_of OpenBracket = 16
+level_of OpenParen = 16
+level_of Member = 16
+level_of Step = 16
 level_of _ = 0
+
+-- `++` `--` `&` `*` `+` `-` `~` `!` `sizeof` in front of an operand (6.5.3)
+abbrev pub is_prefix : Kind → Bool
+is_prefix Step = true
+is_prefix Ampersand = true
+is_prefix Star = true
+is_prefix Sign = true
+is_prefix Complement = true
+is_prefix SizeOf = true
+is_prefix _ = false
+
+-- an identifier, whether or not it is a typedef name
+abbrev pub is_word : Kind → Bool
+is_word Identifier = true
+is_word TypeName = true
+is_word _ = false
 
 -- of the token with this number, `End` behind the last
 abbrev pub kind_at : List Kind → ℕ → Kind

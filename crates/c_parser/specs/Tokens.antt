@@ -1,12 +1,12 @@
 -- The kinds of tokens of a unit, under names that are typedef names (ISO C11 6.4.1, 6.4.6, 6.7.8).
-use Rattle.std.specs.Prelude.{ℕ, ◌||◌, List, [], ◌∷◌, map, bytes_eq, codes, if◌then◌else◌}
+use Rattle.std.specs.Prelude.{ℕ, List, [], ◌∷◌, map, bytes_eq, codes, if◌then◌else◌}
 use Rattle.std.specs.List.{list_any}
 use Rattle.tok_data.specs.declared.tokens.OutToken.{OutToken}
 use Rattle.tok_data.specs.declared.tokens.PpKind.{PpKind}
 use Rattle.tok_data.specs.declared.tokens.PpKind.TheVariants as pp
 use Rattle.tok_data.specs.Keywords.{is_keyword}
 use Rattle.c_parser.specs.declared.kinds.Kind.{Kind}
-use Rattle.c_parser.specs.declared.kinds.Kind.TheVariants.{Identifier, Constant, Text, OpenParen, CloseParen, OpenBracket, CloseBracket, OpenBrace, CloseBrace, Member, Step, Ampersand, Star, Sign, Complement, Quotient, Shift, Relation, Equality, Caret, Bar, And, Or, Question, Colon, Assignment, Comma, Other}
+use Rattle.c_parser.specs.declared.kinds.Kind.TheVariants.{Identifier, TypeName, SizeOf, Constant, Text, OpenParen, CloseParen, OpenBracket, CloseBracket, OpenBrace, CloseBrace, Member, Step, Ampersand, Star, Sign, Complement, Quotient, Shift, Relation, Equality, Caret, Bar, And, Or, Question, Colon, Assignment, Comma, Other}
 
 -- punctuators, digraphs as what they stand for
 unfoldable pub marks : List (List ℕ × Kind)
@@ -31,9 +31,12 @@ lookup (e ∷ es) text = if bytes_eq e.0 text then e.1 else lookup es text
 unfoldable pub mark_of : List ℕ → Kind
 mark_of = lookup marks
 
--- an identifier that is a typedef name, or a keyword, is no primary expression
+-- of the keywords `sizeof` alone stands in an expression; an identifier that is a typedef name is no primary expression
 unfoldable pub word_of : List (List ℕ) → List ℕ → Kind
-word_of names text = if is_keyword text || list_any (λ name. bytes_eq name text) names then Other else Identifier
+word_of names text =
+    if bytes_eq text (codes "sizeof") then SizeOf
+    else (if is_keyword text then Other
+    else (if list_any (λ name. bytes_eq name text) names then TypeName else Identifier))
 
 abbrev pub pp_kind_of : List (List ℕ) → PpKind → List ℕ → Kind
 pp_kind_of names pp.Ident text = word_of names text

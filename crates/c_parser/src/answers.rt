@@ -9,3 +9,11 @@ pub enum ParseError {
     TooDeep(u32),
     NoMemory,
 }
+
+// Why the parser stopped.
+#[derive(Clone, Copy, Debug, PartialEq, Eq, Hash, Drop)]
+pub(crate) enum Stop {
+    // At this token, which no expression has there.
+    Syntax(u32),
+    NoMemory,
+}

@@ -3,8 +3,9 @@
 
 mod answers;
 mod brackets;
+mod expressions;
+mod joining;
 mod kinds;
-mod levels;
 mod names;
 mod tokens;
 mod whole;

@@ -85,8 +85,14 @@ fn is_typedef(names: &[Name], text: &str) -> bool
 fn word_of(names: &[Name], text: &str) -> Kind
     ensures { result ≡ spec.word_of names.now text.now }
 {
-    if is_keyword(text) || is_typedef(names, text) {
+    if text == "sizeof" {
+        return Kind::SizeOf;
+    }
+    if is_keyword(text) {
         return Kind::Other;
+    }
+    if is_typedef(names, text) {
+        return Kind::TypeName;
     }
     Kind::Identifier
 }

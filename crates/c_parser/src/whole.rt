@@ -2,13 +2,13 @@
 ghost use Rattle.std.specs.Prelude.{◌≡◌, ◌≤◌, length, IfOk, IfErr};
 ghost use Rattle.tree_data.specs.Trees.{Tree, tree_of};
 ghost use Rattle.c_parser.specs.Grammar.{IsMeaning, IsCause, ReadingIsUnique};
-ghost use Rattle.c_parser.specs.Reading.{Reads, MustGive, at_front, IsAtFront};
+ghost use Rattle.c_parser.specs.Reading.{Reads, at_front, IsAtFront, IsRefused};
 ghost use Rattle.c_parser.specs.Tokens as spec;
 
-use crate::answers::ParseError;
+use crate::answers::{ParseError, Stop};
 use crate::brackets::too_deep;
+use crate::expressions::{EXPRESSION, level};
 use crate::kinds::Kind;
-use crate::levels::{EXPRESSION, level};
 use crate::names::NameSet;
 use crate::tokens::kinds_of;
 use std::alloc::Global;
@@ -16,25 +16,24 @@ use tok_data::OutToken;
 use tree_data::Expr;
 
 // Where the parser stopped is not told: a fault falls on the first token.
-fn at_front(error: ParseError) -> ParseError
-    ensures { result ≡ at_front error }
+fn at_front(stop: Stop) -> ParseError
+    ensures { result ≡ at_front stop }
 {
-    match error {
-        ParseError::Syntax(_) => ParseError::Syntax(0),
-        ParseError::TooDeep(_) => ParseError::Syntax(0),
-        ParseError::NoMemory => ParseError::NoMemory,
+    match stop {
+        Stop::Syntax(_) => ParseError::Syntax(0),
+        Stop::NoMemory => ParseError::NoMemory,
     }
 }
 
 fn whole(alloc: Global, kinds: &[Kind]) -> Result<Expr, ParseError>
     requires { length kinds.now ≤ 2000000 }
-    ensures found { IfOk result (λ e. Reads kinds.now 4 (tree_of e) 0 (length kinds.now)) }
-    ensures only { (t : Tree) → Reads kinds.now 4 t 0 (length kinds.now) → MustGive result (λ e. tree_of e ≡ t) }
+    ensures found { IfOk result (λ e. Reads kinds.now 1 (tree_of e) 0 (length kinds.now)) }
+    ensures only { IfErr result (λ e. (t : Tree) → Reads kinds.now 1 t 0 (length kinds.now) → IsRefused e) }
     ensures place { IfErr result IsAtFront }
 {
     let (expr, end) = match level(alloc, kinds, EXPRESSION, 0) {
         Ok(found) => found,
-        Err(error) => return Err(at_front(error)),
+        Err(stop) => return Err(at_front(stop)),
     };
     if (end as usize) < kinds.len() {
         return Err(ParseError::Syntax(0));
@@ -42,10 +41,9 @@ fn whole(alloc: Global, kinds: &[Kind]) -> Result<Expr, ParseError>
     Ok(expr)
 }
 
-/// The one expression that the tokens spell, all of them (ISO C11 6.5): an identifier, a constant, an expression in
-/// parentheses, or these with binary operators between them, `*` `/` `%` to `||`, by precedence and from left to right.
-/// The other forms of 6.5 are not in its grammar yet. An identifier among `names` or a keyword is no expression.
-/// The tokens are at most 2,000,000.
+/// The one expression that the tokens spell, all of them (ISO C11 6.5). What has a type name in it (a cast, a compound
+/// literal, `sizeof` and `_Alignof` of a type, `_Generic`, `__offsetof`) is not in its grammar yet. An identifier among
+/// `names` or a keyword is no expression, but one among `names` may be a member's name. The tokens are at most 2,000,000.
 ///
 /// Errors: TooDeep with the bracket that opens the 257th level, which is looked for first; Syntax(0) exactly where
 /// no tree of the grammar spells the tokens and no bracket is too deep; NoMemory.

@@ -1,13 +1,26 @@
 // Trees as S-expressions.
 use std::alloc::{AllocError, Global};
 use tok_data::OutToken;
-use tree_data::Expr;
+use tree_data::{Choice, Expr, Suffix};
+
+fn spelling(tokens: &[OutToken], at: u32) -> &str {
+    match tokens.get(at as usize) {
+        Some(token) => token.spelling.as_str(),
+        None => "",
+    }
+}
 
 fn spell(out: &mut String, tokens: &[OutToken], at: u32) -> Result<(), AllocError> {
-    match tokens.get(at as usize) {
-        Some(token) => out.push_str(token.spelling.as_str()),
-        None => Ok(()),
+    out.push_str(spelling(tokens, at))
+}
+
+fn open_binary(out: &mut String, tokens: &[OutToken], operator: u32) -> Result<(), AllocError> {
+    if spelling(tokens, operator) == "," {
+        return out.push_str("(comma ");
     }
+    out.push_str("(binary ")?;
+    spell(out, tokens, operator)?;
+    out.push_str(" ")
 }
 
 // The operators of a chain, the last first.
@@ -17,32 +30,166 @@ fn open_pairs(
     more: &[(u32, Expr)],
 ) -> Result<(), AllocError> {
     for pair in more.iter().rev() {
-        out.push_str("(binary ")?;
-        spell(out, tokens, pair.0)?;
-        out.push_str(" ")?;
+        open_binary(out, tokens, pair.0)?;
     }
     Ok(())
 }
 
+fn open_suffix(out: &mut String, tokens: &[OutToken], suffix: &Suffix) -> Result<(), AllocError> {
+    match suffix {
+        Suffix::Index(_, _, _) => out.push_str("(index "),
+        Suffix::Call(_, _) | Suffix::CallWith(_, _, _, _) => out.push_str("(call "),
+        Suffix::Member(operator, _) => match spelling(tokens, *operator) == "." {
+            true => out.push_str("(dot "),
+            false => out.push_str("(arrow "),
+        },
+        Suffix::Step(operator) => {
+            out.push_str("(post ")?;
+            spell(out, tokens, *operator)?;
+            out.push_str(" ")
+        }
+    }
+}
+
+fn open_unary(out: &mut String, tokens: &[OutToken], operator: u32) -> Result<(), AllocError> {
+    let text = spelling(tokens, operator);
+    if text == "sizeof" {
+        return out.push_str("(sizeof ");
+    }
+    if text == "++" || text == "--" {
+        out.push_str("(pre ")?;
+    } else {
+        out.push_str("(unary ")?;
+    }
+    out.push_str(text)?;
+    out.push_str(" ")
+}
+
+fn close(out: &mut String, count: usize) -> Result<(), AllocError> {
+    for _ in 0..count {
+        out.push_str(")")?;
+    }
+    Ok(())
+}
+
+fn show_text(out: &mut String, tokens: &[OutToken], pieces: &[u32]) -> Result<(), AllocError> {
+    out.push_str("(str")?;
+    for piece in pieces {
+        out.push_str(" ")?;
+        spell(out, tokens, *piece)?;
+    }
+    out.push_str(")")
+}
+
+#[cycle(show)]
+fn show_suffix(out: &mut String, tokens: &[OutToken], suffix: &Suffix) -> Result<(), AllocError> {
+    match suffix {
+        Suffix::Index(_, inner, _) => {
+            out.push_str(" ")?;
+            show(out, tokens, inner)
+        }
+        Suffix::Call(_, _) => Ok(()),
+        Suffix::CallWith(_, first, more, _) => {
+            out.push_str(" ")?;
+            show(out, tokens, first)?;
+            for pair in more {
+                out.push_str(" ")?;
+                show(out, tokens, &pair.1)?;
+            }
+            Ok(())
+        }
+        Suffix::Member(_, name) => {
+            out.push_str(" ")?;
+            spell(out, tokens, *name)
+        }
+        Suffix::Step(_) => Ok(()),
+    }
+}
+
+#[cycle(show)]
+fn show_choice(out: &mut String, tokens: &[OutToken], choice: &Choice) -> Result<(), AllocError> {
+    out.push_str("(cond ")?;
+    show(out, tokens, &choice.test)?;
+    out.push_str(" ")?;
+    show(out, tokens, &choice.middle)?;
+    out.push_str(" ")
+}
+
+#[cycle(show)]
+fn show_postfix(out: &mut String, tokens: &[OutToken], expr: &Expr) -> Result<(), AllocError> {
+    let Expr::Postfix(first, suffixes) = expr else {
+        return Ok(());
+    };
+    for suffix in suffixes.iter().rev() {
+        open_suffix(out, tokens, suffix)?;
+    }
+    show(out, tokens, first)?;
+    for suffix in suffixes {
+        show_suffix(out, tokens, suffix)?;
+        out.push_str(")")?;
+    }
+    Ok(())
+}
+
+#[cycle(show)]
+fn show_binary(out: &mut String, tokens: &[OutToken], expr: &Expr) -> Result<(), AllocError> {
+    let Expr::Binary(first, more) = expr else {
+        return Ok(());
+    };
+    open_pairs(out, tokens, more.as_slice())?;
+    show(out, tokens, first)?;
+    for pair in more {
+        out.push_str(" ")?;
+        show(out, tokens, &pair.1)?;
+        out.push_str(")")?;
+    }
+    Ok(())
+}
+
+#[cycle(show)]
+fn show_assign(out: &mut String, tokens: &[OutToken], expr: &Expr) -> Result<(), AllocError> {
+    let Expr::Assign(places, value) = expr else {
+        return Ok(());
+    };
+    for place in places {
+        out.push_str("(assign ")?;
+        spell(out, tokens, place.1)?;
+        out.push_str(" ")?;
+        show(out, tokens, &place.0)?;
+        out.push_str(" ")?;
+    }
+    show(out, tokens, value)?;
+    close(out, places.len())
+}
+
+#[cycle(show)]
 fn show(out: &mut String, tokens: &[OutToken], expr: &Expr) -> Result<(), AllocError> {
     match expr {
         Expr::Name(at) => spell(out, tokens, *at),
         Expr::Constant(at) => spell(out, tokens, *at),
+        Expr::Text(pieces) => show_text(out, tokens, pieces.as_slice()),
         Expr::Paren(_, inner, _) => {
             out.push_str("(paren ")?;
             show(out, tokens, inner)?;
             out.push_str(")")
         }
-        Expr::Binary(first, more) => {
-            open_pairs(out, tokens, more.as_slice())?;
-            show(out, tokens, first)?;
-            for pair in more {
-                out.push_str(" ")?;
-                show(out, tokens, &pair.1)?;
-                out.push_str(")")?;
+        Expr::Postfix(_, _) => show_postfix(out, tokens, expr),
+        Expr::Unary(operators, operand) => {
+            for operator in operators {
+                open_unary(out, tokens, *operator)?;
             }
-            Ok(())
+            show(out, tokens, operand)?;
+            close(out, operators.len())
         }
+        Expr::Binary(_, _) => show_binary(out, tokens, expr),
+        Expr::Conditional(choices, last) => {
+            for choice in choices {
+                show_choice(out, tokens, choice)?;
+            }
+            show(out, tokens, last)?;
+            close(out, choices.len())
+        }
+        Expr::Assign(_, _) => show_assign(out, tokens, expr),
     }
 }
 

@@ -1,22 +1,35 @@
 // Trees of expressions (ISO C11 6.5). A tree holds the numbers of its tokens, and no text.
 ghost use Rattle.std.specs.Prelude.{◌≡◌, IfOk};
 ghost use Rattle.tree_data.specs.Trees as spec;
-ghost use Rattle.tree_data.specs.Trees.{tree_of};
+ghost use Rattle.tree_data.specs.Trees.{tree_of, is_unary};
 
+use crate::parts::{Choice, Suffix};
 use std::alloc::{AllocError, Global};
 
-/// An expression.
+/// An expression. What is written side by side, however long, stands in one list: a tree is no deeper than its brackets,
+/// the middles of its `? :` and the levels of precedence.
 #[derive(Drop)]
+#[cycle(trees)]
 pub enum Expr {
     /// An identifier that names no type (6.5.1).
     Name(u32),
     /// A constant (6.5.1).
     Constant(u32),
+    /// String literals side by side, which are one string literal (5.1.1.2, 6.5.1); at least one.
+    Text(Vec<u32>),
     /// `( expression )` (6.5.1).
     Paren(u32, Box<Expr>, u32),
+    /// A primary expression and at least one postfix operator behind it, the first one applied first (6.5.2).
+    Postfix(Box<Expr>, Vec<Suffix>),
+    /// At least one unary operator and the operand behind the last one, which is applied first (6.5.3).
+    Unary(Vec<u32>, Box<Expr>),
     /// An operand and at least one binary operator with the operand behind it; all operators are of one level of
-    /// precedence and group to the left (6.5.5 to 6.5.14).
+    /// precedence and group to the left (6.5.5 to 6.5.14, 6.5.17).
     Binary(Box<Expr>, Vec<(u32, Expr)>),
+    /// At least one test with `?`, the expression behind it and `:`, and what is behind the last `:` (6.5.15).
+    Conditional(Vec<Choice>, Box<Expr>),
+    /// At least one place with the assignment operator behind it, and the value (6.5.16).
+    Assign(Vec<(Expr, u32)>, Box<Expr>),
 }
 
 impl Expr {
@@ -34,6 +47,13 @@ impl Expr {
         Expr::Constant(at)
     }
 
+    /// String literals side by side.
+    pub fn text(pieces: Vec<u32>) -> Expr
+        ensures { tree_of result ≡ spec.Text_of pieces.items }
+    {
+        Expr::Text(pieces)
+    }
+
     /// An expression in parentheses.
     pub fn paren(alloc: Global, opening: u32, inner: Expr, closing: u32) -> Result<Expr, AllocError>
         ensures { IfOk result (λ e. tree_of e ≡ spec.Paren_of opening (tree_of inner) closing) }
@@ -42,12 +62,65 @@ impl Expr {
         Ok(Expr::Paren(opening, inner, closing))
     }
 
+    /// An expression with postfix operators behind it.
+    pub fn postfix(alloc: Global, first: Expr, suffixes: Vec<Suffix>) -> Result<Expr, AllocError>
+        ensures { IfOk result (λ e. tree_of e
+            ≡ spec.Postfix_of (tree_of first) (spec.behinds (spec.suffixes_of suffixes.items) spec.None_behind)) }
+    {
+        let first = Box::new(alloc, first)?;
+        Ok(Expr::Postfix(first, suffixes))
+    }
+
+    /// An operand with unary operators in front of it.
+    pub fn unary(alloc: Global, operators: Vec<u32>, operand: Expr) -> Result<Expr, AllocError>
+        ensures { IfOk result (λ e. tree_of e
+            ≡ spec.Unary_of (spec.fronts (spec.operators_of operators.items) spec.None_before) (tree_of operand)) }
+    {
+        let operand = Box::new(alloc, operand)?;
+        Ok(Expr::Unary(operators, operand))
+    }
+
     /// An operand with operators and operands behind it.
     pub fn binary(alloc: Global, first: Expr, more: Vec<(u32, Expr)>) -> Result<Expr, AllocError>
         ensures { IfOk result (λ e. tree_of e
-            ≡ spec.Binary_of (tree_of first) (spec.graft (spec.operands_of more.items) spec.None_more)) }
+            ≡ spec.Binary_of (tree_of first) (spec.behinds (spec.operands_of more.items) spec.None_behind)) }
     {
         let first = Box::new(alloc, first)?;
         Ok(Expr::Binary(first, more))
+    }
+
+    /// Tests with the expressions of which one is chosen, and the last one.
+    pub fn conditional(alloc: Global, choices: Vec<Choice>, last: Expr) -> Result<Expr, AllocError>
+        ensures { IfOk result (λ e. tree_of e
+            ≡ spec.Conditional_of (spec.fronts (spec.choices_of choices.items) spec.None_before) (tree_of last)) }
+    {
+        let last = Box::new(alloc, last)?;
+        Ok(Expr::Conditional(choices, last))
+    }
+
+    /// Places to which a value is assigned, from the last to the first, and the value.
+    pub fn assign(alloc: Global, places: Vec<(Expr, u32)>, value: Expr) -> Result<Expr, AllocError>
+        ensures { IfOk result (λ e. tree_of e
+            ≡ spec.Assign_of (spec.fronts (spec.lefts_of places.items) spec.None_before) (tree_of value)) }
+    {
+        let value = Box::new(alloc, value)?;
+        Ok(Expr::Assign(places, value))
+    }
+
+    /// Whether its production is one of unary-expression (6.5.3), which alone may stand on the left of an assignment.
+    pub fn is_unary(&self) -> bool
+        ensures { result ≡ is_unary (tree_of self.now) }
+    {
+        match self {
+            Expr::Name(_) => true,
+            Expr::Constant(_) => true,
+            Expr::Text(_) => true,
+            Expr::Paren(_, _, _) => true,
+            Expr::Postfix(_, _) => true,
+            Expr::Unary(_, _) => true,
+            Expr::Binary(_, _) => false,
+            Expr::Conditional(_, _) => false,
+            Expr::Assign(_, _) => false,
+        }
     }
 }

@@ -2,5 +2,7 @@
 #![tactic(auto)]
 
 mod expr;
+mod parts;
 
 pub use expr::Expr;
+pub use parts::{Choice, Suffix};

@@ -14,8 +14,7 @@ returns-in-Ok-whole-clause-meaning c =
     c.as_slice-2.result.now
     (tree_of c.in-Ok-whole.expr)
     (ap too_deep (c.as_slice-2.ensures.value ∙ sym c.as_slice.ensures.value) ∙ sym c.in_default-too_deep.ensures)
-    c.in-Ok-whole.ensures.found
-    c.in-Ok-whole.ensures.only)
+    c.in-Ok-whole.ensures.found)
 
 pub returns-clause-cause : goal.returns-clause-cause
 returns-clause-cause c =
@@ -25,7 +24,6 @@ returns-clause-cause c =
     (is_cause
     c.as_slice-2.result.now
     c.in-Err.error
-    _
     (ap too_deep (c.as_slice-2.ensures.value ∙ sym c.as_slice.ensures.value) ∙ sym c.in_default-too_deep.ensures)
     c.in-Err.ensures.place
     c.in-Err.ensures.only)

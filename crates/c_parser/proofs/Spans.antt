@@ -1,0 +1,324 @@
+-- A tree holds from one place to another exactly where it is formed and spells the numbers between them.
+use Rattle.std.proofs.Common.{◌≡◌, refl, ap, sym, ◌∙◌, subst, ℕ, zero, suc, ◌+◌, ◌≤◌, List, [], ◌∷◌, ◌++◌, length, arith}
+use Rattle.tree_data.specs.Trees.{Tree, Name_of, Constant_of, Text_of, Paren_of, Postfix_of, Unary_of, Binary_of, Conditional_of, Assign_of, Behind, Operand_of, Index_of, Call_of, Call_with_of, Member_of, Step_of, Behinds, None_behind, Behind_then, Front, Operator_of, Choice_of, Left_of, Fronts, None_before, Front_then}
+use Rattle.c_parser.specs.declared.kinds.Kind.{Kind}
+use Rattle.c_parser.specs.declared.kinds.Kind.TheVariants.{Text}
+use Rattle.c_parser.specs.Grammar.{spell, spell_behind, spell_behinds, spell_front, spell_fronts, IsFormed, IsBehind, AreBehind, IsInFront, AreInFront, GoOn, IsExpression, numbers}
+use Rattle.c_parser.specs.Kinds.{kind_at, level_at, is_prefix}
+use Rattle.c_parser.specs.Levels.{behinds_level}
+use Rattle.c_parser.specs.Reading.{HoldTexts, Holds, HoldsBehind, HoldBehinds, HoldsFront, HoldFronts, Reads}
+
+-- the numbers are those from a up to b
+abbrev pub Spans : List ℕ → ℕ → ℕ → Type 0
+Spans [] a b = b ≡ a
+Spans (x ∷ xs) a b = (x ≡ a) × Spans xs (a + 1) b
+
+spans_join : (xs ys : List ℕ) → (a m b : ℕ) → Spans xs a m → Spans ys m b → Spans (xs ++ ys) a b
+spans_join [] ys a m b h g = subst (λ k. Spans ys k b) h g
+spans_join (x ∷ xs) ys a m b h g = (h.0, spans_join xs ys (a + 1) m b h.1 g)
+
+record Split (xs ys : List ℕ) (a b : ℕ) : Type 0 where
+  at : ℕ
+  front : Spans xs a at
+  back : Spans ys at b
+
+spans_split : (xs ys : List ℕ) → (a b : ℕ) → Spans (xs ++ ys) a b → Split xs ys a b
+spans_split [] ys a b h = record { at = a; front = refl; back = h }
+spans_split (x ∷ xs) ys a b h =
+    let r = spans_split xs ys (a + 1) b h.1 in
+    record { at = r.at; front = (h.0, r.front); back = r.back }
+
+spans_forth : (xs : List ℕ) → (a b : ℕ) → Spans xs a b → a ≤ b
+spans_forth [] a b h = omega (arith, h)
+spans_forth (x ∷ xs) a b h = omega (arith, spans_forth xs (a + 1) b h.1)
+
+numbers_span : (k a : ℕ) → Spans (numbers a k) a (a + k)
+numbers_span zero a = omega arith
+numbers_span (suc k) a =
+    let e : (a + 1) + k ≡ a + suc k = omega arith in
+    (refl, subst (λ b. Spans (numbers (a + 1) k) (a + 1) b) e (numbers_span k (a + 1)))
+
+span_numbers : (xs : List ℕ) → (a b k : ℕ) → Spans xs a b → b ≡ a + k → xs ≡ numbers a k
+span_numbers [] a b zero h e = refl
+span_numbers [] a b (suc k) h e =
+    let h' : b ≡ a = h in
+    absurd (omega arith)
+span_numbers (x ∷ xs) a b zero h e =
+    let more : a + 1 ≤ b = spans_forth xs (a + 1) b h.1 in
+    absurd (omega arith)
+span_numbers (x ∷ xs) a b (suc k) h e =
+    let e' : b ≡ (a + 1) + k = omega arith in
+    ap (λ y. y ∷ xs) h.0 ∙ ap (λ ys. a ∷ ys) (span_numbers xs (a + 1) b k h.1 e')
+
+-- what holds is formed
+texts_go : (ks : List Kind) → (n : ℕ) → (ns : List ℕ) → (b : ℕ) → HoldTexts ks ns (n + 1) b → GoOn ks n ns
+texts_go ks n [] b h = h.1
+texts_go ks n (m ∷ ms) b h =
+    (ap (λ x. kind_at ks x) h.0 ∙ h.1, texts_go ks m ms b (subst (λ x. HoldTexts ks ms (x + 1) b) (sym h.0) h.2))
+
+mutual
+  pub formed : (ks : List Kind) → (t : Tree) → (a b : ℕ) → Holds ks t a b → IsFormed ks t
+  formed ks (Name_of n) a b h = ap (λ x. kind_at ks x) h.0 ∙ h.1
+  formed ks (Constant_of n) a b h = ap (λ x. kind_at ks x) h.0 ∙ h.1
+  formed ks (Text_of []) a b h = h.1.1 h.0
+  formed ks (Text_of (n ∷ ns)) a b h = (
+    ap (λ x. kind_at ks x) h.1.0 ∙ h.0,
+    texts_go ks n ns b (subst (λ x. HoldTexts ks ns (x + 1) b) (sym h.1.0) h.1.2),
+  )
+  formed ks (Paren_of o t c) a b h = (ap (λ x. kind_at ks x) h.0 ∙ h.1, h.2, formed ks t (a + 1) c h.3, h.4)
+  formed ks (Postfix_of f bs) a b h = (h.1, h.2, formed ks f a h.0 h.3, formed_behinds ks 16 bs h.0 b h.4)
+  formed ks (Unary_of fs t) a b h = (h.1, formed_fronts ks 15 fs a h.0 h.2, h.3, formed ks t h.0 b h.4)
+  formed ks (Binary_of f bs) a b h =
+      (h.1, h.2, h.3, formed ks f a h.0 h.4, formed_behinds ks (behinds_level ks bs) bs h.0 b h.5)
+  formed ks (Conditional_of fs t) a b h = (h.1, formed_fronts ks 3 fs a h.0 h.2, h.3, formed ks t h.0 b h.4)
+  formed ks (Assign_of fs t) a b h = (h.1, formed_fronts ks 2 fs a h.0 h.2, h.3, formed ks t h.0 b h.4)
+
+  formed_behind : (ks : List Kind) → (l : ℕ) → (x : Behind) → (a b : ℕ) → HoldsBehind ks l x a b → IsBehind ks l x
+  formed_behind ks l (Operand_of o t) a b h =
+      (h.0, ap (λ x. level_at ks x) h.1 ∙ h.2, h.3, formed ks t (a + 1) b h.4)
+  formed_behind ks l (Index_of o t c) a b h =
+      (h.0, ap (λ x. kind_at ks x) h.1 ∙ h.2, h.3, formed ks t (a + 1) c h.4, h.5)
+  formed_behind ks l (Call_of o c) a b h = (h.0, ap (λ x. kind_at ks x) h.1 ∙ h.2, h.4)
+  formed_behind ks l (Call_with_of o t bs c) a b h = (
+    h.1,
+    ap (λ x. kind_at ks x) h.2 ∙ h.3,
+    h.4,
+    formed ks t (a + 1) h.0 h.5,
+    formed_behinds ks 1 bs h.0 c h.6,
+    h.7,
+  )
+  formed_behind ks l (Member_of o n) a b h = (h.0, ap (λ x. kind_at ks x) h.1 ∙ h.2, h.4)
+  formed_behind ks l (Step_of o) a b h = (h.0, ap (λ x. kind_at ks x) h.1 ∙ h.2)
+
+  formed_behinds : (ks : List Kind) → (l : ℕ) → (xs : Behinds) → (a b : ℕ) → HoldBehinds ks l xs a b → AreBehind ks l xs
+  formed_behinds ks l None_behind a b h = tt
+  formed_behinds ks l (Behind_then x xs) a b h = (formed_behind ks l x a h.0 h.1, formed_behinds ks l xs h.0 b h.2)
+
+  formed_front : (ks : List Kind) → (l : ℕ) → (x : Front) → (a b : ℕ) → HoldsFront ks l x a b → IsInFront ks l x
+  formed_front ks l (Operator_of o) a b h = (h.0, ap (λ x. is_prefix (kind_at ks x)) h.1 ∙ h.2)
+  formed_front ks l (Choice_of t q e c) a b h =
+      (h.0, h.1, formed ks t a q h.2, h.3, h.4, formed ks e (q + 1) c h.5, h.6)
+  formed_front ks l (Left_of t o) a b h = (h.0, h.1, formed ks t a o h.2, h.3)
+
+  formed_fronts : (ks : List Kind) → (l : ℕ) → (xs : Fronts) → (a b : ℕ) → HoldFronts ks l xs a b → AreInFront ks l xs
+  formed_fronts ks l None_before a b h = tt
+  formed_fronts ks l (Front_then x xs) a b h = (formed_front ks l x a h.0 h.1, formed_fronts ks l xs h.0 b h.2)
+
+-- what holds spells the numbers between
+texts_span : (ks : List Kind) → (ns : List ℕ) → (a b : ℕ) → HoldTexts ks ns a b → Spans ns a b
+texts_span ks [] a b h = h.0
+texts_span ks (n ∷ ns) a b h = (h.0, texts_span ks ns (a + 1) b h.2)
+
+mutual
+  pub spanned : (ks : List Kind) → (t : Tree) → (a b : ℕ) → Holds ks t a b → Spans (spell t) a b
+  spanned ks (Name_of n) a b h = (h.0, h.2)
+  spanned ks (Constant_of n) a b h = (h.0, h.2)
+  spanned ks (Text_of ns) a b h = texts_span ks ns a b h.1
+  spanned ks (Paren_of o t c) a b h = (h.0, spans_join (spell t) (c ∷ []) (a + 1) c b (spanned ks t (a + 1) c h.3) (refl, h.5))
+  spanned ks (Postfix_of f bs) a b h =
+      spans_join (spell f) (spell_behinds bs) a h.0 b (spanned ks f a h.0 h.3) (spanned_behinds ks 16 bs h.0 b h.4)
+  spanned ks (Unary_of fs t) a b h =
+      spans_join (spell_fronts fs) (spell t) a h.0 b (spanned_fronts ks 15 fs a h.0 h.2) (spanned ks t h.0 b h.4)
+  spanned ks (Binary_of f bs) a b h =
+      spans_join
+      (spell f)
+      (spell_behinds bs)
+      a
+      h.0
+      b
+      (spanned ks f a h.0 h.4)
+      (spanned_behinds ks (behinds_level ks bs) bs h.0 b h.5)
+  spanned ks (Conditional_of fs t) a b h =
+      spans_join (spell_fronts fs) (spell t) a h.0 b (spanned_fronts ks 3 fs a h.0 h.2) (spanned ks t h.0 b h.4)
+  spanned ks (Assign_of fs t) a b h =
+      spans_join (spell_fronts fs) (spell t) a h.0 b (spanned_fronts ks 2 fs a h.0 h.2) (spanned ks t h.0 b h.4)
+
+  spanned_behind : (ks : List Kind) → (l : ℕ) → (x : Behind) → (a b : ℕ) → HoldsBehind ks l x a b → Spans (spell_behind x) a b
+  spanned_behind ks l (Operand_of o t) a b h = (h.1, spanned ks t (a + 1) b h.4)
+  spanned_behind ks l (Index_of o t c) a b h =
+      (h.1, spans_join (spell t) (c ∷ []) (a + 1) c b (spanned ks t (a + 1) c h.4) (refl, h.6))
+  spanned_behind ks l (Call_of o c) a b h = (h.1, (h.3, h.5 ∙ ap (λ x. x + 1) h.3))
+  spanned_behind ks l (Call_with_of o t bs c) a b h = (
+    h.2,
+    spans_join
+        (spell t)
+        (spell_behinds bs ++ c ∷ [])
+        (a + 1)
+        h.0
+        b
+        (spanned ks t (a + 1) h.0 h.5)
+        (spans_join (spell_behinds bs) (c ∷ []) h.0 c b (spanned_behinds ks 1 bs h.0 c h.6) (refl, h.8)),
+  )
+  spanned_behind ks l (Member_of o n) a b h = (h.1, (h.3, h.5 ∙ ap (λ x. x + 1) h.3))
+  spanned_behind ks l (Step_of o) a b h = (h.1, h.3)
+
+  spanned_behinds : (ks : List Kind) → (l : ℕ) → (xs : Behinds) → (a b : ℕ) → HoldBehinds ks l xs a b → Spans (spell_behinds xs) a b
+  spanned_behinds ks l None_behind a b h = h
+  spanned_behinds ks l (Behind_then x xs) a b h =
+      spans_join
+      (spell_behind x)
+      (spell_behinds xs)
+      a
+      h.0
+      b
+      (spanned_behind ks l x a h.0 h.1)
+      (spanned_behinds ks l xs h.0 b h.2)
+
+  spanned_front : (ks : List Kind) → (l : ℕ) → (x : Front) → (a b : ℕ) → HoldsFront ks l x a b → Spans (spell_front x) a b
+  spanned_front ks l (Operator_of o) a b h = (h.1, h.3)
+  spanned_front ks l (Choice_of t q e c) a b h =
+      spans_join
+      (spell t)
+      (q ∷ (spell e ++ c ∷ []))
+      a
+      q
+      b
+      (spanned ks t a q h.2)
+      (refl, spans_join (spell e) (c ∷ []) (q + 1) c b (spanned ks e (q + 1) c h.5) (refl, h.7))
+  spanned_front ks l (Left_of t o) a b h =
+      spans_join (spell t) (o ∷ []) a o b (spanned ks t a o h.2) (refl, h.4)
+
+  spanned_fronts : (ks : List Kind) → (l : ℕ) → (xs : Fronts) → (a b : ℕ) → HoldFronts ks l xs a b → Spans (spell_fronts xs) a b
+  spanned_fronts ks l None_before a b h = h
+  spanned_fronts ks l (Front_then x xs) a b h =
+      spans_join
+      (spell_front x)
+      (spell_fronts xs)
+      a
+      h.0
+      b
+      (spanned_front ks l x a h.0 h.1)
+      (spanned_fronts ks l xs h.0 b h.2)
+
+-- what is formed holds where the numbers that it spells are
+texts_hold : (ks : List Kind) → (n : ℕ) → (ns : List ℕ) → (a b : ℕ) → n + 1 ≡ a → GoOn ks n ns → Spans ns a b → HoldTexts ks ns a b
+texts_hold ks n [] a b e g s = (s, subst (λ x. kind_at ks x ≡ Text → ⊥) e g)
+texts_hold ks n (m ∷ ms) a b e g s =
+    (s.0, ap (λ x. kind_at ks x) (sym s.0) ∙ g.0, texts_hold ks m ms (a + 1) b (ap (λ x. x + 1) s.0) g.1 s.1)
+
+mutual
+  pub held : (ks : List Kind) → (t : Tree) → (a b : ℕ) → IsFormed ks t → Spans (spell t) a b → Holds ks t a b
+  held ks (Name_of n) a b f s = (s.0, ap (λ x. kind_at ks x) (sym s.0) ∙ f, s.1)
+  held ks (Constant_of n) a b f s = (s.0, ap (λ x. kind_at ks x) (sym s.0) ∙ f, s.1)
+  held ks (Text_of []) a b f s = absurd f
+  held ks (Text_of (n ∷ ns)) a b f s =
+      let here : kind_at ks a ≡ Text = ap (λ x. kind_at ks x) (sym s.0) ∙ f.0 in
+      (here, (s.0, here, texts_hold ks n ns (a + 1) b (ap (λ x. x + 1) s.0) f.1 s.1))
+  held ks (Paren_of o t c) a b f s =
+      let r = spans_split (spell t) (c ∷ []) (a + 1) b s.1 in (
+        s.0,
+        ap (λ x. kind_at ks x) (sym s.0) ∙ f.0,
+        f.1,
+        subst (λ x. Holds ks t (a + 1) x) (sym r.back.0) (held ks t (a + 1) r.at f.2 r.front),
+        f.3,
+        r.back.1 ∙ ap (λ x. x + 1) (sym r.back.0),
+      )
+  held ks (Postfix_of t bs) a b f s =
+      let r = spans_split (spell t) (spell_behinds bs) a b s in
+      (r.at, f.0, f.1, held ks t a r.at f.2 r.front, held_behinds ks 16 bs r.at b f.3 r.back)
+  held ks (Unary_of fs t) a b f s =
+      let r = spans_split (spell_fronts fs) (spell t) a b s in
+      (r.at, f.0, held_fronts ks 15 fs a r.at f.1 r.front, f.2, held ks t r.at b f.3 r.back)
+  held ks (Binary_of t bs) a b f s =
+      let r = spans_split (spell t) (spell_behinds bs) a b s in
+      (r.at, f.0, f.1, f.2, held ks t a r.at f.3 r.front, held_behinds ks (behinds_level ks bs) bs r.at b f.4 r.back)
+  held ks (Conditional_of fs t) a b f s =
+      let r = spans_split (spell_fronts fs) (spell t) a b s in
+      (r.at, f.0, held_fronts ks 3 fs a r.at f.1 r.front, f.2, held ks t r.at b f.3 r.back)
+  held ks (Assign_of fs t) a b f s =
+      let r = spans_split (spell_fronts fs) (spell t) a b s in
+      (r.at, f.0, held_fronts ks 2 fs a r.at f.1 r.front, f.2, held ks t r.at b f.3 r.back)
+
+  held_behind : (ks : List Kind) → (l : ℕ) → (x : Behind) → (a b : ℕ) → IsBehind ks l x → Spans (spell_behind x) a b → HoldsBehind ks l x a b
+  held_behind ks l (Operand_of o t) a b f s =
+      (f.0, s.0, ap (λ x. level_at ks x) (sym s.0) ∙ f.1, f.2, held ks t (a + 1) b f.3 s.1)
+  held_behind ks l (Index_of o t c) a b f s =
+      let r = spans_split (spell t) (c ∷ []) (a + 1) b s.1 in (
+        f.0,
+        s.0,
+        ap (λ x. kind_at ks x) (sym s.0) ∙ f.1,
+        f.2,
+        subst (λ x. Holds ks t (a + 1) x) (sym r.back.0) (held ks t (a + 1) r.at f.3 r.front),
+        f.4,
+        r.back.1 ∙ ap (λ x. x + 1) (sym r.back.0),
+      )
+  held_behind ks l (Call_of o c) a b f s =
+      (f.0, s.0, ap (λ x. kind_at ks x) (sym s.0) ∙ f.1, s.1.0, f.2, s.1.1 ∙ ap (λ x. x + 1) (sym s.1.0))
+  held_behind ks l (Call_with_of o t bs c) a b f s =
+      let r = spans_split (spell t) (spell_behinds bs ++ c ∷ []) (a + 1) b s.1 in
+      let q = spans_split (spell_behinds bs) (c ∷ []) r.at b r.back in (
+        r.at,
+        f.0,
+        s.0,
+        ap (λ x. kind_at ks x) (sym s.0) ∙ f.1,
+        f.2,
+        held ks t (a + 1) r.at f.3 r.front,
+        subst (λ x. HoldBehinds ks 1 bs r.at x) (sym q.back.0) (held_behinds ks 1 bs r.at q.at f.4 q.front),
+        f.5,
+        q.back.1 ∙ ap (λ x. x + 1) (sym q.back.0),
+      )
+  held_behind ks l (Member_of o n) a b f s =
+      (f.0, s.0, ap (λ x. kind_at ks x) (sym s.0) ∙ f.1, s.1.0, f.2, s.1.1 ∙ ap (λ x. x + 1) (sym s.1.0))
+  held_behind ks l (Step_of o) a b f s = (f.0, s.0, ap (λ x. kind_at ks x) (sym s.0) ∙ f.1, s.1)
+
+  held_behinds : (ks : List Kind) → (l : ℕ) → (xs : Behinds) → (a b : ℕ) → AreBehind ks l xs → Spans (spell_behinds xs) a b → HoldBehinds ks l xs a b
+  held_behinds ks l None_behind a b f s = s
+  held_behinds ks l (Behind_then x xs) a b f s =
+      let r = spans_split (spell_behind x) (spell_behinds xs) a b s in
+      (r.at, held_behind ks l x a r.at f.0 r.front, held_behinds ks l xs r.at b f.1 r.back)
+
+  held_front : (ks : List Kind) → (l : ℕ) → (x : Front) → (a b : ℕ) → IsInFront ks l x → Spans (spell_front x) a b → HoldsFront ks l x a b
+  held_front ks l (Operator_of o) a b f s = (f.0, s.0, ap (λ x. is_prefix (kind_at ks x)) (sym s.0) ∙ f.1, s.1)
+  held_front ks l (Choice_of t q e c) a b f s =
+      let r = spans_split (spell t) (q ∷ (spell e ++ c ∷ [])) a b s in
+      let p = spans_split (spell e) (c ∷ []) (r.at + 1) b r.back.1 in (
+        f.0,
+        f.1,
+        subst (λ x. Holds ks t a x) (sym r.back.0) (held ks t a r.at f.2 r.front),
+        f.3,
+        f.4,
+        subst
+            (λ x. Holds ks e (x + 1) c)
+            (sym r.back.0)
+            (subst (λ x. Holds ks e (r.at + 1) x) (sym p.back.0) (held ks e (r.at + 1) p.at f.5 p.front)),
+        f.6,
+        p.back.1 ∙ ap (λ x. x + 1) (sym p.back.0),
+      )
+  held_front ks l (Left_of t o) a b f s =
+      let r = spans_split (spell t) (o ∷ []) a b s in (
+        f.0,
+        f.1,
+        subst (λ x. Holds ks t a x) (sym r.back.0) (held ks t a r.at f.2 r.front),
+        f.3,
+        r.back.1 ∙ ap (λ x. x + 1) (sym r.back.0),
+      )
+
+  held_fronts : (ks : List Kind) → (l : ℕ) → (xs : Fronts) → (a b : ℕ) → AreInFront ks l xs → Spans (spell_fronts xs) a b → HoldFronts ks l xs a b
+  held_fronts ks l None_before a b f s = s
+  held_fronts ks l (Front_then x xs) a b f s =
+      let r = spans_split (spell_front x) (spell_fronts xs) a b s in
+      (r.at, held_front ks l x a r.at f.0 r.front, held_fronts ks l xs r.at b f.1 r.back)
+
+pub expression_reads : (ks : List Kind) → (t : Tree) → IsExpression ks t → Reads ks 1 t 0 (length ks)
+expression_reads ks t e =
+    let all : 0 + length ks ≡ length ks = omega arith in (
+      e.proper.0,
+      held
+          ks
+          t
+          0
+          (length ks)
+          e.proper.1
+          (subst
+          (λ xs. Spans xs 0 (length ks))
+          (sym e.spells)
+          (subst (λ b. Spans (numbers 0 (length ks)) 0 b) all (numbers_span (length ks) 0))),
+    )
+
+pub reads_expression : (ks : List Kind) → (t : Tree) → Reads ks 1 t 0 (length ks) → IsExpression ks t
+reads_expression ks t h =
+    let all : length ks ≡ 0 + length ks = omega arith in
+    record {
+      proper = (h.0, formed ks t 0 (length ks) h.1);
+      spells = span_numbers (spell t) 0 (length ks) (length ks) (spanned ks t 0 (length ks) h.1) all;
+    }

@@ -1,0 +1,444 @@
+-- What a tree is at its level of precedence: first what has the level itself, then the tokens that tell the parts apart.
+use Rattle.std.proofs.Common.{◌≡◌, refl, ap, sym, ◌∙◌, subst, ℕ, ◌+◌, ◌<◌, ◌≤◌, List, arith, ◌⊎◌, inl, inr, true, false}
+use Rattle.tree_data.specs.Trees.{Tree, Name_of, Constant_of, Text_of, Paren_of, Postfix_of, Unary_of, Binary_of, Conditional_of, Assign_of, Behind, Operand_of, Index_of, Call_of, Call_with_of, Member_of, Step_of, Behinds, None_behind, Behind_then, Front, Operator_of, Choice_of, Left_of, Fronts, None_before, Front_then}
+use Rattle.c_parser.specs.declared.kinds.Kind.{Kind}
+use Rattle.c_parser.specs.declared.kinds.Kind.TheVariants.{Identifier, Constant, Text, OpenParen, CloseParen, OpenBracket, CloseBracket, Member, Step, Question, Colon, Assignment}
+use Rattle.c_parser.specs.Grammar.{IsMore, IsBefore}
+use Rattle.c_parser.specs.Joining.{followed, preceded}
+use Rattle.c_parser.specs.Kinds.{kind_at, level_at, is_prefix, is_word}
+use Rattle.c_parser.specs.Levels.{IsBinary, behinds_level, rank}
+use Rattle.c_parser.specs.Reading.{HoldTexts, Holds, HoldsBehind, HoldBehinds, HoldsFront, HoldFronts, Reads, Stops}
+use Rattle.c_parser.proofs.Marks.{clash, leveled}
+use native.Mathlib.Decide.{dec_lt}
+
+pub lowered : (ks : List Kind) → (n m : ℕ) → (t : Tree) → (a b : ℕ) → n ≤ m → Reads ks m t a b → Reads ks n t a b
+lowered ks n m t a b le h =
+    let r : m ≤ rank ks t = h.0 in
+    (omega arith, h.1)
+
+pub looser : (ks : List Kind) → (n m b : ℕ) → n ≤ m → Stops ks n b → Stops ks m b
+looser ks n m b le s =
+    let s' : level_at ks b < n = s in
+    omega arith
+
+-- a tree of a level has that level itself or the next one
+parted : (ks : List Kind) → (n : ℕ) → (t : Tree) → (a b : ℕ) → Reads ks n t a b → (rank ks t ≡ n) ⊎ Reads ks (n + 1) t a b
+parted ks n t a b h =
+    let le : n ≤ rank ks t = h.0 in
+    elim (dec_lt n (rank ks t)) [
+      | yes lt ↦ inr ((let lt' : n < rank ks t = lt in omega arith), h.1)
+      | no ge ↦
+          let ge' : n < rank ks t → ⊥ = ge in
+          inl (omega arith)
+    ]
+
+-- an expression of the next level, and what goes on behind it at this one
+pub record Following (ks : List Kind) (l : ℕ) (make : Tree → Behinds → Tree) (t : Tree) (a b : ℕ) : Type 0 where
+  pub first : Tree
+  pub behind : ℕ
+  pub more : Behinds
+  pub is : t ≡ followed make first more
+  pub reads : Reads ks (l + 1) first a behind
+  pub goes : HoldBehinds ks l more behind b
+
+-- what stands in front at this level, and an expression of the next one
+pub record Preceding (ks : List Kind) (l : ℕ) (make : Fronts → Tree → Tree) (t : Tree) (a b : ℕ) : Type 0 where
+  pub before : Fronts
+  pub behind : ℕ
+  pub last : Tree
+  pub is : t ≡ preceded make before last
+  pub goes : HoldFronts ks l before a behind
+  pub reads : Reads ks (l + 1) last behind b
+
+pub followed_more : (make : Tree → Behinds → Tree) → (f : Tree) → (xs : Behinds) → IsMore xs → followed make f xs ≡ make f xs
+followed_more make f None_behind h = absurd h
+followed_more make f (Behind_then x xs) h = refl
+
+pub preceded_more : (make : Fronts → Tree → Tree) → (xs : Fronts) → (t : Tree) → IsBefore xs → preceded make xs t ≡ make xs t
+preceded_more make None_before t h = absurd h
+preceded_more make (Front_then x xs) t h = refl
+
+alone : (ks : List Kind) → (l : ℕ) → (make : Tree → Behinds → Tree) → (t : Tree) → (a b : ℕ) → Reads ks (l + 1) t a b → Following ks l make t a b
+alone ks l make t a b h = record { first = t; behind = b; more = None_behind; is = refl; reads = h; goes = refl }
+
+bare : (ks : List Kind) → (l : ℕ) → (make : Fronts → Tree → Tree) → (t : Tree) → (a b : ℕ) → Reads ks (l + 1) t a b → Preceding ks l make t a b
+bare ks l make t a b h = record { before = None_before; behind = a; last = t; is = refl; goes = refl; reads = h }
+
+own_postfix : (ks : List Kind) → (t : Tree) → (a b : ℕ) → rank ks t ≡ 16 → Holds ks t a b → Following ks 16 Postfix_of t a b
+own_postfix ks (Name_of n) a b e h = absurd (omega (arith, e))
+own_postfix ks (Constant_of n) a b e h = absurd (omega (arith, e))
+own_postfix ks (Text_of ns) a b e h = absurd (omega (arith, e))
+own_postfix ks (Paren_of o u c) a b e h = absurd (omega (arith, e))
+own_postfix ks (Postfix_of f bs) a b e h =
+    record {
+      first = f;
+      behind = h.0;
+      more = bs;
+      is = sym (followed_more Postfix_of f bs h.1);
+      reads = (h.2, h.3);
+      goes = h.4;
+    }
+own_postfix ks (Unary_of fs u) a b e h = absurd (omega (arith, e))
+own_postfix ks (Binary_of f bs) a b e h =
+    let most : behinds_level ks bs ≤ 13 = h.2.1 in
+    let same : behinds_level ks bs ≡ 16 = e in
+    let not2 : behinds_level ks bs ≡ 2 → ⊥ = h.2.2 in
+    let not3 : behinds_level ks bs ≡ 3 → ⊥ = h.2.3 in
+    absurd (omega arith)
+own_postfix ks (Conditional_of fs u) a b e h = absurd (omega (arith, e))
+own_postfix ks (Assign_of fs u) a b e h = absurd (omega (arith, e))
+
+pub postfix_view : (ks : List Kind) → (t : Tree) → (a b : ℕ) → Reads ks 16 t a b → Following ks 16 Postfix_of t a b
+postfix_view ks t a b h =
+    elim (parted ks 16 t a b h) [
+      | inl e ↦ own_postfix ks t a b e h.1
+      | inr r ↦ alone ks 16 Postfix_of t a b r
+    ]
+
+too_high : {A : Type 0} → (l r : ℕ) → IsBinary l → 14 ≤ r → r ≡ l → A
+too_high l r i le e =
+    let most : l ≤ 13 = i.1 in
+    absurd (omega arith)
+
+own_binary : (ks : List Kind) → (l : ℕ) → (t : Tree) → (a b : ℕ) → IsBinary l → rank ks t ≡ l → Holds ks t a b → Following ks l Binary_of t a b
+own_binary ks l (Name_of n) a b i e h = too_high l 17 i (omega arith) e
+own_binary ks l (Constant_of n) a b i e h = too_high l 17 i (omega arith) e
+own_binary ks l (Text_of ns) a b i e h = too_high l 17 i (omega arith) e
+own_binary ks l (Paren_of o u c) a b i e h = too_high l 17 i (omega arith) e
+own_binary ks l (Postfix_of f bs) a b i e h = too_high l 16 i (omega arith) e
+own_binary ks l (Unary_of fs u) a b i e h = too_high l 15 i (omega arith) e
+own_binary ks l (Binary_of f bs) a b i e h =
+    record {
+      first = f;
+      behind = h.0;
+      more = bs;
+      is = sym (followed_more Binary_of f bs h.1);
+      reads = subst (λ k. Reads ks (k + 1) f a h.0) e (h.3, h.4);
+      goes = subst (λ k. HoldBehinds ks k bs h.0 b) e h.5;
+    }
+own_binary ks l (Conditional_of fs u) a b i e h = absurd (i.3 (sym e))
+own_binary ks l (Assign_of fs u) a b i e h = absurd (i.2 (sym e))
+
+pub binary_view : (ks : List Kind) → (l : ℕ) → IsBinary l → (t : Tree) → (a b : ℕ) → Reads ks l t a b → Following ks l Binary_of t a b
+binary_view ks l i t a b h =
+    elim (parted ks l t a b h) [
+      | inl e ↦ own_binary ks l t a b i e h.1
+      | inr r ↦ alone ks l Binary_of t a b r
+    ]
+
+own_unary : (ks : List Kind) → (t : Tree) → (a b : ℕ) → rank ks t ≡ 15 → Holds ks t a b → Preceding ks 15 Unary_of t a b
+own_unary ks (Name_of n) a b e h = absurd (omega (arith, e))
+own_unary ks (Constant_of n) a b e h = absurd (omega (arith, e))
+own_unary ks (Text_of ns) a b e h = absurd (omega (arith, e))
+own_unary ks (Paren_of o u c) a b e h = absurd (omega (arith, e))
+own_unary ks (Postfix_of f bs) a b e h = absurd (omega (arith, e))
+own_unary ks (Unary_of fs u) a b e h =
+    record {
+      before = fs;
+      behind = h.0;
+      last = u;
+      is = sym (preceded_more Unary_of fs u h.1);
+      goes = h.2;
+      reads = (h.3, h.4);
+    }
+own_unary ks (Binary_of f bs) a b e h =
+    let most : behinds_level ks bs ≤ 13 = h.2.1 in
+    let same : behinds_level ks bs ≡ 15 = e in
+    let not2 : behinds_level ks bs ≡ 2 → ⊥ = h.2.2 in
+    let not3 : behinds_level ks bs ≡ 3 → ⊥ = h.2.3 in
+    absurd (omega arith)
+own_unary ks (Conditional_of fs u) a b e h = absurd (omega (arith, e))
+own_unary ks (Assign_of fs u) a b e h = absurd (omega (arith, e))
+
+pub unary_view : (ks : List Kind) → (t : Tree) → (a b : ℕ) → Reads ks 15 t a b → Preceding ks 15 Unary_of t a b
+unary_view ks t a b h =
+    elim (parted ks 15 t a b h) [
+      | inl e ↦ own_unary ks t a b e h.1
+      | inr r ↦ bare ks 15 Unary_of t a b r
+    ]
+
+own_conditional : (ks : List Kind) → (t : Tree) → (a b : ℕ) → rank ks t ≡ 3 → Holds ks t a b → Preceding ks 3 Conditional_of t a b
+own_conditional ks (Name_of n) a b e h = absurd (omega (arith, e))
+own_conditional ks (Constant_of n) a b e h = absurd (omega (arith, e))
+own_conditional ks (Text_of ns) a b e h = absurd (omega (arith, e))
+own_conditional ks (Paren_of o u c) a b e h = absurd (omega (arith, e))
+own_conditional ks (Postfix_of f bs) a b e h = absurd (omega (arith, e))
+own_conditional ks (Unary_of fs u) a b e h = absurd (omega (arith, e))
+own_conditional ks (Binary_of f bs) a b e h =
+    let most : behinds_level ks bs ≤ 13 = h.2.1 in
+    let same : behinds_level ks bs ≡ 3 = e in
+    let not2 : behinds_level ks bs ≡ 2 → ⊥ = h.2.2 in
+    let not3 : behinds_level ks bs ≡ 3 → ⊥ = h.2.3 in
+    absurd (omega arith)
+own_conditional ks (Conditional_of fs u) a b e h =
+    record {
+      before = fs;
+      behind = h.0;
+      last = u;
+      is = sym (preceded_more Conditional_of fs u h.1);
+      goes = h.2;
+      reads = (h.3, h.4);
+    }
+own_conditional ks (Assign_of fs u) a b e h = absurd (omega (arith, e))
+
+pub conditional_view : (ks : List Kind) → (t : Tree) → (a b : ℕ) → Reads ks 3 t a b → Preceding ks 3 Conditional_of t a b
+conditional_view ks t a b h =
+    elim (parted ks 3 t a b h) [
+      | inl e ↦ own_conditional ks t a b e h.1
+      | inr r ↦ bare ks 3 Conditional_of t a b r
+    ]
+
+own_assign : (ks : List Kind) → (t : Tree) → (a b : ℕ) → rank ks t ≡ 2 → Holds ks t a b → Preceding ks 2 Assign_of t a b
+own_assign ks (Name_of n) a b e h = absurd (omega (arith, e))
+own_assign ks (Constant_of n) a b e h = absurd (omega (arith, e))
+own_assign ks (Text_of ns) a b e h = absurd (omega (arith, e))
+own_assign ks (Paren_of o u c) a b e h = absurd (omega (arith, e))
+own_assign ks (Postfix_of f bs) a b e h = absurd (omega (arith, e))
+own_assign ks (Unary_of fs u) a b e h = absurd (omega (arith, e))
+own_assign ks (Binary_of f bs) a b e h =
+    let most : behinds_level ks bs ≤ 13 = h.2.1 in
+    let same : behinds_level ks bs ≡ 2 = e in
+    let not2 : behinds_level ks bs ≡ 2 → ⊥ = h.2.2 in
+    let not3 : behinds_level ks bs ≡ 3 → ⊥ = h.2.3 in
+    absurd (omega arith)
+own_assign ks (Conditional_of fs u) a b e h = absurd (omega (arith, e))
+own_assign ks (Assign_of fs u) a b e h =
+    record {
+      before = fs;
+      behind = h.0;
+      last = u;
+      is = sym (preceded_more Assign_of fs u h.1);
+      goes = h.2;
+      reads = (h.3, h.4);
+    }
+
+pub assign_view : (ks : List Kind) → (t : Tree) → (a b : ℕ) → Reads ks 2 t a b → Preceding ks 2 Assign_of t a b
+assign_view ks t a b h =
+    elim (parted ks 2 t a b h) [
+      | inl e ↦ own_assign ks t a b e h.1
+      | inr r ↦ bare ks 2 Assign_of t a b r
+    ]
+
+-- the grammar has no cast
+own_cast : {A : Type 0} → (ks : List Kind) → (t : Tree) → (a b : ℕ) → rank ks t ≡ 14 → Holds ks t a b → A
+own_cast ks (Name_of n) a b e h = absurd (omega (arith, e))
+own_cast ks (Constant_of n) a b e h = absurd (omega (arith, e))
+own_cast ks (Text_of ns) a b e h = absurd (omega (arith, e))
+own_cast ks (Paren_of o u c) a b e h = absurd (omega (arith, e))
+own_cast ks (Postfix_of f bs) a b e h = absurd (omega (arith, e))
+own_cast ks (Unary_of fs u) a b e h = absurd (omega (arith, e))
+own_cast ks (Binary_of f bs) a b e h =
+    let most : behinds_level ks bs ≤ 13 = h.2.1 in
+    let same : behinds_level ks bs ≡ 14 = e in
+    let not2 : behinds_level ks bs ≡ 2 → ⊥ = h.2.2 in
+    let not3 : behinds_level ks bs ≡ 3 → ⊥ = h.2.3 in
+    absurd (omega arith)
+own_cast ks (Conditional_of fs u) a b e h = absurd (omega (arith, e))
+own_cast ks (Assign_of fs u) a b e h = absurd (omega (arith, e))
+
+pub cast_view : (ks : List Kind) → (t : Tree) → (a b : ℕ) → Reads ks 14 t a b → Reads ks 15 t a b
+cast_view ks t a b h =
+    elim (parted ks 14 t a b h) [
+      | inl e ↦ own_cast ks t a b e h.1
+      | inr r ↦ r
+    ]
+
+pub prefixed_view : (ks : List Kind) → (t : Tree) → (a b : ℕ) → Reads ks 14 t a b → Preceding ks 15 Unary_of t a b
+prefixed_view ks t a b h = unary_view ks t a b (cast_view ks t a b h)
+
+-- a primary expression, by its first token
+pub data Primary (ks : List Kind) (t : Tree) (a b : ℕ) : Type 0 where
+  a_name : t ≡ Name_of a → kind_at ks a ≡ Identifier → b ≡ a + 1 → Primary ks t a b
+  a_constant : t ≡ Constant_of a → kind_at ks a ≡ Constant → b ≡ a + 1 → Primary ks t a b
+  a_text : (ns : List ℕ) → t ≡ Text_of ns → kind_at ks a ≡ Text → HoldTexts ks ns a b → Primary ks t a b
+  a_paren : (u : Tree) → (c : ℕ) → t ≡ Paren_of a u c → kind_at ks a ≡ OpenParen
+      → Reads ks 1 u (a + 1) c → kind_at ks c ≡ CloseParen → b ≡ c + 1 → Primary ks t a b
+
+pub primary_view : (ks : List Kind) → (t : Tree) → (a b : ℕ) → Reads ks 17 t a b → Primary ks t a b
+primary_view ks (Name_of n) a b h = a_name (ap Name_of h.1.0) h.1.1 h.1.2
+primary_view ks (Constant_of n) a b h = a_constant (ap Constant_of h.1.0) h.1.1 h.1.2
+primary_view ks (Text_of ns) a b h = a_text ns refl h.1.0 h.1.1
+primary_view ks (Paren_of o u c) a b h =
+    a_paren u c (ap (λ x. Paren_of x u c) h.1.0) h.1.1 (h.1.2, h.1.3) h.1.4 h.1.5
+primary_view ks (Postfix_of f bs) a b h = absurd (omega (arith, h.0))
+primary_view ks (Unary_of fs u) a b h = absurd (omega (arith, h.0))
+primary_view ks (Binary_of f bs) a b h =
+    let le : 17 ≤ behinds_level ks bs = h.0 in
+    let most : behinds_level ks bs ≤ 13 = h.1.2.1 in
+    absurd (omega arith)
+primary_view ks (Conditional_of fs u) a b h = absurd (omega (arith, h.0))
+primary_view ks (Assign_of fs u) a b h = absurd (omega (arith, h.0))
+
+first_primary : (ks : List Kind) → (t : Tree) → (a b : ℕ) → Primary ks t a b → is_prefix (kind_at ks a) ≡ false
+first_primary ks t a b (a_name e k f) = ap is_prefix k
+first_primary ks t a b (a_constant e k f) = ap is_prefix k
+first_primary ks t a b (a_text ns e k f) = ap is_prefix k
+first_primary ks t a b (a_paren u c e k r l f) = ap is_prefix k
+
+-- a postfix expression begins with no unary operator
+pub first_postfix : (ks : List Kind) → (t : Tree) → (a b : ℕ) → Reads ks 16 t a b → is_prefix (kind_at ks a) ≡ false
+first_postfix ks t a b h =
+    let v = postfix_view ks t a b h in
+    first_primary ks v.first a v.behind (primary_view ks v.first a v.behind v.reads)
+
+not_binary : {A : Type 0} → IsBinary 16 → A
+not_binary i = absurd (omega (arith, i.1))
+
+-- a postfix operator, by its first token
+pub record Indexing (ks : List Kind) (x : Behind) (a b : ℕ) : Type 0 where
+  pub inner : Tree
+  pub closing : ℕ
+  pub is : x ≡ Index_of a inner closing
+  pub reads : Reads ks 1 inner (a + 1) closing
+  pub closes : kind_at ks closing ≡ CloseBracket
+  pub ends : b ≡ closing + 1
+
+pub index_view : (ks : List Kind) → (x : Behind) → (a b : ℕ) → kind_at ks a ≡ OpenBracket → HoldsBehind ks 16 x a b → Indexing ks x a b
+index_view ks (Operand_of o t) a b k h = not_binary h.0
+index_view ks (Index_of o t c) a b k h =
+    record {
+      inner = t;
+      closing = c;
+      is = ap (λ y. Index_of y t c) h.1;
+      reads = (h.3, h.4);
+      closes = h.5;
+      ends = h.6;
+    }
+index_view ks (Call_of o c) a b k h = clash (kind_at ks a) OpenBracket OpenParen k h.2 (λ e. omega (arith, e))
+index_view ks (Call_with_of o t bs c) a b k h = clash (kind_at ks a) OpenBracket OpenParen k h.3 (λ e. omega (arith, e))
+index_view ks (Member_of o n) a b k h = clash (kind_at ks a) OpenBracket Member k h.2 (λ e. omega (arith, e))
+index_view ks (Step_of o) a b k h = clash (kind_at ks a) OpenBracket Step k h.2 (λ e. omega (arith, e))
+
+pub data Calling (ks : List Kind) (x : Behind) (a b : ℕ) : Type 0 where
+  no_arguments : x ≡ Call_of a (a + 1) → kind_at ks (a + 1) ≡ CloseParen → b ≡ a + 2 → Calling ks x a b
+  arguments : (t : Tree) → (m : ℕ) → (bs : Behinds) → (c : ℕ) → x ≡ Call_with_of a t bs c
+      → Reads ks 2 t (a + 1) m → HoldBehinds ks 1 bs m c → kind_at ks c ≡ CloseParen → b ≡ c + 1 → Calling ks x a b
+
+pub call_view : (ks : List Kind) → (x : Behind) → (a b : ℕ) → kind_at ks a ≡ OpenParen → HoldsBehind ks 16 x a b → Calling ks x a b
+call_view ks (Operand_of o t) a b k h = not_binary h.0
+call_view ks (Index_of o t c) a b k h = clash (kind_at ks a) OpenParen OpenBracket k h.2 (λ e. omega (arith, e))
+call_view ks (Call_of o c) a b k h =
+    let c' : c ≡ a + 1 = h.3 in
+    let b' : b ≡ c + 1 = h.5 in
+    no_arguments
+    (ap (λ y. Call_of y c) h.1 ∙ ap (λ y. Call_of a y) h.3)
+    (ap (λ y. kind_at ks y) (sym h.3) ∙ h.4)
+    (omega arith)
+call_view ks (Call_with_of o t bs c) a b k h = arguments t h.0 bs c (ap (λ y. Call_with_of y t bs c) h.2) (h.4, h.5) h.6 h.7 h.8
+call_view ks (Member_of o n) a b k h = clash (kind_at ks a) OpenParen Member k h.2 (λ e. omega (arith, e))
+call_view ks (Step_of o) a b k h = clash (kind_at ks a) OpenParen Step k h.2 (λ e. omega (arith, e))
+
+pub record Naming (ks : List Kind) (x : Behind) (a b : ℕ) : Type 0 where
+  pub is : x ≡ Member_of a (a + 1)
+  pub word : is_word (kind_at ks (a + 1)) ≡ true
+  pub ends : b ≡ a + 2
+
+pub member_view : (ks : List Kind) → (x : Behind) → (a b : ℕ) → kind_at ks a ≡ Member → HoldsBehind ks 16 x a b → Naming ks x a b
+member_view ks (Operand_of o t) a b k h = not_binary h.0
+member_view ks (Index_of o t c) a b k h = clash (kind_at ks a) Member OpenBracket k h.2 (λ e. omega (arith, e))
+member_view ks (Call_of o c) a b k h = clash (kind_at ks a) Member OpenParen k h.2 (λ e. omega (arith, e))
+member_view ks (Call_with_of o t bs c) a b k h = clash (kind_at ks a) Member OpenParen k h.3 (λ e. omega (arith, e))
+member_view ks (Member_of o n) a b k h =
+    let n' : n ≡ a + 1 = h.3 in
+    let b' : b ≡ n + 1 = h.5 in
+    record {
+      is = ap (λ y. Member_of y n) h.1 ∙ ap (λ y. Member_of a y) h.3;
+      word = ap (λ y. is_word (kind_at ks y)) (sym h.3) ∙ h.4;
+      ends = omega arith;
+    }
+member_view ks (Step_of o) a b k h = clash (kind_at ks a) Member Step k h.2 (λ e. omega (arith, e))
+
+pub step_view : (ks : List Kind) → (x : Behind) → (a b : ℕ) → kind_at ks a ≡ Step → HoldsBehind ks 16 x a b → (x ≡ Step_of a) × (b ≡ a + 1)
+step_view ks (Operand_of o t) a b k h = not_binary h.0
+step_view ks (Index_of o t c) a b k h = clash (kind_at ks a) Step OpenBracket k h.2 (λ e. omega (arith, e))
+step_view ks (Call_of o c) a b k h = clash (kind_at ks a) Step OpenParen k h.2 (λ e. omega (arith, e))
+step_view ks (Call_with_of o t bs c) a b k h = clash (kind_at ks a) Step OpenParen k h.3 (λ e. omega (arith, e))
+step_view ks (Member_of o n) a b k h = clash (kind_at ks a) Step Member k h.2 (λ e. omega (arith, e))
+step_view ks (Step_of o) a b k h = (ap Step_of h.1, h.3)
+
+-- a binary operator with its operand
+pub record Operating (ks : List Kind) (l : ℕ) (x : Behind) (a b : ℕ) : Type 0 where
+  pub operand : Tree
+  pub is : x ≡ Operand_of a operand
+  pub reads : Reads ks (l + 1) operand (a + 1) b
+
+no_suffix : {A : Type 0} → (l : ℕ) → IsBinary l → l ≡ 16 → A
+no_suffix l i e =
+    let most : l ≤ 13 = i.1 in
+    absurd (omega arith)
+
+pub operand_view : (ks : List Kind) → (l : ℕ) → (x : Behind) → (a b : ℕ) → IsBinary l → HoldsBehind ks l x a b → Operating ks l x a b
+operand_view ks l (Operand_of o t) a b i h = record { operand = t; is = ap (λ y. Operand_of y t) h.1; reads = (h.3, h.4) }
+operand_view ks l (Index_of o t c) a b i h = no_suffix l i h.0
+operand_view ks l (Call_of o c) a b i h = no_suffix l i h.0
+operand_view ks l (Call_with_of o t bs c) a b i h = no_suffix l i h.1
+operand_view ks l (Member_of o n) a b i h = no_suffix l i h.0
+operand_view ks l (Step_of o) a b i h = no_suffix l i h.0
+
+-- what goes on at a level has a token of the level first
+pub begins : (ks : List Kind) → (l : ℕ) → (x : Behind) → (a b : ℕ) → HoldsBehind ks l x a b → level_at ks a ≡ l
+begins ks l (Operand_of o t) a b h = h.2
+begins ks l (Index_of o t c) a b h = leveled (kind_at ks a) OpenBracket h.2 ∙ sym h.0
+begins ks l (Call_of o c) a b h = leveled (kind_at ks a) OpenParen h.2 ∙ sym h.0
+begins ks l (Call_with_of o t bs c) a b h = leveled (kind_at ks a) OpenParen h.3 ∙ sym h.1
+begins ks l (Member_of o n) a b h = leveled (kind_at ks a) Member h.2 ∙ sym h.0
+begins ks l (Step_of o) a b h = leveled (kind_at ks a) Step h.2 ∙ sym h.0
+
+-- where something goes on at a level, nothing goes on at a higher one
+pub loosely : (ks : List Kind) → (l : ℕ) → (xs : Behinds) → (m b : ℕ) → HoldBehinds ks l xs m b → Stops ks l b → Stops ks (l + 1) m
+loosely ks l None_behind m b h s =
+    let here : level_at ks m < l = subst (λ x. level_at ks x < l) h s in
+    omega arith
+loosely ks l (Behind_then x xs) m b h s =
+    let here : level_at ks m ≡ l = begins ks l x m h.0 h.1 in
+    omega arith
+
+-- what stands in front, by its level
+pub record Choosing (ks : List Kind) (x : Front) (a b : ℕ) : Type 0 where
+  pub test : Tree
+  pub question : ℕ
+  pub middle : Tree
+  pub colon : ℕ
+  pub is : x ≡ Choice_of test question middle colon
+  pub tests : Reads ks 4 test a question
+  pub asks : kind_at ks question ≡ Question
+  pub reads : Reads ks 1 middle (question + 1) colon
+  pub parts : kind_at ks colon ≡ Colon
+  pub ends : b ≡ colon + 1
+
+pub record Placing (ks : List Kind) (x : Front) (a b : ℕ) : Type 0 where
+  pub place : Tree
+  pub operator : ℕ
+  pub is : x ≡ Left_of place operator
+  pub reads : Reads ks 15 place a operator
+  pub assigns : kind_at ks operator ≡ Assignment
+  pub ends : b ≡ operator + 1
+
+pub operator_view : (ks : List Kind) → (x : Front) → (a b : ℕ) → HoldsFront ks 15 x a b
+    → (x ≡ Operator_of a) × (is_prefix (kind_at ks a) ≡ true) × (b ≡ a + 1)
+operator_view ks (Operator_of o) a b h = (ap Operator_of h.1, h.2, h.3)
+operator_view ks (Choice_of t q e c) a b h = absurd (omega (arith, h.0))
+operator_view ks (Left_of t o) a b h = absurd (omega (arith, h.0))
+
+pub choice_view : (ks : List Kind) → (x : Front) → (a b : ℕ) → HoldsFront ks 3 x a b → Choosing ks x a b
+choice_view ks (Operator_of o) a b h = absurd (omega (arith, h.0))
+choice_view ks (Choice_of t q e c) a b h =
+    record {
+      test = t;
+      question = q;
+      middle = e;
+      colon = c;
+      is = refl;
+      tests = (h.1, h.2);
+      asks = h.3;
+      reads = (h.4, h.5);
+      parts = h.6;
+      ends = h.7;
+    }
+choice_view ks (Left_of t o) a b h = absurd (omega (arith, h.0))
+
+pub left_view : (ks : List Kind) → (x : Front) → (a b : ℕ) → HoldsFront ks 2 x a b → Placing ks x a b
+left_view ks (Operator_of o) a b h = absurd (omega (arith, h.0))
+left_view ks (Choice_of t q e c) a b h = absurd (omega (arith, h.0))
+left_view ks (Left_of t o) a b h =
+    record { place = t; operator = o; is = refl; reads = (h.1, h.2); assigns = h.3; ends = h.4 }

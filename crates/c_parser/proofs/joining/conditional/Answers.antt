@@ -1,0 +1,14 @@
+use Rattle.std.proofs.Common.{ap, sym, ◌∙◌, length, ◌==◌}
+use Rattle.tree_data.specs.Trees.{Conditional_of}
+use Rattle.c_parser.proofs.Joins.{some_choices}
+use Rattle.c_parser.proofs.joining.conditional.Goals as goal
+
+pub returns-in-Ok-clause-tree : goal.returns-in-Ok-clause-tree
+returns-in-Ok-clause-tree c =
+    c.in-Ok.ensures
+    ∙ sym
+    (some_choices
+    Conditional_of
+    _
+    c.args.choices.items
+    (ap (λ xs. length xs == 0) (sym c.as_slice.ensures.value) ∙ sym c.if-is_empty.ensures))

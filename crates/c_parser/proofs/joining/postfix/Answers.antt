@@ -1,0 +1,14 @@
+use Rattle.std.proofs.Common.{ap, sym, ◌∙◌, length, ◌==◌}
+use Rattle.tree_data.specs.Trees.{Postfix_of}
+use Rattle.c_parser.proofs.Joins.{some_suffixes}
+use Rattle.c_parser.proofs.joining.postfix.Goals as goal
+
+pub returns-in-Ok-clause-tree : goal.returns-in-Ok-clause-tree
+returns-in-Ok-clause-tree c =
+    c.in-Ok.ensures
+    ∙ sym
+    (some_suffixes
+    Postfix_of
+    _
+    c.args.suffixes.items
+    (ap (λ xs. length xs == 0) (sym c.as_slice.ensures.value) ∙ sym c.if-is_empty.ensures))

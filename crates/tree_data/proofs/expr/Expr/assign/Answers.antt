@@ -1,0 +1,13 @@
+use Rattle.std.proofs.Common.{ap, sym, ◌∙◌}
+use Rattle.tree_data.specs.declared.expr.Expr.TheOpen as layer
+use Rattle.tree_data.specs.declared.expr.Expr.TheFolds.{fold-roll-Expr}
+use Rattle.tree_data.specs.declared.expr.Expr.TheVariants.{rolls-Assign}
+use Rattle.tree_data.specs.Trees.{Assign_of, Behind, Front, None_before, Tree, behind_of, behind_step, front_of, front_step, fronts, lefts_of, tree_of, tree_step}
+use Rattle.tree_data.proofs.expr.Expr.assign.Goals as goal
+
+pub returns : goal.returns
+unfolding tree_of behind_of front_of tree_step behind_step front_step
+returns c =
+    ap tree_of (sym (rolls-Assign c.args.places c.in_ok-value.value))
+    ∙ fold-roll-Expr Tree Behind Front tree_step behind_step front_step (layer.Assign c.args.places c.in_ok-value.value)
+    ∙ ap (λ x. Assign_of (fronts (lefts_of c.args.places.items) None_before) (tree_of x)) c.in_ok-value.ensures.ok

@@ -1,0 +1,13 @@
+use Rattle.std.proofs.Common.{ap, sym, ◌∙◌}
+use Rattle.tree_data.specs.declared.expr.Expr.TheOpen as layer
+use Rattle.tree_data.specs.declared.expr.Expr.TheFolds.{fold-roll-Expr}
+use Rattle.tree_data.specs.declared.expr.Expr.TheVariants.{rolls-Conditional}
+use Rattle.tree_data.specs.Trees.{Behind, Conditional_of, Front, None_before, Tree, behind_of, behind_step, choices_of, front_of, front_step, fronts, tree_of, tree_step}
+use Rattle.tree_data.proofs.expr.Expr.conditional.Goals as goal
+
+pub returns : goal.returns
+unfolding tree_of behind_of front_of tree_step behind_step front_step
+returns c =
+    ap tree_of (sym (rolls-Conditional c.args.choices c.in_ok-last.last))
+    ∙ fold-roll-Expr Tree Behind Front tree_step behind_step front_step (layer.Conditional c.args.choices c.in_ok-last.last)
+    ∙ ap (λ x. Conditional_of (fronts (choices_of c.args.choices.items) None_before) (tree_of x)) c.in_ok-last.ensures.ok

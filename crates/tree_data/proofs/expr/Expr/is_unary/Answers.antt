@@ -1,0 +1,87 @@
+use Rattle.std.proofs.Common.{ap, sym, ◌∙◌}
+use Rattle.tree_data.specs.declared.expr.Expr.TheOpen as layer
+use Rattle.tree_data.specs.declared.expr.Expr.TheFolds.{fold-roll-Expr}
+use Rattle.tree_data.specs.declared.expr.Expr.TheVariants.{rolls-Name, rolls-Constant, rolls-Text, rolls-Paren, rolls-Postfix, rolls-Unary, rolls-Binary, rolls-Conditional, rolls-Assign}
+use Rattle.tree_data.specs.Trees.{Tree, Behind, Front, tree_step, behind_step, front_step, tree_of, behind_of, front_of, is_unary}
+use Rattle.tree_data.proofs.expr.Expr.is_unary.Goals as goal
+
+pub returns-in-Name : goal.returns-in-Name
+unfolding tree_of behind_of front_of tree_step behind_step front_step
+returns-in-Name c =
+    sym
+    (ap (λ e. is_unary (tree_of e)) (c.in-Name.is ∙ sym (rolls-Name c.in-Name.field-0))
+    ∙ ap
+    is_unary
+    (fold-roll-Expr Tree Behind Front tree_step behind_step front_step (layer.Name c.in-Name.field-0)))
+
+pub returns-in-Constant : goal.returns-in-Constant
+unfolding tree_of behind_of front_of tree_step behind_step front_step
+returns-in-Constant c =
+    sym
+    (ap (λ e. is_unary (tree_of e)) (c.in-Constant.is ∙ sym (rolls-Constant c.in-Constant.field-0))
+    ∙ ap
+    is_unary
+    (fold-roll-Expr Tree Behind Front tree_step behind_step front_step (layer.Constant c.in-Constant.field-0)))
+
+pub returns-in-Text : goal.returns-in-Text
+unfolding tree_of behind_of front_of tree_step behind_step front_step
+returns-in-Text c =
+    sym
+    (ap (λ e. is_unary (tree_of e)) (c.in-Text.is ∙ sym (rolls-Text c.in-Text.field-0))
+    ∙ ap
+    is_unary
+    (fold-roll-Expr Tree Behind Front tree_step behind_step front_step (layer.Text c.in-Text.field-0)))
+
+pub returns-in-Paren : goal.returns-in-Paren
+unfolding tree_of behind_of front_of tree_step behind_step front_step
+returns-in-Paren c =
+    sym
+    (ap (λ e. is_unary (tree_of e)) (c.in-Paren.is ∙ sym (rolls-Paren c.in-Paren.field-0 c.in-Paren.field-1 c.in-Paren.field-2))
+    ∙ ap
+    is_unary
+    (fold-roll-Expr Tree Behind Front tree_step behind_step front_step (layer.Paren c.in-Paren.field-0 c.in-Paren.field-1 c.in-Paren.field-2)))
+
+pub returns-in-Postfix : goal.returns-in-Postfix
+unfolding tree_of behind_of front_of tree_step behind_step front_step
+returns-in-Postfix c =
+    sym
+    (ap (λ e. is_unary (tree_of e)) (c.in-Postfix.is ∙ sym (rolls-Postfix c.in-Postfix.field-0 c.in-Postfix.field-1))
+    ∙ ap
+    is_unary
+    (fold-roll-Expr Tree Behind Front tree_step behind_step front_step (layer.Postfix c.in-Postfix.field-0 c.in-Postfix.field-1)))
+
+pub returns-in-Unary : goal.returns-in-Unary
+unfolding tree_of behind_of front_of tree_step behind_step front_step
+returns-in-Unary c =
+    sym
+    (ap (λ e. is_unary (tree_of e)) (c.in-Unary.is ∙ sym (rolls-Unary c.in-Unary.field-0 c.in-Unary.field-1))
+    ∙ ap
+    is_unary
+    (fold-roll-Expr Tree Behind Front tree_step behind_step front_step (layer.Unary c.in-Unary.field-0 c.in-Unary.field-1)))
+
+pub returns-in-Binary : goal.returns-in-Binary
+unfolding tree_of behind_of front_of tree_step behind_step front_step
+returns-in-Binary c =
+    sym
+    (ap (λ e. is_unary (tree_of e)) (c.in-Binary.is ∙ sym (rolls-Binary c.in-Binary.field-0 c.in-Binary.field-1))
+    ∙ ap
+    is_unary
+    (fold-roll-Expr Tree Behind Front tree_step behind_step front_step (layer.Binary c.in-Binary.field-0 c.in-Binary.field-1)))
+
+pub returns-in-Conditional : goal.returns-in-Conditional
+unfolding tree_of behind_of front_of tree_step behind_step front_step
+returns-in-Conditional c =
+    sym
+    (ap (λ e. is_unary (tree_of e)) (c.in-Conditional.is ∙ sym (rolls-Conditional c.in-Conditional.field-0 c.in-Conditional.field-1))
+    ∙ ap
+    is_unary
+    (fold-roll-Expr Tree Behind Front tree_step behind_step front_step (layer.Conditional c.in-Conditional.field-0 c.in-Conditional.field-1)))
+
+pub returns-in-Assign : goal.returns-in-Assign
+unfolding tree_of behind_of front_of tree_step behind_step front_step
+returns-in-Assign c =
+    sym
+    (ap (λ e. is_unary (tree_of e)) (c.in-Assign.is ∙ sym (rolls-Assign c.in-Assign.field-0 c.in-Assign.field-1))
+    ∙ ap
+    is_unary
+    (fold-roll-Expr Tree Behind Front tree_step behind_step front_step (layer.Assign c.in-Assign.field-0 c.in-Assign.field-1)))
