@@ -50,6 +50,11 @@ module _ {K V : Type 0} where
         lookup_same eq q.same same k s.numbers ∙ subst (λ x. node_of q (held s n rs) x ≡ Some i) (sym key) (sound.numbered i r e);
   }
 
+  -- the store's number of a key is the graph's
+  pub number_is : (q : Queries K V) (eq : K → K → Bool) (same : (a b : K) → eq a b ≡ q.same a b) (s : Stored K V) (n : ℕ) (rs : List K) (k : K) (o : Option ℕ)
+      → node_of q (held s n rs) k ≡ o → lookup (eq k) s.numbers ≡ o
+  number_is q eq same s n rs k o e = lookup_same eq q.same same k s.numbers ∙ e
+
   pub puts_changes : (q : Queries K V) (laws : AreLawful q) (s s' : Stored K V) (n : ℕ) (rs rs' : List K) (sound : IsSound q (held s n rs)) (i : ℕ) (r r' : Node K V)
       → node_at s i ≡ Some r → r'.key ≡ r.key → Changes s s' i r' → Puts q (held s n rs) (held s' n rs') i r'
   puts_changes q laws s s' n rs rs' sound i r r' e key ch =

@@ -148,6 +148,13 @@ at_within [] i x e = absurd (let bad : ⊥ = cc in bad)
 at_within (y ∷ xs) zero x e = omega arith
 at_within (y ∷ xs) (suc i) x e = let l = at_within xs i x e in omega arith
 
+-- one more place without a mark
+pub one_behind : (xs : List Bool) (i : ℕ) → slice_index_or (xs ++ false ∷ []) i false ≡ slice_index_or xs i false
+one_behind [] zero = refl
+one_behind [] (suc i) = refl
+one_behind (x ∷ xs) zero = refl
+one_behind (x ∷ xs) (suc i) = one_behind xs i
+
 module _ {K V : Type 0} (q : Queries K V) (g : Held K V) where
   root_from : (ks : List K) (i : ℕ) → Has (root_nodes q g ks) i → (k : K) × (Has ks k × (node_of q g k ≡ Some i))
   root_from [] i h = absurd h

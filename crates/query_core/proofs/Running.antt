@@ -4,7 +4,7 @@ use Rattle.std.proofs.lemmas.List.{length-append}
 use Rattle.std.specs.List.{slice_get}
 use Rattle.query_core.specs.Lists.{Has, Each}
 use Rattle.query_core.specs.Queries.{Queries, AreLawful, GoesOn, answers, HasReadFirst}
-use Rattle.query_core.specs.Graph.{Held, at, inputs, is_verified}
+use Rattle.query_core.specs.Graph.{Held, at, node_of, inputs, is_verified}
 use Rattle.query_core.specs.Soundness.{kept, IsUnchanged, IsSound}
 use Rattle.query_core.specs.Walk.{IsSettled, IsSettledTo, IsOutdated, AreAnswered, IsRunning, IsChecking, IsLook, HasBegun}
 use Rattle.query_core.specs.declared.frame.Checked.TheVariants.{Changed, Stale}
@@ -69,20 +69,22 @@ module _ {K V : Type 0} (q : Queries K V) (laws : AreLawful q) (g : Held K V) (s
 
   -- a look at the record of a key
   pub look_waits : (k : K) (node place : ℕ) → IsChecking q g k node place → (p : ℕ) → ((r : Node K V) → at g node ≡ Some r → IsLook q g r (Stale p))
-      → (on : K) → ((r d : Node K V) (j : ℕ) → at g node ≡ Some r → slice_get r.reads p ≡ Some j → at g j ≡ Some d → d.key ≡ on)
-      → IsChecking q g k node p × Has (q.asks (inputs q g) k) on × (is_verified q g on ≡ false)
-  look_waits k node place checking p look on key_is =
+      → (on : K) (at_node : ℕ) → ((r d : Node K V) (j : ℕ) → at g node ≡ Some r → slice_get r.reads p ≡ Some j → at g j ≡ Some d → (d.key ≡ on) × (j ≡ at_node))
+      → IsChecking q g k node p × Has (q.asks (inputs q g) k) on × (is_verified q g on ≡ false) × (node_of q g on ≡ Some at_node)
+  look_waits k node place checking p look on at_node read_is =
       let r = checking.1.0 in let e = checking.1.1.1 in
       let st = sound.numbers k node checking.1.1.0 in
       let own : r.key ≡ k = (let s : st.0 ≡ r = (let x = st.1 in cc) in subst (λ (x : Node K V). x.key ≡ k) s st.2) in
       let l = look r e in
       let j = l.1.0 in let d = l.1.1.0 in let got = l.1.1.1.0 in let at_j = l.1.1.1.1 in
-      let key : d.key ≡ on = key_is r d j e got at_j in
+      let read = read_is r d j e got at_j in
+      let key : d.key ≡ on = read.0 in
       let isnt : q.is_input r.key ≡ false = subst (λ x. q.is_input x ≡ false) (sym own) checking.0 in
       let has = settled_follow node r e isnt p j d l.0 got at_j in (
         (checking.0, (r, (checking.1.1.0, e, l.0))),
         subst (Has (q.asks (inputs q g) k)) key (subst (λ x. Has (q.asks (inputs q g) x) d.key) own has),
         subst (λ x. is_verified q g x ≡ false) key (verified_is q g d.key j d (sound.numbered j d at_j) at_j ∙ l.1.1.1.2),
+        subst (λ x. node_of q g x ≡ Some at_node) key (sound.numbered j d at_j ∙ ap Some read.1),
       )
 
   pub look_outdated : (k : K) (node place : ℕ) → IsChecking q g k node place → ((r : Node K V) → at g node ≡ Some r → IsLook q g r Changed) → IsOutdated q g k

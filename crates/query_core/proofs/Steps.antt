@@ -236,7 +236,7 @@ read_absent {K = K} {V = V} q g sound node place kept_here here reads is within 
 
 pub key_read : {K V : Type 0} (g : Held K V) (node place : ℕ) (kept_here : Node K V) → Some kept_here ≡ at g node → (reads : List ℕ) → reads ≡ kept_here.reads
     → (r : Node K V) × ((at g node ≡ Some r) × (place < length r.reads)) → (read : Node K V) → Some read ≡ at g (get_or reads place 0) → (key : K) → key ≡ read.key
-    → (r d : Node K V) (j : ℕ) → at g node ≡ Some r → slice_get r.reads place ≡ Some j → at g j ≡ Some d → d.key ≡ key
+    → (r d : Node K V) (j : ℕ) → at g node ≡ Some r → slice_get r.reads place ≡ Some j → at g j ≡ Some d → (d.key ≡ key) × (j ≡ get_or reads place 0)
 key_read {K = K} {V = V} g node place kept_here here reads is within read at_read key key_is r d j e got at_j =
     let same : r ≡ kept_here = cc in
     let same' : within.0 ≡ kept_here = (let e' = within.1.0 in cc) in
@@ -246,7 +246,7 @@ key_read {K = K} {V = V} g node place kept_here here reads is within read at_rea
     let index : get_or reads place 0 ≡ j = cc in
     let at_j' : Some read ≡ at g j = subst (λ n. Some read ≡ at g n) index at_read in
     let same_d : read ≡ d = cc in
-    sym (key_is ∙ ap (λ (x : Node K V). x.key) same_d)
+    (sym (key_is ∙ ap (λ (x : Node K V). x.key) same_d), sym index)
 
 pub if_ok_from : {A E : Type 0} (r : Result A E) (P Q : A → Type 0) → ((a : A) → P a → Q a) → IfOk r P → IfOk r Q
 if_ok_from (Ok a) P Q f h = f a h

@@ -147,8 +147,9 @@ module _ {K V : Type 0} (q : Queries K V) (laws : AreLawful q) (g g' : Held K V)
           ),
         ),
       )
-  stage_stays has_read x Start n h = running_stays x [] [] n h
-  stage_stays has_read x (Run running) n h = (running_stays x running.value.asked running.value.answered n h.0, begun_stays has_read x running.value.run running.value.asked h.1)
+  stage_stays has_read x Start n h = (other_node x n ∙ h.0, running_stays x [] [] n h.1)
+  stage_stays has_read x (Run running) n h =
+      (other_node x n ∙ h.0, running_stays x running.value.asked running.value.answered n h.1, begun_stays has_read x running.value.run running.value.asked h.2)
 
   pub frame_stays : {S : Type 0} (has_read : K → S → List (K × V) → Type 0) (p : Frame K S) → p.key ≢ k → IsFrame q has_read g p → IsFrame q has_read g' p
   frame_stays has_read p n h = record { stale = other_verified p.key n ∙ h.stale; stage = stage_stays has_read p.key p.stage n h.stage }

@@ -13,6 +13,8 @@ use Rattle.query_core.specs.declared.frame.Moved.{Moved}
 use Rattle.query_core.specs.declared.frame.Moved.TheVariants.{Waits, Done}
 use Rattle.query_core.specs.declared.frame.Halt.{Halt}
 use Rattle.query_core.specs.declared.frame.Halt.TheVariants.{Pauses, Ends}
+use Rattle.query_core.specs.declared.frame.Found.{Found}
+use Rattle.query_core.specs.declared.frame.Found.TheVariants.{Current, Behind}
 use Rattle.query_core.specs.declared.frame.Look.{Look}
 use Rattle.query_core.specs.declared.frame.Look.TheVariants.{Settled, Altered, Open}
 use Rattle.query_core.specs.declared.frame.Checked.{Checked}
@@ -57,6 +59,11 @@ module _ {K V : Type 0} (q : Queries K V) (g : Held K V) where
   abbrev pub IsRunning : K → List K → List ℕ → Type 0
   IsRunning k asked answered = (q.is_input k ≡ false) × IsOutdated k × AreAsked k asked × AreAnswered asked answered
 
+  -- where the record of the key stands
+  abbrev pub IsFound : K → Found → Type 0
+  IsFound k (Current i) = (node_of q g k ≡ Some i) × (is_verified q g k ≡ true)
+  IsFound k (Behind o) = (node_of q g k ≡ o) × (is_verified q g k ≡ false)
+
   -- what a look at one read says
   abbrev pub IsLookAt : ℕ → ℕ → Look → Type 0
   IsLookAt since j Settled = IsSettled since j
@@ -70,13 +77,13 @@ module _ {K V : Type 0} (q : Queries K V) (g : Held K V) where
   IsLook r (Stale place) = IsSettledTo r place × ((j : ℕ) × ((d : Node K V) × ((slice_get r.reads place ≡ Some j) × (at g j ≡ Some d) × (is_current q g d ≡ false))))
 
   -- what the keys asked so far say after a look at their answers
-  abbrev pub IsCollected : List K → List ℕ → Option K → Type 0
+  abbrev pub IsCollected : List K → List ℕ → Option (K × Option ℕ) → Type 0
   IsCollected asked answered None = AreAnswered asked answered × (length answered ≡ length asked)
-  IsCollected asked answered (Some on) = AreAnswered asked answered × Has asked on × (is_verified q g on ≡ false)
+  IsCollected asked answered (Some on) = AreAnswered asked answered × Has asked on.0 × (is_verified q g on.0 ≡ false) × (node_of q g on.0 ≡ on.1)
 
   -- where a run halts: at a key that isn't verified, or with the value of its key
   abbrev pub IsHalt : K → List K → List ℕ → Halt K V → Type 0
-  IsHalt k asked answered (Pauses on) = IsRunning k asked answered × Has asked on × (is_verified q g on ≡ false)
+  IsHalt k asked answered (Pauses on at_node) = IsRunning k asked answered × Has asked on × (is_verified q g on ≡ false) × (node_of q g on ≡ at_node)
   IsHalt k asked answered (Ends value) = AreAnswered (q.asks (inputs q g) k) answered × (length answered ≡ length (q.asks (inputs q g) k)) × (value ≡ q.val (inputs q g) k)
 
   -- a run of the key may enter this value with these reads
@@ -97,8 +104,8 @@ module _ {K V S : Type 0} (q : Queries K V) (has_read : K → S → List (K × V
   abbrev pub IsStage : K → Stage K S → Type 0
   IsStage k Unset = (q.is_input k ≡ true) × (record_of q g k ≡ None)
   IsStage k (Check node place) = IsChecking q g k node place
-  IsStage k Start = IsRunning q g k [] []
-  IsStage k (Run running) = IsRunning q g k running.value.asked running.value.answered × HasBegun k running.value.run running.value.asked
+  IsStage k Start = (node_of q g k ≡ None) × IsRunning q g k [] []
+  IsStage k (Run running) = (node_of q g k ≡ running.value.node) × IsRunning q g k running.value.asked running.value.answered × HasBegun k running.value.run running.value.asked
 
   -- the key of the frame isn't verified now
   pub record IsFrame (frame : Frame K S) : Type 0 where
@@ -128,7 +135,7 @@ module _ {K V : Type 0} where
 
   -- how often a run counts that halts so
   abbrev pub halted : {E : Type 0} → Result (Halt K V) E → ℕ
-  halted (Ok (Pauses on)) = 0
+  halted (Ok (Pauses on at_node)) = 0
   halted (Ok (Ends value)) = 1
   halted (Err e) = 0
 
@@ -139,5 +146,5 @@ module _ {K V : Type 0} where
   -- what a step of the walk on a frame gives, with the counter before and after
   abbrev pub IsStep : {S : Type 0} → Queries K V → (K → S → List (K × V) → Type 0) → Held K V → Held K V → K → ℕ → ℕ → Moved K S → Type 0
   IsStep q has_read old new k steps steps' (Waits frame on at_node) =
-      (new ≡ old) × (steps' ≡ steps) × (frame.key ≡ k) × IsFrame q has_read old frame × Has (q.asks (inputs q old) k) on × (is_verified q old on ≡ false)
+      (new ≡ old) × (steps' ≡ steps) × (frame.key ≡ k) × IsFrame q has_read old frame × Has (q.asks (inputs q old) k) on × (is_verified q old on ≡ false) × (node_of q old on ≡ at_node)
   IsStep q has_read old new k steps steps' (Done node) = Finishes q old new k node × IsSound q new × (steps' + length old.runs ≡ steps + length new.runs) × IsUnswept q new

@@ -9,9 +9,11 @@ pub(crate) struct Frame<K, S> {
     pub(crate) stage: Stage<K, S>,
 }
 
-/// A run that waits: what it keeps, the keys that it asked for, and the nodes that hold the values of the first of them.
+/// A run that waits: the node of its key, what it keeps, the keys that it asked for, and the nodes that hold the values of the first of
+/// them.
 #[derive(Drop)]
 pub(crate) struct Running<K, S> {
+    pub(crate) node: Option<usize>,
     pub(crate) run: S,
     pub(crate) asked: Keys<K>,
     pub(crate) answered: Answered,
@@ -34,10 +36,26 @@ pub(crate) enum Stage<K, S> {
 /// What a step of the walk gives.
 #[derive(Drop)]
 pub(crate) enum Moved<K, S> {
-    /// The frame waits for this key, which isn't verified; where its node is known, that stands here.
+    /// The frame waits for this key, which isn't verified and has this node.
     Waits(Frame<K, S>, K, Option<usize>),
     /// The key of the frame was verified at this node.
     Done(usize),
+}
+
+/// What spares a run look-ups: the node of its key, whose record has the reads of its last run, and the node that was finished last.
+#[derive(Clone, Copy, Drop)]
+pub(crate) struct Hints {
+    pub(crate) node: Option<usize>,
+    pub(crate) finished: Option<usize>,
+}
+
+/// Where the record of a key stands.
+#[derive(Drop)]
+pub(crate) enum Found {
+    /// At this node, verified now.
+    Current(usize),
+    /// At this node, or nowhere; it isn't verified.
+    Behind(Option<usize>),
 }
 
 /// What a look at one read of a record says.
@@ -65,8 +83,8 @@ pub(crate) enum Checked {
 /// Where a run halts.
 #[derive(Drop)]
 pub(crate) enum Halt<K, V> {
-    /// At this key, which it asked for and which isn't verified.
-    Pauses(K),
+    /// At this key, which it asked for and which isn't verified and has this node.
+    Pauses(K, Option<usize>),
     /// With the value of its key.
     Ends(V),
 }

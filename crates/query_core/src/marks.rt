@@ -1,30 +1,40 @@
 // Nodes that are marked, in the order of marking.
 
-ghost use Rattle.std.specs.Prelude.{◌≡◌, ◌++◌, ◌∷◌, ◌+◌, ◌<◌, ◌^◌, ℕ, [], IsSome, OnOk, slice_get, nat_eq};
+ghost use Rattle.std.specs.Prelude.{◌≡◌, ◌++◌, ◌∷◌, ◌+◌, ◌<◌, ◌^◌, ℕ, [], IsSome, OnOk, false, length, slice_get, slice_index_or, nat_eq};
 ghost use Rattle.std.specs.List.{list_any};
 ghost use Rattle.query_core.specs.Marking.{marked, all_marked};
 
 use std::alloc::{AllocError, Global};
-use std::collections::HashSet;
 use std::marker::Model;
 
 /// Nodes that are marked, in the order of marking.
 #[derive(Drop)]
 pub(crate) struct Marks {
     nodes: Vec<usize>,
-    seen: HashSet<usize>,
+    seen: Vec<bool>,
 }
 
 impl Model for Marks {
-    ghost use Rattle.std.specs.Prelude.{◌≡◌, List, ℕ, nat_eq};
+    ghost use Rattle.std.specs.Prelude.{◌≡◌, List, ℕ, false, nat_eq, slice_index_or};
     ghost use Rattle.std.specs.List.{list_any};
-    ghost use Rattle.std.specs.HashSet.{contains};
 
     ghost Value = { List ℕ };
 
     ghost view = { λ m. m.nodes.items };
 
-    ghost invariant = { λ m. (node : ℕ) → contains nat_eq m.seen node ≡ list_any (nat_eq node) m.nodes.items };
+    ghost invariant = { λ m. (node : ℕ) → slice_index_or m.seen.items node false ≡ list_any (nat_eq node) m.nodes.items };
+}
+
+/// Makes room for the mark of a node, which isn't set.
+#[tactic(auto, using(crate::proofs::Marking::one_behind))]
+fn cover(seen: &mut Vec<bool>, node: usize) -> Result<(), AllocError>
+    ensures same { (i : ℕ) → slice_index_or seen.new.items i false ≡ slice_index_or seen.old.items i false }
+    ensures covered { OnOk result (node < length seen.new.items) }
+{
+    'places: while seen.len() <= node {
+        seen.push(false)?;
+    }
+    Ok(())
 }
 
 impl Marks {
@@ -34,7 +44,7 @@ impl Marks {
     {
         Marks {
             nodes: Vec::new(alloc),
-            seen: HashSet::new(alloc),
+            seen: Vec::new(alloc),
         }
     }
 
@@ -50,7 +60,10 @@ impl Marks {
     pub(crate) fn contains(&self, node: usize) -> bool
         ensures { result ≡ list_any (nat_eq node) self.now }
     {
-        self.seen.contains(&node)
+        match self.seen.get(node) {
+            Some(seen) => *seen,
+            None => false,
+        }
     }
 
     /// Marks a node that isn't.
@@ -58,7 +71,8 @@ impl Marks {
         ensures ok { OnOk result (self.new ≡ self.old ++ node ∷ []) }
     {
         self.nodes.reserve(1)?;
-        self.seen.insert(node).map_err(AllocError::from)?;
+        cover(&mut self.seen, node)?;
+        self.seen[node] = true;
         self.nodes.push_reserved(node);
         Ok(())
     }

@@ -1,6 +1,6 @@
 // The records of the keys: nodes in a slab, and the number of each key's node.
 
-ghost use Rattle.std.specs.Prelude.{◌≡◌, ◌+◌, ℕ, IfOk, OnErr, IsSome, None, Some, [], Option, count_by, is_some};
+ghost use Rattle.std.specs.Prelude.{◌≡◌, ◌+◌, ℕ, true, IfOk, OnErr, IsSome, None, Some, [], Option, count_by, is_some};
 ghost use Rattle.std.specs.Map.{lookup};
 ghost use Rattle.std.specs.Option.{option_copied};
 ghost use Rattle.query_core.specs.Stored.{Stored, Changes, Adds, Removes, node_at, stays, left_at};
@@ -71,6 +71,39 @@ impl<K: Eq + Hash + TryCopy + Drop, V: Drop> Store<K, V> {
         ensures { result ≡ lookup (K.eq key.now) self.now.numbers }
     {
         self.numbers.get(key).copied()
+    }
+
+    /// Whether the key has the record at this node.
+    fn is_at(&self, key: &K, node: Option<usize>) -> bool
+        requires { IsNumbered K.eq self.now }
+        ensures { result ≡ true → lookup (K.eq key.now) self.now.numbers ≡ node }
+    {
+        let Some(index) = node else {
+            return false;
+        };
+        match self.nodes.get(index) {
+            Some(kept) => *key == kept.key,
+            None => false,
+        }
+    }
+
+    /// The node of the key; where it is one of the two that are expected, a look at that record tells it without a look-up.
+    pub(crate) fn find(
+        &self,
+        key: &K,
+        expected: Option<usize>,
+        finished: Option<usize>,
+    ) -> Option<usize>
+        requires { IsNumbered K.eq self.now }
+        ensures { result ≡ lookup (K.eq key.now) self.now.numbers }
+    {
+        if self.is_at(key, expected) {
+            return expected;
+        }
+        if self.is_at(key, finished) {
+            return finished;
+        }
+        self.node_of(key)
     }
 
     /// The record at the node.

@@ -5,13 +5,13 @@ ghost use Rattle.std.specs.Option.{option_copied};
 ghost use Rattle.query_core.specs.Graph.{at, node_of, record_of, is_current, is_verified};
 ghost use Rattle.query_core.specs.Soundness.{IsSound, IsUnswept, kept};
 ghost use Rattle.query_core.specs.Queries.{HasReadFirst, ticks};
-ghost use Rattle.query_core.specs.Walk.{IsFrame, IsStage, IsChecking, IsRunning, HasBegun, IsHalt, IsGivenUp, halted, IsLook, IsLookAt, IsSettledTo, IsCollected, IsEntry, IsStep, Finishes, AreAnswered};
+ghost use Rattle.query_core.specs.Walk.{IsFrame, IsStage, IsChecking, IsRunning, HasBegun, IsHalt, IsGivenUp, halted, IsLook, IsLookAt, IsFound, IsSettledTo, IsCollected, IsEntry, IsStep, Finishes, AreAnswered};
 ghost use Rattle.query_core.specs.Lists.{Each, IsOnce};
 ghost use Rattle.query_core.specs.Changes.{IsHolding, IsRun, Leaves, Walked, ran};
 ghost use Rattle.query_core.specs.declared.store.Node.{Node};
 
 use super::{Graph, NodeId};
-use crate::frame::{Checked, Frame, Halt, Look, Moved, Running, Stage};
+use crate::frame::{Checked, Found, Frame, Halt, Hints, Look, Moved, Running, Stage};
 use crate::keys::{Answered, Keys, Reads, TryCopy};
 use crate::rules::{Answers, Rules, Step};
 use crate::store::Node;
@@ -27,60 +27,44 @@ impl<R: Rules> Graph<R> {
         rules.is_input(&node.key) || node.verified_at == self.revision
     }
 
-    /// The node of a key whose record was verified now.
+    /// Where the record of a key stands that has this node.
     #[tactic(auto, using(crate::proofs::Reading::verified_is))]
-    fn current(&self, rules: &R, key: &R::Key) -> Option<usize>
-        ensures sound { IsSound R.queries self.now }
-        ensures none { result ≡ None → is_verified R.queries self.now key.now ≡ false }
-        ensures some { IfSome result (λ i. (node_of R.queries self.now key.now ≡ Some i) × (is_verified R.queries self.now key.now ≡ true)) }
+    fn stands(&self, rules: &R, key: &R::Key, node: Option<usize>) -> Found
+        requires { node_of R.queries self.now key.now ≡ node }
+        ensures { IsFound R.queries self.now key.now result }
     {
-        let node = self.node_of(key)?;
-        let kept = self.node(node)?;
+        let Some(index) = node else {
+            return Found::Behind(None);
+        };
+        let Some(kept) = self.node(index) else {
+            return Found::Behind(node);
+        };
         if self.is_current(rules, kept) {
-            Some(node)
+            Found::Current(index)
         } else {
-            None
+            Found::Behind(node)
         }
     }
 
-    /// Whether the record at the node is the key's.
-    fn is_at(&self, key: &R::Key, node: usize) -> bool
-        ensures own { result ≡ true → node_of R.queries self.now key.now ≡ Some node }
-        ensures sound { IsSound R.queries self.now }
-    {
-        match self.node(node) {
-            Some(kept) => kept.key == *key,
-            None => false,
-        }
-    }
-
-    /// The node of a key; where it is the one that was expected, a look at that record tells it.
-    fn find(&self, key: &R::Key, expected: Option<usize>) -> Option<usize>
+    /// The node of a key; where it is one of those that are expected, a look at that record tells it.
+    fn find(&self, key: &R::Key, expected: Option<usize>, finished: Option<usize>) -> Option<usize>
         ensures value { result ≡ node_of R.queries self.now key.now }
         ensures sound { IsSound R.queries self.now }
     {
-        match expected {
-            Some(node) => {
-                if self.is_at(key, node) {
-                    Some(node)
-                } else {
-                    self.node_of(key)
-                }
-            }
-            None => self.node_of(key),
-        }
+        self.store.find(key, expected, finished)
     }
 
     /// How the work on a key that isn't verified begins.
     fn first_stage(&self, rules: &R, key: &R::Key, at_node: Option<usize>) -> Stage<R::Key, R::Run>
-        requires { is_verified R.queries self.now key.now ≡ false }
+        requires stale { is_verified R.queries self.now key.now ≡ false }
+        requires numbered { node_of R.queries self.now key.now ≡ at_node }
         ensures { IsStage R.queries R.has_read self.now key.now result }
     {
-        let found = self.find(key, at_node);
+        let _ = &self.store;
         if rules.is_input(key) {
             return Stage::Unset;
         }
-        match found {
+        match at_node {
             Some(node) => Stage::Check(node, 0),
             None => Stage::Start,
         }
@@ -88,7 +72,8 @@ impl<R: Rules> Graph<R> {
 
     /// A frame for a key that isn't verified.
     fn begin(&self, rules: &R, key: R::Key, at_node: Option<usize>) -> Frame<R::Key, R::Run>
-        requires { is_verified R.queries self.now key ≡ false }
+        requires stale { is_verified R.queries self.now key ≡ false }
+        requires numbered { node_of R.queries self.now key ≡ at_node }
         ensures key { result.key ≡ key }
         ensures frame { IsFrame R.queries R.has_read self.now result }
     {
@@ -135,45 +120,52 @@ impl<R: Rules> Graph<R> {
         Checked::Unchanged
     }
 
-    /// The key of a read of a record.
-    fn read_key(&self, node: usize, place: usize) -> Result<R::Key, AllocError>
+    /// The key of a read of a record, and its node.
+    fn read_key(&self, node: usize, place: usize) -> Result<(R::Key, usize), AllocError>
         requires { (r : Node R.Key R.Value) × ((at self.now node ≡ Some r) × (place < length r.reads)) }
-        ensures { IfOk result (λ key. (r d : Node R.Key R.Value) (j : ℕ) → at self.now node ≡ Some r → slice_get r.reads place ≡ Some j → at self.now j ≡ Some d → d.key ≡ key) }
+        ensures { IfOk result (λ read. (r d : Node R.Key R.Value) (j : ℕ) → at self.now node ≡ Some r → slice_get r.reads place ≡ Some j → at self.now j ≡ Some d → (d.key ≡ read.0) × (j ≡ read.1)) }
     {
         let Some(kept) = self.node(node) else {
             unreachable!()
         };
         let index = kept.reads.as_slice()[place];
         match self.node(index) {
-            Some(read) => read.key.try_copy(),
+            Some(read) => {
+                let key = read.key.try_copy()?;
+                Ok((key, index))
+            }
             None => unreachable!(),
         }
     }
 
-    /// The node of a read of a record.
-    fn read_at(&self, node: usize, place: usize) -> Option<usize> {
-        let kept = self.node(node)?;
+    /// The node of a read of a record, where there is one.
+    fn read_at(&self, node: Option<usize>, place: usize) -> Option<usize> {
+        let kept = self.node(node?)?;
         kept.reads.as_slice().get(place).copied()
     }
 
-    /// Takes the answers to what was asked, as far as it is verified, and gives the first key that isn't.
+    /// Takes the answers to what was asked, as far as it is verified, and gives the first key that isn't, with its node. A key that was
+    /// read at its place before, or that was finished last, is found without a look-up.
     fn collect(
         &self,
         rules: &R,
+        hints: Hints,
         asked: &Keys<R::Key>,
         answered: &mut Answered,
-    ) -> Result<Option<R::Key>, AllocError>
+    ) -> Result<Option<(R::Key, Option<usize>)>, AllocError>
         requires { AreAnswered R.queries self.now asked.now answered.old }
         ensures { IfOk result (IsCollected R.queries self.now asked.now answered.new) }
     {
         let keys = asked.as_slice();
         for place in answered.len()..keys.len() {
             let key = &keys[place];
-            match self.current(rules, key) {
-                Some(node) => answered.push(node)?,
-                None => {
+            let before = self.read_at(hints.node, place);
+            let node = self.find(key, before, hints.finished);
+            match self.stands(rules, key, node) {
+                Found::Current(node) => answered.push(node)?,
+                Found::Behind(node) => {
                     let on = key.try_copy()?;
-                    return Ok(Some(on));
+                    return Ok(Some((on, node)));
                 }
             }
         }
@@ -242,8 +234,15 @@ impl<R: Rules> Graph<R> {
         Ok(node)
     }
 
-    /// Enters the value of a run.
-    fn enter(&mut self, key: R::Key, value: R::Value, reads: Reads) -> Result<usize, AllocError>
+    /// Enters the value of a run of a key that has this node.
+    fn enter(
+        &mut self,
+        key: R::Key,
+        at_node: Option<usize>,
+        value: R::Value,
+        reads: Reads,
+    ) -> Result<usize, AllocError>
+        requires numbered { node_of R.queries self.old key ≡ at_node }
         requires entry { IsEntry R.queries self.old key value reads }
         requires unswept { IsUnswept R.queries self.old }
         ensures finishes { IfOk result (λ node. Finishes R.queries self.old self.new key node) }
@@ -255,7 +254,7 @@ impl<R: Rules> Graph<R> {
         let now = self.revision;
         self.runs.reserve(1)?;
         let ran = key.try_copy()?;
-        match self.store.node_of(&key) {
+        match at_node {
             Some(node) => {
                 self.store.renew(node, value, reads, now);
                 self.runs.push_reserved(ran);
@@ -282,6 +281,7 @@ impl<R: Rules> Graph<R> {
         &self,
         rules: &R,
         key: &R::Key,
+        hints: Hints,
         run: &mut R::Run,
         asked: &mut Keys<R::Key>,
         answered: &mut Answered,
@@ -294,9 +294,9 @@ impl<R: Rules> Graph<R> {
         ensures ticks { steps.new ≡ steps.old + halted result }
     {
         'rounds: loop {
-            let open = self.collect(rules, asked, answered)?;
+            let open = self.collect(rules, hints, asked, answered)?;
             match open {
-                Some(on) => return Ok(Halt::Pauses(on)),
+                Some((on, node)) => return Ok(Halt::Pauses(on, node)),
                 None => {}
             }
             let step = self.round(self.alloc, rules, key, run, answered, steps)?;
@@ -312,6 +312,7 @@ impl<R: Rules> Graph<R> {
         &mut self,
         rules: &R,
         key: R::Key,
+        hints: Hints,
         run: R::Run,
         asked: Keys<R::Key>,
         answered: Answered,
@@ -319,6 +320,7 @@ impl<R: Rules> Graph<R> {
     ) -> Result<Moved<R::Key, R::Run>, AllocError>
         requires stale { is_verified R.queries self.old key ≡ false }
         requires unswept { IsUnswept R.queries self.old }
+        requires numbered { node_of R.queries self.old key ≡ hints.node }
         requires running { IsRunning R.queries self.old key asked answered }
         requires begun { HasBegun R.queries R.has_read self.old key run asked }
         ensures ok { IfOk result (IsStep R.queries R.has_read self.old self.new key steps.old steps.new) }
@@ -327,20 +329,29 @@ impl<R: Rules> Graph<R> {
         let mut run = run;
         let mut asked = asked;
         let mut answered = answered;
-        let halt = self.go_on(rules, &key, &mut run, &mut asked, &mut answered, steps)?;
+        let halt = self.go_on(
+            rules,
+            &key,
+            hints,
+            &mut run,
+            &mut asked,
+            &mut answered,
+            steps,
+        )?;
         match halt {
-            Halt::Pauses(on) => {
+            Halt::Pauses(on, on_node) => {
                 let running = Running {
+                    node: hints.node,
                     run,
                     asked,
                     answered,
                 };
                 let running = Box::new(self.alloc, running)?;
                 let stage = Stage::Run(running);
-                Ok(Moved::Waits(Frame { key, stage }, on, None))
+                Ok(Moved::Waits(Frame { key, stage }, on, on_node))
             }
             Halt::Ends(value) => {
-                let node = self.enter(key, value, answered.into_reads())?;
+                let node = self.enter(key, hints.node, value, answered.into_reads())?;
                 Ok(Moved::Done(node))
             }
         }
@@ -351,10 +362,12 @@ impl<R: Rules> Graph<R> {
         &mut self,
         rules: &R,
         key: R::Key,
+        node: Option<usize>,
         steps: &mut Steps<L>,
     ) -> Result<Moved<R::Key, R::Run>, AllocError>
         requires stale { is_verified R.queries self.old key ≡ false }
         requires unswept { IsUnswept R.queries self.old }
+        requires numbered { node_of R.queries self.old key ≡ node }
         requires running { IsRunning R.queries self.old key [] [] }
         ensures ok { IfOk result (IsStep R.queries R.has_read self.old self.new key steps.old steps.new) }
         ensures err { OnErr result (IsGivenUp self.old self.new steps.old steps.new) }
@@ -362,7 +375,11 @@ impl<R: Rules> Graph<R> {
         let run = rules.begin(self.alloc, &key)?;
         let asked = Keys::new(self.alloc);
         let answered = Answered::new(self.alloc);
-        self.run(rules, key, run, asked, answered, steps)
+        let hints = Hints {
+            node,
+            finished: None,
+        };
+        self.run(rules, key, hints, run, asked, answered, steps)
     }
 
     /// A step of the walk on a key whose record is looked at.
@@ -385,12 +402,11 @@ impl<R: Rules> Graph<R> {
                 self.touch(&key, node);
                 Ok(Moved::Done(node))
             }
-            Checked::Changed => self.start(rules, key, steps),
+            Checked::Changed => self.start(rules, key, Some(node), steps),
             Checked::Stale(place) => {
-                let on = self.read_key(node, place)?;
-                let at_node = self.read_at(node, place);
+                let (on, on_node) = self.read_key(node, place)?;
                 let stage = Stage::Check(node, place);
-                Ok(Moved::Waits(Frame { key, stage }, on, at_node))
+                Ok(Moved::Waits(Frame { key, stage }, on, Some(on_node)))
             }
         }
     }
@@ -400,6 +416,7 @@ impl<R: Rules> Graph<R> {
         &mut self,
         rules: &R,
         frame: Frame<R::Key, R::Run>,
+        finished: Option<usize>,
         steps: &mut Steps<L>,
     ) -> Result<Moved<R::Key, R::Run>, AllocError>
         requires frame { IsFrame R.queries R.has_read self.old frame }
@@ -414,14 +431,16 @@ impl<R: Rules> Graph<R> {
                 Ok(Moved::Done(node))
             }
             Stage::Check(node, place) => self.check(rules, key, node, place, steps),
-            Stage::Start => self.start(rules, key, steps),
+            Stage::Start => self.start(rules, key, None, steps),
             Stage::Run(running) => {
                 let Running {
+                    node,
                     run,
                     asked,
                     answered,
                 } = Box::into_inner(running);
-                self.run(rules, key, run, asked, answered, steps)
+                let hints = Hints { node, finished };
+                self.run(rules, key, hints, run, asked, answered, steps)
             }
         }
     }
@@ -431,18 +450,21 @@ impl<R: Rules> Graph<R> {
         &mut self,
         rules: &R,
         key: R::Key,
+        at_node: Option<usize>,
         steps: &mut Steps<L>,
     ) -> Result<NodeId, AllocError>
         requires stale { is_verified R.queries self.old key ≡ false }
+        requires numbered { node_of R.queries self.old key ≡ at_node }
         requires unswept { IsUnswept R.queries self.old }
         ensures walked { Walked R.queries self.old key self.new }
         ensures ok { IfOk result (λ id. IsHolding R.queries self.old self.new key id × (steps.new ≡ steps.old + length (ran self.old self.new))) }
         ensures err { OnErr result ((steps.old + length (ran self.old self.new) ≤ steps.new) × (steps.new ≤ steps.old + length (ran self.old self.new) + 1)) }
     {
         let mut path: Vec<Frame<R::Key, R::Run>> = Vec::new(self.alloc);
-        let mut top = self.begin(rules, key, None);
+        let mut top = self.begin(rules, key, at_node);
+        let mut finished = None;
         'steps: loop {
-            let moved = self.advance(rules, top, steps)?;
+            let moved = self.advance(rules, top, finished, steps)?;
             match moved {
                 Moved::Waits(frame, on, at_node) => {
                     path.reserve(1)?;
@@ -450,7 +472,10 @@ impl<R: Rules> Graph<R> {
                     top = self.begin(rules, on, at_node);
                 }
                 Moved::Done(index) => match path.pop() {
-                    Some(frame) => top = frame,
+                    Some(frame) => {
+                        finished = Some(index);
+                        top = frame;
+                    }
                     None => return Ok(NodeId { index }),
                 },
             }
@@ -480,9 +505,10 @@ impl<R: Rules> Graph<R> {
         ensures given_up { OnErr result ((steps.old + length (ran self.old self.new) ≤ steps.new) × (steps.new ≤ steps.old + length (ran self.old self.new) + 1)) }
         ensures again { is_verified R.queries self.old key ≡ true → IsOk result × (self.new ≡ self.old) × (steps.new ≡ steps.old) }
     {
-        if let Some(index) = self.current(rules, &key) {
-            return Ok(NodeId { index });
+        let found = self.node_of(&key);
+        match self.stands(rules, &key, found) {
+            Found::Current(index) => Ok(NodeId { index }),
+            Found::Behind(node) => self.walk(rules, key, node, steps),
         }
-        self.walk(rules, key, steps)
     }
 }

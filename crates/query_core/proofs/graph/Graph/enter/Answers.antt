@@ -1,13 +1,14 @@
-use Rattle.std.proofs.Common.{sym, subst, ap, ◌∙◌, ◌++◌, ◌∷◌, []}
+use Rattle.std.proofs.Common.{sym, subst, ap, ◌≡◌, Some, None, ◌∙◌, ◌++◌, ◌∷◌, []}
+use Rattle.query_core.specs.Graph.{node_of}
 use Rattle.query_core.specs.Walk.{IsEntry}
 use Rattle.query_core.specs.Soundness.{IsUnswept}
 use Rattle.query_core.proofs.graph.Graph.enter.Goals as goal
-use Rattle.query_core.proofs.Calls.{stored_node, is_some_from}
+use Rattle.query_core.proofs.Calls.{stored_node, is_some_from, number_is}
 use Rattle.query_core.proofs.Finishing.{enter_old, enter_new}
 
 pub renew-requires : goal.renew-requires
 renew-requires g c =
-    let st = stored_node g.R.Rules.queries g.R.Key.PartialEq.eq g.met.R.Rules.same_keys c.self.inside.store c.self.inside.revision c.self.inside.runs.items c.self.invariant c.args.key c.in-Some.node (sym c.in-Some.ensures) in
+    let st = stored_node g.R.Rules.queries g.R.Key.PartialEq.eq g.met.R.Rules.same_keys c.self.inside.store c.self.inside.revision c.self.inside.runs.items c.self.invariant c.args.key c.in-Some.node (number_is g.R.Rules.queries g.R.Key.PartialEq.eq g.met.R.Rules.same_keys c.self.inside.store c.self.inside.revision c.self.inside.runs.items c.args.key (Some c.in-Some.node) (subst (λ o. node_of g.R.Rules.queries o c.args.key ≡ c.args.at_node) (sym c.self.view_is) c.requires.numbered ∙ c.in-Some.is)) in
     is_some_from _ st.0 st.1
 
 pub invariant_of-self-in-Some-1 : goal.invariant_of-self-in-Some-1
@@ -15,7 +16,7 @@ invariant_of-self-in-Some-1 g c =
     (enter_old g.R.Rules.queries g.met.R.Rules.lawful g.R.Key.PartialEq.eq g.met.R.Rules.same_keys c.self.inside.store c.renew.new.self c.self.inside.revision c.self.inside.runs.items c.push_reserved.new.self.items c.self.invariant (subst (IsUnswept g.R.Rules.queries) (sym c.self.view_is) c.requires.unswept) c.args.key
     g.R.Value.PartialEq.eq g.met.R.Rules.same_values g.met.R.Value.Eq.laws.refl c.in-Some.node c.args.value c.args.reads
     (c.push_reserved.ensures.items ∙ ap (λ l. l ++ c.in_ok-ran.ran ∷ []) c.in_ok-reserve.ensures.items ∙ ap (λ x. c.self.inside.runs.items ++ x ∷ []) c.in_ok-ran.ensures)
-    (subst (λ o. IsEntry g.R.Rules.queries o c.args.key c.args.value c.args.reads) (sym c.self.view_is) c.requires.entry) (sym c.in-Some.ensures) c.renew.ensures).sound
+    (subst (λ o. IsEntry g.R.Rules.queries o c.args.key c.args.value c.args.reads) (sym c.self.view_is) c.requires.entry) (number_is g.R.Rules.queries g.R.Key.PartialEq.eq g.met.R.Rules.same_keys c.self.inside.store c.self.inside.revision c.self.inside.runs.items c.args.key (Some c.in-Some.node) (subst (λ o. node_of g.R.Rules.queries o c.args.key ≡ c.args.at_node) (sym c.self.view_is) c.requires.numbered ∙ c.in-Some.is)) c.renew.ensures).sound
 
 pub returns-in-Some-clause-finishes : goal.returns-in-Some-clause-finishes
 returns-in-Some-clause-finishes g c =
@@ -23,14 +24,14 @@ returns-in-Some-clause-finishes g c =
     (enter_old g.R.Rules.queries g.met.R.Rules.lawful g.R.Key.PartialEq.eq g.met.R.Rules.same_keys c.self.inside.store c.renew.new.self c.self.inside.revision c.self.inside.runs.items c.push_reserved.new.self.items c.self.invariant (subst (IsUnswept g.R.Rules.queries) (sym c.self.view_is) c.requires.unswept) c.args.key
     g.R.Value.PartialEq.eq g.met.R.Rules.same_values g.met.R.Value.Eq.laws.refl c.in-Some.node c.args.value c.args.reads
     (c.push_reserved.ensures.items ∙ ap (λ l. l ++ c.in_ok-ran.ran ∷ []) c.in_ok-reserve.ensures.items ∙ ap (λ x. c.self.inside.runs.items ++ x ∷ []) c.in_ok-ran.ensures)
-    (subst (λ o. IsEntry g.R.Rules.queries o c.args.key c.args.value c.args.reads) (sym c.self.view_is) c.requires.entry) (sym c.in-Some.ensures) c.renew.ensures).finishes
+    (subst (λ o. IsEntry g.R.Rules.queries o c.args.key c.args.value c.args.reads) (sym c.self.view_is) c.requires.entry) (number_is g.R.Rules.queries g.R.Key.PartialEq.eq g.met.R.Rules.same_keys c.self.inside.store c.self.inside.revision c.self.inside.runs.items c.args.key (Some c.in-Some.node) (subst (λ o. node_of g.R.Rules.queries o c.args.key ≡ c.args.at_node) (sym c.self.view_is) c.requires.numbered ∙ c.in-Some.is)) c.renew.ensures).finishes
 
 pub invariant_of-self-in-None : goal.invariant_of-self-in-None
 invariant_of-self-in-None g c =
     (enter_new g.R.Rules.queries g.met.R.Rules.lawful g.R.Key.PartialEq.eq g.met.R.Rules.same_keys c.self.inside.store c.add.new.self c.self.inside.revision c.self.inside.runs.items c.push_reserved-in-None.new.self.items c.self.invariant (subst (IsUnswept g.R.Rules.queries) (sym c.self.view_is) c.requires.unswept) c.args.key
     c.in_ok-node-in-None.node c.args.value c.args.reads
     (c.push_reserved-in-None.ensures.items ∙ ap (λ l. l ++ c.in_ok-ran.ran ∷ []) c.in_ok-reserve.ensures.items ∙ ap (λ x. c.self.inside.runs.items ++ x ∷ []) c.in_ok-ran.ensures)
-    (subst (λ o. IsEntry g.R.Rules.queries o c.args.key c.args.value c.args.reads) (sym c.self.view_is) c.requires.entry) (sym c.in-None.ensures) c.in_ok-node-in-None.ensures.ok).sound
+    (subst (λ o. IsEntry g.R.Rules.queries o c.args.key c.args.value c.args.reads) (sym c.self.view_is) c.requires.entry) (number_is g.R.Rules.queries g.R.Key.PartialEq.eq g.met.R.Rules.same_keys c.self.inside.store c.self.inside.revision c.self.inside.runs.items c.args.key None (subst (λ o. node_of g.R.Rules.queries o c.args.key ≡ c.args.at_node) (sym c.self.view_is) c.requires.numbered ∙ c.in-None.is)) c.in_ok-node-in-None.ensures.ok).sound
 
 pub returns-in_ok-node-in-None-clause-finishes : goal.returns-in_ok-node-in-None-clause-finishes
 returns-in_ok-node-in-None-clause-finishes g c =
@@ -38,32 +39,36 @@ returns-in_ok-node-in-None-clause-finishes g c =
     (enter_new g.R.Rules.queries g.met.R.Rules.lawful g.R.Key.PartialEq.eq g.met.R.Rules.same_keys c.self.inside.store c.add.new.self c.self.inside.revision c.self.inside.runs.items c.push_reserved-in-None.new.self.items c.self.invariant (subst (IsUnswept g.R.Rules.queries) (sym c.self.view_is) c.requires.unswept) c.args.key
     c.in_ok-node-in-None.node c.args.value c.args.reads
     (c.push_reserved-in-None.ensures.items ∙ ap (λ l. l ++ c.in_ok-ran.ran ∷ []) c.in_ok-reserve.ensures.items ∙ ap (λ x. c.self.inside.runs.items ++ x ∷ []) c.in_ok-ran.ensures)
-    (subst (λ o. IsEntry g.R.Rules.queries o c.args.key c.args.value c.args.reads) (sym c.self.view_is) c.requires.entry) (sym c.in-None.ensures) c.in_ok-node-in-None.ensures.ok).finishes
+    (subst (λ o. IsEntry g.R.Rules.queries o c.args.key c.args.value c.args.reads) (sym c.self.view_is) c.requires.entry) (number_is g.R.Rules.queries g.R.Key.PartialEq.eq g.met.R.Rules.same_keys c.self.inside.store c.self.inside.revision c.self.inside.runs.items c.args.key None (subst (λ o. node_of g.R.Rules.queries o c.args.key ≡ c.args.at_node) (sym c.self.view_is) c.requires.numbered ∙ c.in-None.is)) c.in_ok-node-in-None.ensures.ok).finishes
 
 pub returns-in-Some-clause-sound : goal.returns-in-Some-clause-sound
 returns-in-Some-clause-sound g c =
     (enter_old g.R.Rules.queries g.met.R.Rules.lawful g.R.Key.PartialEq.eq g.met.R.Rules.same_keys c.self.inside.store c.renew.new.self c.self.inside.revision c.self.inside.runs.items c.push_reserved.new.self.items c.self.invariant (subst (IsUnswept g.R.Rules.queries) (sym c.self.view_is) c.requires.unswept) c.args.key
     g.R.Value.PartialEq.eq g.met.R.Rules.same_values g.met.R.Value.Eq.laws.refl c.in-Some.node c.args.value c.args.reads
     (c.push_reserved.ensures.items ∙ ap (λ l. l ++ c.in_ok-ran.ran ∷ []) c.in_ok-reserve.ensures.items ∙ ap (λ x. c.self.inside.runs.items ++ x ∷ []) c.in_ok-ran.ensures)
-    (subst (λ o. IsEntry g.R.Rules.queries o c.args.key c.args.value c.args.reads) (sym c.self.view_is) c.requires.entry) (sym c.in-Some.ensures) c.renew.ensures).sound
+    (subst (λ o. IsEntry g.R.Rules.queries o c.args.key c.args.value c.args.reads) (sym c.self.view_is) c.requires.entry) (number_is g.R.Rules.queries g.R.Key.PartialEq.eq g.met.R.Rules.same_keys c.self.inside.store c.self.inside.revision c.self.inside.runs.items c.args.key (Some c.in-Some.node) (subst (λ o. node_of g.R.Rules.queries o c.args.key ≡ c.args.at_node) (sym c.self.view_is) c.requires.numbered ∙ c.in-Some.is)) c.renew.ensures).sound
 
 pub returns-in_ok-node-in-None-clause-sound : goal.returns-in_ok-node-in-None-clause-sound
 returns-in_ok-node-in-None-clause-sound g c =
     (enter_new g.R.Rules.queries g.met.R.Rules.lawful g.R.Key.PartialEq.eq g.met.R.Rules.same_keys c.self.inside.store c.add.new.self c.self.inside.revision c.self.inside.runs.items c.push_reserved-in-None.new.self.items c.self.invariant (subst (IsUnswept g.R.Rules.queries) (sym c.self.view_is) c.requires.unswept) c.args.key
     c.in_ok-node-in-None.node c.args.value c.args.reads
     (c.push_reserved-in-None.ensures.items ∙ ap (λ l. l ++ c.in_ok-ran.ran ∷ []) c.in_ok-reserve.ensures.items ∙ ap (λ x. c.self.inside.runs.items ++ x ∷ []) c.in_ok-ran.ensures)
-    (subst (λ o. IsEntry g.R.Rules.queries o c.args.key c.args.value c.args.reads) (sym c.self.view_is) c.requires.entry) (sym c.in-None.ensures) c.in_ok-node-in-None.ensures.ok).sound
+    (subst (λ o. IsEntry g.R.Rules.queries o c.args.key c.args.value c.args.reads) (sym c.self.view_is) c.requires.entry) (number_is g.R.Rules.queries g.R.Key.PartialEq.eq g.met.R.Rules.same_keys c.self.inside.store c.self.inside.revision c.self.inside.runs.items c.args.key None (subst (λ o. node_of g.R.Rules.queries o c.args.key ≡ c.args.at_node) (sym c.self.view_is) c.requires.numbered ∙ c.in-None.is)) c.in_ok-node-in-None.ensures.ok).sound
 
 pub returns-in-Some-clause-unswept : goal.returns-in-Some-clause-unswept
 returns-in-Some-clause-unswept g c =
     (enter_old g.R.Rules.queries g.met.R.Rules.lawful g.R.Key.PartialEq.eq g.met.R.Rules.same_keys c.self.inside.store c.renew.new.self c.self.inside.revision c.self.inside.runs.items c.push_reserved.new.self.items c.self.invariant (subst (IsUnswept g.R.Rules.queries) (sym c.self.view_is) c.requires.unswept) c.args.key
     g.R.Value.PartialEq.eq g.met.R.Rules.same_values g.met.R.Value.Eq.laws.refl c.in-Some.node c.args.value c.args.reads
     (c.push_reserved.ensures.items ∙ ap (λ l. l ++ c.in_ok-ran.ran ∷ []) c.in_ok-reserve.ensures.items ∙ ap (λ x. c.self.inside.runs.items ++ x ∷ []) c.in_ok-ran.ensures)
-    (subst (λ o. IsEntry g.R.Rules.queries o c.args.key c.args.value c.args.reads) (sym c.self.view_is) c.requires.entry) (sym c.in-Some.ensures) c.renew.ensures).unswept
+    (subst (λ o. IsEntry g.R.Rules.queries o c.args.key c.args.value c.args.reads) (sym c.self.view_is) c.requires.entry) (number_is g.R.Rules.queries g.R.Key.PartialEq.eq g.met.R.Rules.same_keys c.self.inside.store c.self.inside.revision c.self.inside.runs.items c.args.key (Some c.in-Some.node) (subst (λ o. node_of g.R.Rules.queries o c.args.key ≡ c.args.at_node) (sym c.self.view_is) c.requires.numbered ∙ c.in-Some.is)) c.renew.ensures).unswept
 
 pub returns-in_ok-node-in-None-clause-unswept : goal.returns-in_ok-node-in-None-clause-unswept
 returns-in_ok-node-in-None-clause-unswept g c =
     (enter_new g.R.Rules.queries g.met.R.Rules.lawful g.R.Key.PartialEq.eq g.met.R.Rules.same_keys c.self.inside.store c.add.new.self c.self.inside.revision c.self.inside.runs.items c.push_reserved-in-None.new.self.items c.self.invariant (subst (IsUnswept g.R.Rules.queries) (sym c.self.view_is) c.requires.unswept) c.args.key
     c.in_ok-node-in-None.node c.args.value c.args.reads
     (c.push_reserved-in-None.ensures.items ∙ ap (λ l. l ++ c.in_ok-ran.ran ∷ []) c.in_ok-reserve.ensures.items ∙ ap (λ x. c.self.inside.runs.items ++ x ∷ []) c.in_ok-ran.ensures)
-    (subst (λ o. IsEntry g.R.Rules.queries o c.args.key c.args.value c.args.reads) (sym c.self.view_is) c.requires.entry) (sym c.in-None.ensures) c.in_ok-node-in-None.ensures.ok).unswept
+    (subst (λ o. IsEntry g.R.Rules.queries o c.args.key c.args.value c.args.reads) (sym c.self.view_is) c.requires.entry) (number_is g.R.Rules.queries g.R.Key.PartialEq.eq g.met.R.Rules.same_keys c.self.inside.store c.self.inside.revision c.self.inside.runs.items c.args.key None (subst (λ o. node_of g.R.Rules.queries o c.args.key ≡ c.args.at_node) (sym c.self.view_is) c.requires.numbered ∙ c.in-None.is)) c.in_ok-node-in-None.ensures.ok).unswept
+
+pub add-requires : goal.add-requires
+add-requires g c =
+    number_is g.R.Rules.queries g.R.Key.PartialEq.eq g.met.R.Rules.same_keys c.self.inside.store c.self.inside.revision c.self.inside.runs.items c.args.key None (subst (λ o. node_of g.R.Rules.queries o c.args.key ≡ c.args.at_node) (sym c.self.view_is) c.requires.numbered ∙ c.in-None.is)
