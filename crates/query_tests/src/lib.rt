@@ -3,12 +3,14 @@
 
 mod cells;
 mod pick;
+mod several;
 mod sheet;
 mod turns;
 
 pub use cells::{Cell, CellRules};
 pub use pick::{PickKey, PickRules};
-pub use sheet::{Edit, Shown, Swept, edit_all, sweep_after};
+pub use several::demand_all;
+pub use sheet::{Edit, Shown, Swept, demand_together, edit_all, sweep_after};
 pub use turns::{Between, Input, Outcome, Turn, play, sweep_between, sweep_once};
 
 #[cfg(test)]
@@ -256,6 +258,16 @@ mod tests {
             }
             None => assert_eq!(rt; left, 4),
         }
+    }
+
+    // The half, the diamond and the chain run once, whichever root reaches them.
+    #[test]
+    fn demands_of_a_revision_share_their_runs(rt: HostRuntime) {
+        let roots = [Cell::Top, Cell::Chain(2), Cell::Top, Cell::Chain(1)];
+        let runs = demand_together::<Brand>(rt.alloc(), Blank::new(1), &roots).expect(
+            &rt, "memory",
+        );
+        assert_eq!(rt; runs, 7);
     }
 
     struct Sweep {

@@ -3,6 +3,7 @@
 ghost use Rattle.std.specs.Prelude.{◌≡◌, ◌+◌, ◌<◌, ◌^◌, OnOk, length};
 
 use crate::cells::{Cell, CellRules};
+use crate::several::demand_all;
 use query_core::Graph;
 use std::alloc::{AllocError, Global};
 use std::sync::ledger::{Blank, Ledger};
@@ -81,6 +82,23 @@ pub fn edit_all<L: Ledger>(
     let mut steps = Steps::<L>::open(blank);
     let mut graph = Graph::new(alloc);
     make_edits(alloc, &mut graph, edits, &mut steps)
+}
+
+/// Sets the first input and demands these cells in one revision: how many of them and of what they read ran.
+pub fn demand_together<L: Ledger>(
+    alloc: Global,
+    blank: Blank,
+    roots: &[Cell],
+) -> Result<usize, AllocError>
+    requires name { blank.name ≡ L.name }
+    requires parts { blank.parts ≡ L.parts }
+    requires some { 0 < L.parts }
+{
+    let mut steps = Steps::<L>::open(blank);
+    let mut graph = Graph::new(alloc);
+    graph.set_input(Cell::Input(0), 4)?;
+    demand_all(&mut graph, &CellRules {}, roots, &mut steps)?;
+    Ok(graph.runs().len())
 }
 
 /// Makes the edits on a graph with no input set, sweeps with these roots, and makes the edits again.
