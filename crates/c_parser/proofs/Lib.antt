@@ -1,5 +1,6 @@
 mod Fronts
 mod Joins
+mod KindLemmas
 mod Marks
 mod Parsing
 mod Pushes

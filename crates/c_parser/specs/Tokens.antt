@@ -1,6 +1,8 @@
 -- The kinds of tokens of a unit, under names that are typedef names (ISO C11 6.4.1, 6.4.6, 6.7.8).
-use Rattle.std.specs.Prelude.{ℕ, List, [], ◌∷◌, map, bytes_eq, codes, if◌then◌else◌}
+use Rattle.std.specs.Prelude.{ℕ, Bool, List, [], ◌∷◌, map, bytes_eq, codes, if◌then◌else◌}
+use Rattle.std.specs.HashSet.{HashSet, contains_by}
 use Rattle.std.specs.List.{list_any}
+use denote.Ref.{Bor}
 use Rattle.tok_data.specs.declared.tokens.OutToken.{OutToken}
 use Rattle.tok_data.specs.declared.tokens.PpKind.{PpKind}
 use Rattle.tok_data.specs.declared.tokens.PpKind.TheVariants as pp
@@ -32,23 +34,32 @@ unfoldable pub mark_of : List ℕ → Kind
 mark_of = lookup marks
 
 -- of the keywords `sizeof` alone stands in an expression; an identifier that is a typedef name is no primary expression
-unfoldable pub word_of : List (List ℕ) → List ℕ → Kind
-word_of names text =
+unfoldable pub word_of : Bool → List ℕ → Kind
+word_of is_typedef text =
     if bytes_eq text (codes "sizeof") then SizeOf
     else (if is_keyword text then Other
-    else (if list_any (λ name. bytes_eq name text) names then TypeName else Identifier))
+    else (if is_typedef then TypeName else Identifier))
 
-abbrev pub pp_kind_of : List (List ℕ) → PpKind → List ℕ → Kind
-pp_kind_of names pp.Ident text = word_of names text
-pp_kind_of names pp.Number text = Constant
-pp_kind_of names pp.Char text = Constant
-pp_kind_of names pp.Str text = Text
-pp_kind_of names pp.Header text = Other
-pp_kind_of names pp.Punct text = mark_of text
-pp_kind_of names pp.Stray text = Other
+-- `is_typedef` says which identifiers are typedef names
+abbrev pub pp_kind_of : (List ℕ → Bool) → PpKind → List ℕ → Kind
+pp_kind_of is_typedef pp.Ident text = word_of (is_typedef text) text
+pp_kind_of is_typedef pp.Number text = Constant
+pp_kind_of is_typedef pp.Char text = Constant
+pp_kind_of is_typedef pp.Str text = Text
+pp_kind_of is_typedef pp.Header text = Other
+pp_kind_of is_typedef pp.Punct text = mark_of text
+pp_kind_of is_typedef pp.Stray text = Other
 
-abbrev pub kind_of : List (List ℕ) → OutToken → Kind
-kind_of names t = pp_kind_of names t.kind t.spelling
+abbrev pub kind_of : (List ℕ → Bool) → OutToken → Kind
+kind_of is_typedef t = pp_kind_of is_typedef t.kind t.spelling
+
+-- the text is one of the names
+abbrev pub is_among : List (List ℕ) → List ℕ → Bool
+is_among names text = list_any (λ name. bytes_eq name text) names
+
+-- the set that the code keeps of them has the text
+unfoldable pub is_kept : {S : Type 0} → HashSet (Bor (List ℕ)) S → List ℕ → Bool
+is_kept set text = contains_by (λ k. bytes_eq text k.now) set
 
 abbrev pub kinds_of : List (List ℕ) → List OutToken → List Kind
-kinds_of names tokens = map (kind_of names) tokens
+kinds_of names tokens = map (kind_of (is_among names)) tokens

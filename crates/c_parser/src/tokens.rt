@@ -1,12 +1,13 @@
 // The kinds of the tokens of a unit.
-ghost use Rattle.std.specs.Prelude.{◌≡◌, ◌||◌, IfOk, bytes_eq, option_map, if◌then◌else◌};
-ghost use Rattle.std.specs.List.{list_any, find};
+ghost use Rattle.std.specs.Prelude.{◌≡◌, ℕ, List, IfOk, map, bytes_eq, option_map};
+ghost use Rattle.std.specs.List.{find};
 ghost use Rattle.c_parser.specs.Tokens as spec;
 
 use crate::kinds::Kind;
 use crate::names::NameSet;
 use shared_text::Name;
 use std::alloc::{AllocError, Global};
+use std::collections::HashSet;
 use tok_data::{OutToken, PpKind, is_keyword};
 
 static MARKS: [(&str, Kind); 48] = [
@@ -75,15 +76,20 @@ fn mark_of(text: &str) -> Kind
     }
 }
 
-fn is_typedef(names: &[Name], text: &str) -> bool
-    ensures { result ≡ list_any (λ name. bytes_eq name text.now) names.now }
+// The typedef names, looked up at a constant cost.
+fn typedefs_of<'a>(alloc: Global, names: &'a [Name]) -> Result<HashSet<&'a str>, AllocError>
+    ensures { IfOk result (λ set. (text : List ℕ) → spec.is_kept set text ≡ spec.is_among names.now text) }
 {
-    names.iter().any(|name| name.as_str() == text)
+    let mut typedefs = HashSet::new(alloc);
+    for name in names {
+        typedefs.insert(name.as_str())?;
+    }
+    Ok(typedefs)
 }
 
-#[tactic(auto, unfolding(crate::specs::Tokens::word_of))]
-fn word_of(names: &[Name], text: &str) -> Kind
-    ensures { result ≡ spec.word_of names.now text.now }
+#[tactic(auto, unfolding(crate::specs::Tokens::word_of, crate::specs::Tokens::is_kept))]
+fn word_of(typedefs: &HashSet<&str>, text: &str) -> Kind
+    ensures { result ≡ spec.word_of (spec.is_kept typedefs.now text.now) text.now }
 {
     if text == "sizeof" {
         return Kind::SizeOf;
@@ -91,18 +97,18 @@ fn word_of(names: &[Name], text: &str) -> Kind
     if is_keyword(text) {
         return Kind::Other;
     }
-    if is_typedef(names, text) {
+    if typedefs.contains(text) {
         return Kind::TypeName;
     }
     Kind::Identifier
 }
 
-fn kind_of(names: &[Name], token: &OutToken) -> Kind
-    ensures { result ≡ spec.kind_of names.now token.now }
+fn kind_of(typedefs: &HashSet<&str>, token: &OutToken) -> Kind
+    ensures { result ≡ spec.kind_of (spec.is_kept typedefs.now) token.now }
 {
     let text = token.spelling.as_str();
     match token.kind {
-        PpKind::Ident => word_of(names, text),
+        PpKind::Ident => word_of(typedefs, text),
         PpKind::Number => Kind::Constant,
         PpKind::Char => Kind::Constant,
         PpKind::Str => Kind::Text,
@@ -112,6 +118,21 @@ fn kind_of(names: &[Name], token: &OutToken) -> Kind
     }
 }
 
+fn kinds_by(
+    alloc: Global,
+    tokens: &[OutToken],
+    typedefs: &HashSet<&str>,
+) -> Result<Vec<Kind>, AllocError>
+    ensures { IfOk result (λ v. v.items ≡ map (spec.kind_of (spec.is_kept typedefs.now)) tokens.now) }
+{
+    let mut out = Vec::new(alloc);
+    for token in tokens {
+        let kind = kind_of(typedefs, token);
+        out.push(kind)?;
+    }
+    Ok(out)
+}
+
 pub(crate) fn kinds_of(
     alloc: Global,
     tokens: &[OutToken],
@@ -119,11 +140,7 @@ pub(crate) fn kinds_of(
 ) -> Result<Vec<Kind>, AllocError>
     ensures { IfOk result (λ v. v.items ≡ spec.kinds_of names.now tokens.now) }
 {
-    let names = names.as_slice();
-    let mut out = Vec::new(alloc);
-    for token in tokens {
-        let kind = kind_of(names, token);
-        out.push(kind)?;
-    }
-    Ok(out)
+    let typedefs = typedefs_of(alloc, names.as_slice())?;
+    let kinds = kinds_by(alloc, tokens, &typedefs)?;
+    Ok(kinds)
 }

@@ -1,0 +1,6 @@
+use Rattle.std.proofs.Common.{◌≡◌, take, map}
+use Rattle.c_parser.specs.Tokens.{kind_of, is_kept}
+use Rattle.c_parser.proofs.tokens.kinds_by.Given as goal
+
+abbrev pub invariant-loop-token : goal.invariant-loop-token
+invariant-loop-token l = l.out.items ≡ map (kind_of (is_kept l.typedefs)) (take l.token-index l.tokens)

@@ -1,0 +1,14 @@
+use Rattle.std.proofs.Common.{ap, ◌∙◌}
+use Rattle.c_parser.specs.Tokens.{kinds_of, is_among, is_kept}
+use Rattle.c_parser.proofs.KindLemmas.{same_kinds}
+use Rattle.c_parser.proofs.tokens.kinds_of.Goals as goal
+
+pub returns : goal.returns
+returns c =
+    c.in_ok-kinds.ensures
+    ∙ same_kinds
+    (is_kept c.in_ok-typedefs.typedefs)
+    (is_among c.as_slice.result.now)
+    c.in_ok-typedefs.ensures
+    c.args.tokens.now
+    ∙ ap (λ names. kinds_of names c.args.tokens.now) c.as_slice.ensures
