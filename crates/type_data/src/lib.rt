@@ -3,8 +3,14 @@
 
 mod basics;
 mod integers;
+mod names;
+mod qualifiers;
+mod types;
 mod values;
 
 pub use basics::Basic;
 pub use integers::IntTy;
+pub use names::{ItemName, TagId};
+pub use qualifiers::{Extent, Proto, Qual};
+pub use types::{CType, Node, ParamList, Params};
 pub use values::Value;
