@@ -3,6 +3,8 @@
 
 mod basics;
 mod integers;
+mod judged;
+mod members;
 mod names;
 mod qualifiers;
 mod types;
@@ -10,6 +12,8 @@ mod values;
 
 pub use basics::Basic;
 pub use integers::IntTy;
+pub use judged::{Constancy, Fault, Judged, Place};
+pub use members::{Layout, Member, Space, TagInfo, TagKind};
 pub use names::{ItemName, TagId};
 pub use qualifiers::{Extent, Proto, Qual};
 pub use types::{CType, Node, ParamList, Params};

@@ -1,6 +1,9 @@
 // Copies of types, which share their parts, and whether two types are the same.
 ghost use Rattle.std.specs.Prelude.{◌≡◌, IfOk};
+ghost use Rattle.std.specs.Cmp;
 ghost use Rattle.type_data.specs.Same;
+ghost use Rattle.type_data.specs.Same.{same_type, same_params};
+ghost use Rattle.type_data.specs.SameLaws.{types_equiv, params_equiv};
 
 use super::{CType, Node, ParamList, Params};
 use std::alloc::AllocError;
@@ -70,4 +73,32 @@ impl Params {
             _ => false,
         }
     }
+}
+
+impl PartialEq for CType {
+    ghost eq = { same_type };
+
+    ghost laws = { Cmp.partial_equiv_from_equiv types_equiv };
+
+    fn eq(&self, other: &Self) -> bool {
+        self.same(other)
+    }
+}
+
+impl Eq for CType {
+    ghost laws = { types_equiv };
+}
+
+impl PartialEq for Params {
+    ghost eq = { same_params };
+
+    ghost laws = { Cmp.partial_equiv_from_equiv params_equiv };
+
+    fn eq(&self, other: &Self) -> bool {
+        self.same(other)
+    }
+}
+
+impl Eq for Params {
+    ghost laws = { params_equiv };
 }
