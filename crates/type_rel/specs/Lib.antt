@@ -1,3 +1,4 @@
 pub mod Arithmetic
 pub mod Assignable
 pub mod Compatible
+pub mod Composite

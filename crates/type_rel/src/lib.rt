@@ -4,7 +4,9 @@
 mod arithmetic;
 mod assignment;
 mod compatibility;
+mod composition;
 
 pub use arithmetic::{promote, usual};
 pub use assignment::assignable;
 pub use compatibility::compatible;
+pub use composition::composite;
