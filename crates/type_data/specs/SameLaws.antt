@@ -26,12 +26,12 @@ proto_decides a b = search rules
 pub qual_decides : (a b : Qual) → Decides (same_qual a b) (a ≡ b)
 qual_decides a b = search rules
 
-both : (p q : Bool) → (p && q) ≡ true → (p ≡ true) × (q ≡ true)
+pub both : (p q : Bool) → (p && q) ≡ true → (p ≡ true) × (q ≡ true)
 both true true h = (refl, refl)
 both true false h = (refl, h)
 both false q h = (h, let bad : ⊥ = cc in absurd bad)
 
-join : (p q : Bool) → p ≡ true → q ≡ true → (p && q) ≡ true
+pub join : (p q : Bool) → p ≡ true → q ≡ true → (p && q) ≡ true
 join p q h k = ap (λ x. x && q) h ∙ k
 
 mutual

@@ -2,6 +2,7 @@
 use crate::qualifiers::Qual;
 use crate::types::CType;
 use crate::values::Value;
+use shared_list::Listing;
 use shared_text::Name;
 
 /// What an expression designates (ISO C11 6.3.2.1).
@@ -46,6 +47,6 @@ pub struct Judged {
 pub struct Fault {
     pub rule: u16,
     pub at: u32,
-    pub names: Vec<Name>,
-    pub types: Vec<CType>,
+    pub names: Listing<Name>,
+    pub types: Listing<CType>,
 }

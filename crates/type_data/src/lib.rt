@@ -4,17 +4,21 @@
 mod basics;
 mod integers;
 mod judged;
+mod layouts;
 mod members;
 mod names;
 mod qualifiers;
+mod tags;
 mod types;
 mod values;
 
 pub use basics::Basic;
 pub use integers::IntTy;
 pub use judged::{Constancy, Fault, Judged, Place};
-pub use members::{Layout, Member, Space, TagInfo, TagKind};
+pub use layouts::Layout;
+pub use members::{Member, Space, TagInfo, TagKind};
 pub use names::{ItemName, TagId};
 pub use qualifiers::{Extent, Proto, Qual};
+pub use tags::Tags;
 pub use types::{CType, Node, ParamList, Params};
 pub use values::Value;

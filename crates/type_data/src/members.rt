@@ -1,8 +1,10 @@
-// Members and layouts of structures, unions and enumerations (ISO C11 6.7.2.1, 6.7.2.2), and name spaces (6.2.3).
+// Members of structures, unions and enumerations (ISO C11 6.7.2.1, 6.7.2.2), and name spaces (6.2.3).
+use crate::layouts::Layout;
 use crate::names::TagId;
 use crate::qualifiers::Qual;
 use crate::types::CType;
 use crate::values::Value;
+use shared_list::Listing;
 use shared_text::Name;
 
 /// A member of a structure or union, or an enumerator.
@@ -19,17 +21,6 @@ pub struct Member {
     pub value: Option<Value>,
 }
 
-/// Where the members of a structure or union stand.
-#[derive(PartialEq, Eq, Drop)]
-pub struct Layout {
-    /// In bytes, at most 2^60-1.
-    pub size: u64,
-    /// In bytes, at least 1.
-    pub align: u64,
-    /// The place of each member, in bits from the front.
-    pub offsets: Vec<u64>,
-}
-
 /// What a tag names (ISO C11 6.2.3).
 #[derive(Clone, Copy, Debug, PartialEq, Eq, Hash, Drop)]
 pub enum TagKind {
@@ -44,7 +35,7 @@ pub struct TagInfo {
     pub kind: TagKind,
     pub name: Option<Name>,
     /// The members, where it is complete.
-    pub members: Option<Vec<Member>>,
+    pub members: Option<Listing<Member>>,
     pub layout: Option<Layout>,
 }
 

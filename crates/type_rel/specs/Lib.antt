@@ -2,3 +2,4 @@ pub mod Arithmetic
 pub mod Assignable
 pub mod Compatible
 pub mod Composite
+pub mod Sizes

@@ -147,9 +147,17 @@ fn usual_integer(a: IntTy, b: IntTy) -> IntTy
     ensures { result ≡ Arithmetic.usual_integer a b }
 {
     if a.is_signed() {
-        return if b.is_signed() { greater(a, b) } else { mixed(a, b) };
+        return if b.is_signed() {
+            greater(a, b)
+        } else {
+            mixed(a, b)
+        };
     }
-    if b.is_signed() { mixed(b, a) } else { greater(a, b) }
+    if b.is_signed() {
+        mixed(b, a)
+    } else {
+        greater(a, b)
+    }
 }
 
 fn precision(basic: Basic) -> u8

@@ -57,7 +57,9 @@ pub fn compatible(a: &CType, b: &CType) -> bool
         (Node::Enumerated(a), Node::Enumerated(b)) => a == b,
         (Node::Tagged(a), Node::Tagged(b)) => a == b,
         (Node::Pointer(a, q), Node::Pointer(b, r)) => q == r && compatible(a, b),
-        (Node::Array(a, q, m), Node::Array(b, r, n)) => q == r && agrees(*m, *n) && compatible(a, b),
+        (Node::Array(a, q, m), Node::Array(b, r, n)) => q == r
+            && agrees(*m, *n)
+            && compatible(a, b),
         (Node::Function(a, ps, p), Node::Function(b, qs, q)) => {
             compatible(a, b) && fitting(*p, *q, ps, qs)
         }

@@ -5,8 +5,10 @@ mod arithmetic;
 mod assignment;
 mod compatibility;
 mod composition;
+mod sizes;
 
 pub use arithmetic::{promote, usual};
 pub use assignment::assignable;
 pub use compatibility::compatible;
 pub use composition::composite;
+pub use sizes::size_align;

@@ -1,0 +1,193 @@
+// Types in postfix notation: each word takes its parts from those that were read before it.
+use crate::words::{basic_named, constancy_named, extent_named, proto_named, qual_named};
+use shared_text::Name;
+use std::alloc::{AllocError, Global};
+use type_data::{CType, Constancy, ItemName, Judged, Node, ParamList, Params, Place, Qual, TagId};
+use type_rel::{assignable, compatible, composite, promote, usual};
+
+/// What was read.
+#[derive(Drop)]
+pub struct Notes {
+    types: Vec<CType>,
+    params: Vec<Params>,
+    width: Option<u8>,
+    constant: Constancy,
+}
+
+fn tag(alloc: Global, number: u32) -> Result<TagId, AllocError> {
+    let label = Name::from_str(alloc, "")?;
+    let item = ItemName { label, nth: 0 };
+    Ok(TagId { item, at: number })
+}
+
+impl Notes {
+    pub fn new(alloc: Global) -> Notes {
+        Notes {
+            types: Vec::new(alloc),
+            params: Vec::new(alloc),
+            width: None,
+            constant: Constancy::No,
+        }
+    }
+
+    fn read_tag(&mut self, alloc: Global, number: &str, is_enum: bool) -> Result<bool, AllocError> {
+        let Ok(number) = number.parse::<u32>() else {
+            return Ok(false);
+        };
+        let id = tag(alloc, number)?;
+        let node = if is_enum {
+            Node::Enumerated(id)
+        } else {
+            Node::Tagged(id)
+        };
+        self.types.push(CType::of(node))?;
+        Ok(true)
+    }
+
+    fn read_array(&mut self, alloc: Global, of: CType, word: &str) -> Result<bool, AllocError> {
+        let Some((quals, extent)) = word.split_once(':') else {
+            return Ok(false);
+        };
+        let Some(extent) = extent_named(extent) else {
+            return Ok(false);
+        };
+        let array = CType::array(alloc, of, qual_named(quals), extent)?;
+        self.types.push(array)?;
+        Ok(true)
+    }
+
+    fn read_param(&mut self, alloc: Global, ty: CType, qual: Qual) -> Result<bool, AllocError> {
+        let Some(more) = self.params.pop() else {
+            return Ok(false);
+        };
+        let params = Params::first(alloc, ty, qual, more)?;
+        self.params.push(params)?;
+        Ok(true)
+    }
+
+    fn read_function(&mut self, alloc: Global, of: CType, word: &str) -> Result<bool, AllocError> {
+        let Some(params) = self.params.pop() else {
+            return Ok(false);
+        };
+        let Some(proto) = proto_named(word) else {
+            return Ok(false);
+        };
+        let function = CType::function(alloc, of, params, proto)?;
+        self.types.push(function)?;
+        Ok(true)
+    }
+
+    // A word that takes a type.
+    fn read_around(&mut self, alloc: Global, word: &str) -> Result<bool, AllocError> {
+        let Some(part) = self.types.pop() else {
+            return Ok(false);
+        };
+        if let Some(quals) = word.strip_prefix("ptr:") {
+            let pointer = CType::pointer(alloc, part, qual_named(quals))?;
+            self.types.push(pointer)?;
+            return Ok(true);
+        }
+        if let Some(rest) = word.strip_prefix("arr:") {
+            return self.read_array(alloc, part, rest);
+        }
+        if let Some(quals) = word.strip_prefix("param:") {
+            return self.read_param(alloc, part, qual_named(quals));
+        }
+        match word.strip_prefix("fn:") {
+            Some(rest) => self.read_function(alloc, part, rest),
+            None => Ok(false),
+        }
+    }
+
+    // A word that says what a call reads beside types.
+    fn read_beside(&mut self, word: &str) -> bool {
+        if let Some(width) = word.strip_prefix("width:") {
+            self.width = match width.parse::<u8>() {
+                Ok(width) => Some(width),
+                Err(_) => None,
+            };
+            return true;
+        }
+        if let Some(constant) = word.strip_prefix("constant:") {
+            self.constant = constancy_named(constant);
+            return true;
+        }
+        false
+    }
+
+    /// Whether the word is one of the notation's.
+    pub fn word(&mut self, alloc: Global, word: &str) -> Result<bool, AllocError> {
+        if let Some(basic) = basic_named(word) {
+            self.types.push(CType::of(Node::Basic(basic)))?;
+            return Ok(true);
+        }
+        if word == "Void" {
+            self.types.push(CType::of(Node::Void))?;
+            return Ok(true);
+        }
+        if word == "none" {
+            self.params.push(Params::of(ParamList::Empty))?;
+            return Ok(true);
+        }
+        if let Some(number) = word.strip_prefix("tag:") {
+            return self.read_tag(alloc, number, false);
+        }
+        if let Some(number) = word.strip_prefix("enum:") {
+            return self.read_tag(alloc, number, true);
+        }
+        if self.read_beside(word) {
+            return Ok(true);
+        }
+        self.read_around(alloc, word)
+    }
+
+    // The answer of a call on two types, or on one and the type of a value.
+    fn of_two(&mut self, call: &str) -> Option<bool> {
+        let second = self.types.pop()?;
+        let first = self.types.pop()?;
+        if call == "compatible" {
+            return Some(compatible(&first, &second));
+        }
+        let from = Judged {
+            ty: second,
+            qual: qual_named(""),
+            place: Place::Value,
+            constant: self.constant,
+        };
+        Some(assignable(&first, &from))
+    }
+
+    // Whether a call on two types answers a third.
+    fn of_three(&mut self, alloc: Global, call: &str) -> Result<Option<bool>, AllocError> {
+        let (Some(wanted), Some(second), Some(first)) = (
+            self.types.pop(),
+            self.types.pop(),
+            self.types.pop(),
+        ) else {
+            return Ok(None);
+        };
+        let made = if call == "composite" {
+            composite(alloc, &first, &second)?
+        } else {
+            usual(&first, &second)
+        };
+        Ok(Some(made == wanted))
+    }
+
+    /// The answer of a call with what was read, or whether it answers the last type that was read.
+    pub fn answer(&mut self, alloc: Global, call: &str) -> Result<Option<bool>, AllocError> {
+        if call == "compatible" || call == "assignable" {
+            return Ok(self.of_two(call));
+        }
+        if call == "composite" || call == "usual" {
+            return self.of_three(alloc, call);
+        }
+        let (Some(wanted), Some(first)) = (self.types.pop(), self.types.pop()) else {
+            return Ok(None);
+        };
+        if call == "promote" {
+            return Ok(Some(promote(&first, self.width) == wanted));
+        }
+        Ok(None)
+    }
+}
