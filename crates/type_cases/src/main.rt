@@ -1,8 +1,9 @@
 // Types and their relations, case by case: reads calls from standard input, one a line, and prints the answer of each behind
-// its line. Types are in postfix notation. `promote`, `usual` and `composite` have the wanted answer as the last type, and
-// print whether it is the one.
+// its line. Types are in postfix notation. `promote`, `usual` and `composite` have the wanted answer as the last type,
+// `layout` and `size_align` as words of their own, and these print whether it is the one.
 #![tactic(auto)]
 
+mod laying;
 mod notation;
 mod words;
 

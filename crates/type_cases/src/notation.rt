@@ -1,8 +1,8 @@
 // Types in postfix notation: each word takes its parts from those that were read before it.
+use crate::laying::{Laying, tag};
 use crate::words::{basic_named, constancy_named, extent_named, proto_named, qual_named};
-use shared_text::Name;
 use std::alloc::{AllocError, Global};
-use type_data::{CType, Constancy, ItemName, Judged, Node, ParamList, Params, Place, Qual, TagId};
+use type_data::{CType, Constancy, Judged, Node, ParamList, Params, Place, Qual};
 use type_rel::{assignable, compatible, composite, promote, usual};
 
 /// What was read.
@@ -12,12 +12,7 @@ pub struct Notes {
     params: Vec<Params>,
     width: Option<u8>,
     constant: Constancy,
-}
-
-fn tag(alloc: Global, number: u32) -> Result<TagId, AllocError> {
-    let label = Name::from_str(alloc, "")?;
-    let item = ItemName { label, nth: 0 };
-    Ok(TagId { item, at: number })
+    laying: Laying,
 }
 
 impl Notes {
@@ -27,6 +22,7 @@ impl Notes {
             params: Vec::new(alloc),
             width: None,
             constant: Constancy::No,
+            laying: Laying::new(alloc),
         }
     }
 
@@ -93,6 +89,9 @@ impl Notes {
         if let Some(quals) = word.strip_prefix("param:") {
             return self.read_param(alloc, part, qual_named(quals));
         }
+        if let Some(rest) = word.strip_prefix("member:") {
+            return self.laying.member(part, rest);
+        }
         match word.strip_prefix("fn:") {
             Some(rest) => self.read_function(alloc, part, rest),
             None => Ok(false),
@@ -125,6 +124,10 @@ impl Notes {
             self.types.push(CType::of(Node::Void))?;
             return Ok(true);
         }
+        if word == "Bad" {
+            self.types.push(CType::of(Node::Bad))?;
+            return Ok(true);
+        }
         if word == "none" {
             self.params.push(Params::of(ParamList::Empty))?;
             return Ok(true);
@@ -135,7 +138,7 @@ impl Notes {
         if let Some(number) = word.strip_prefix("enum:") {
             return self.read_tag(alloc, number, true);
         }
-        if self.read_beside(word) {
+        if self.read_beside(word) || self.laying.word(alloc, word)? {
             return Ok(true);
         }
         self.read_around(alloc, word)
@@ -155,6 +158,11 @@ impl Notes {
             constant: self.constant,
         };
         Some(assignable(&first, &from))
+    }
+
+    fn of_size(&mut self) -> Option<bool> {
+        let ty = self.types.pop()?;
+        Some(self.laying.is_size(&ty))
     }
 
     // Whether a call on two types answers a third.
@@ -181,6 +189,12 @@ impl Notes {
         }
         if call == "composite" || call == "usual" {
             return self.of_three(alloc, call);
+        }
+        if call == "layout" {
+            return Ok(Some(self.laying.is_layout(alloc)?));
+        }
+        if call == "size_align" {
+            return Ok(self.of_size());
         }
         let (Some(wanted), Some(first)) = (self.types.pop(), self.types.pop()) else {
             return Ok(None);

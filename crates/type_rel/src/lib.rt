@@ -5,10 +5,12 @@ mod arithmetic;
 mod assignment;
 mod compatibility;
 mod composition;
+mod placement;
 mod sizes;
 
 pub use arithmetic::{promote, usual};
 pub use assignment::assignable;
 pub use compatibility::compatible;
 pub use composition::composite;
+pub use placement::layout;
 pub use sizes::size_align;
