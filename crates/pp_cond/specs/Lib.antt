@@ -1,0 +1,8 @@
+pub mod Marks
+pub mod Numbers
+pub mod Grammar
+pub mod Symbols
+pub mod Defined
+pub mod Conditions
+pub mod Frames
+pub mod Machine
