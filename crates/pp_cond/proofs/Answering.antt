@@ -1,5 +1,5 @@
 -- What a reader finds is what the grammar says.
-use Rattle.std.proofs.Common.{inl, inr, ◌≡◌, refl, ap, sym, ◌∙◌, subst, ◌⊎◌, arith, true, false, List, [], Option, Some, None}
+use Rattle.std.proofs.Common.{inl, inr, ◌≡◌, refl, ap, sym, ◌∙◌, subst, ◌⊎◌, arith, Bool, true, false, List, [], Option, Some, None, if◌then◌else◌}
 use Rattle.tok_data.specs.declared.faults.PpFault.{PpFault}
 use Rattle.tok_data.specs.declared.tokens.OutToken.{OutToken}
 use Rattle.macro_expand.specs.Expansion.{Definitions}
@@ -7,10 +7,12 @@ use Rattle.pp_cond.specs.declared.numbers.Number.{Number}
 use Rattle.pp_cond.specs.declared.symbols.Symbol.{Symbol}
 use Rattle.pp_cond.specs.declared.types.Truth.{Truth}
 use Rattle.pp_cond.specs.declared.types.Truth.TheVariants.{Bad}
-use Rattle.pp_cond.specs.Conditions.{IsTruth, IsDecided, truth_of, has_error}
+use Rattle.tok_data.specs.declared.sources.TokId.{TokId}
+use Rattle.macro_expand.specs.declared.types.Expanded.{Expanded}
+use Rattle.pp_cond.specs.Conditions.{IsTruth, IsDecided, IsAnswer, truth_of, truth_by, truth, has_error, found}
 use Rattle.pp_cond.specs.Defined.{symbols}
 use Rattle.pp_cond.specs.Grammar.{Tree, Constant_of, Paren_of, Unary_of, Binary_of, Choice_of, Comma_of, spell, Proper, IsExpression, value}
-use Rattle.pp_cond.specs.Machine.{run, at_first, found}
+use Rattle.pp_cond.specs.Machine.{run, at_first}
 use Rattle.pp_cond.proofs.Reading.{tree_is_read}
 use Rattle.pp_cond.proofs.Finding.{Whole, runs_whole}
 
@@ -44,13 +46,17 @@ says ss = record {
 clash : true ≡ false → ⊥
 clash e = cc
 
-pub decides_error : (table : Definitions) → (faults : List PpFault) → (tokens : List OutToken) → has_error faults ≡ true
-    → IsDecided table faults tokens Bad
-decides_error table faults tokens h = record { bad = λ e. refl; valued = λ e. absurd (clash (sym h ∙ e)) }
-
-pub decides_value : (table : Definitions) → (faults : List PpFault) → (tokens : List OutToken) → (truth : Truth)
-    → has_error faults ≡ false → truth ≡ found (run at_first (symbols table tokens)) → IsDecided table faults tokens truth
-decides_value table faults tokens truth h e = record {
-  bad = λ f. absurd (clash (sym f ∙ h));
-  valued = λ f. subst (λ x. IsTruth (symbols table tokens) x) (sym e) (says (symbols table tokens));
+decided : (table : Definitions) → (faults : List PpFault) → (tokens : List OutToken) → (b : Bool) → has_error faults ≡ b
+    → IsDecided table faults tokens (if b then Bad else found (run at_first (symbols table tokens)))
+decided table faults tokens true h = record { bad = λ e. refl; valued = λ e. absurd (clash (sym h ∙ e)) }
+decided table faults tokens false h = record {
+  bad = λ e. absurd (clash (sym e ∙ h));
+  valued = λ e. says (symbols table tokens);
 }
+
+answer_by : (table : Definitions) → (e : Expanded) → (asked : Option TokId) → IsAnswer table e asked (truth_by table e asked)
+answer_by table e (Some site) = refl
+answer_by table e None = decided table e.faults e.tokens (has_error e.faults) refl
+
+pub answers : (table : Definitions) → (e : Expanded) → (t : Truth) → t ≡ truth table e → IsAnswer table e e.asked t
+answers table e t h = subst (λ x. IsAnswer table e e.asked x) (sym h) (answer_by table e e.asked)

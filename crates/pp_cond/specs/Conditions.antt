@@ -15,6 +15,8 @@ use Rattle.pp_cond.specs.declared.types.Truth.TheVariants.{Yes, No, Bad, Asks}
 use Rattle.pp_cond.specs.declared.symbols.Symbol.{Symbol}
 use Rattle.pp_cond.specs.Defined.{prepared, symbols, occurrences}
 use Rattle.pp_cond.specs.Grammar.{Tree, IsExpression, value}
+use Rattle.pp_cond.specs.declared.numbers.Number.{Number}
+use Rattle.pp_cond.specs.Machine.{run, at_first}
 
 abbrev pub truth_of : Value → Truth
 truth_of (Known z) = if int_eq z (pos 0) then No else Yes
@@ -25,11 +27,27 @@ truth_of (Faulty rule) = Bad
 abbrev pub has_error : List PpFault → Bool
 has_error faults = list_any (λ fault. not (fault.rule == 211)) faults
 
+-- of what is read as a value; by the law `Meaning` that is the value of the grammar
+abbrev pub found : Option Number → Truth
+found None = Bad
+found (Some v) = truth_of v.value
+
 -- 6.10.1p3, p4, 6.6: the truth of symbols is that of the value of the constant expression that they spell, and Bad where
 -- they spell none
 pub record IsTruth (symbols : List Symbol) (truth : Truth) : Type 0 where
   pub only : (t : Tree) → IsExpression symbols t → truth ≡ truth_of (value t).value
   pub otherwise : ((t : Tree) × IsExpression symbols t) ⊎ (truth ≡ Bad)
+
+abbrev pub Meaning : Type 0
+Meaning = (symbols : List Symbol) → IsTruth symbols (found (run at_first symbols))
+
+-- what is left after the expansion is looked at where that has no error, and where no line is wanted
+abbrev pub truth_by : Definitions → Expanded → Option TokId → Truth
+truth_by table e (Some site) = Asks site
+truth_by table e None = if has_error e.faults then Bad else found (run at_first (symbols table e.tokens))
+
+abbrev pub truth : Definitions → Expanded → Truth
+truth table e = truth_by table e e.asked
 
 -- what is left after the expansion is looked at where that has no error
 pub record IsDecided (table : Definitions) (faults : List PpFault) (tokens : List OutToken) (truth : Truth) : Type 0 where

@@ -3,6 +3,6 @@ pub mod Numbers
 pub mod Grammar
 pub mod Symbols
 pub mod Defined
-pub mod Conditions
 pub mod Frames
 pub mod Machine
+pub mod Conditions

@@ -13,9 +13,6 @@ use Rattle.pp_cond.specs.declared.symbols.Symbol.{Symbol}
 use Rattle.pp_cond.specs.declared.symbols.Symbol.TheVariants as symbol
 use Rattle.pp_cond.specs.Marks.{level_of, is_prefix}
 use Rattle.pp_cond.specs.Frames.{reduced}
-use Rattle.pp_cond.specs.declared.types.Truth.{Truth}
-use Rattle.pp_cond.specs.declared.types.Truth.TheVariants.{Bad}
-use Rattle.pp_cond.specs.Conditions.{truth_of}
 
 abbrev pub waits : Frame → List Frame → Reader
 waits f fs = record { frames = f ∷ fs; at = Start }
@@ -115,7 +112,3 @@ at_first = record { frames = []; at = Start }
 abbrev pub run : Reader → List Symbol → Option Number
 run r [] = finished r
 run r (s ∷ ss) = run (step s r) ss
-
-abbrev pub found : Option Number → Truth
-found None = Bad
-found (Some v) = truth_of v.value

@@ -1,5 +1,5 @@
 // A condition as a whole.
-ghost use Rattle.std.specs.Prelude.{◌≡◌, ◌++◌, option_map, IfOk, true, false};
+ghost use Rattle.std.specs.Prelude.{◌≡◌, ◌++◌, option_map, IfOk, true, false, if◌then◌else◌};
 ghost use Rattle.std.specs.List.{list_any};
 ghost use Rattle.std.specs.FinMap as map;
 ghost use Rattle.pp_cond.specs.Conditions as spec;
@@ -66,7 +66,7 @@ fn has_error(faults: &[PpFault]) -> bool
 }
 
 fn found(value: Option<Number>) -> Truth
-    ensures { result ≡ machine.found value }
+    ensures { result ≡ spec.found value }
 {
     match value {
         Some(number) => truth_of(number.value),
@@ -81,7 +81,7 @@ fn decided(
     faults: &[PpFault],
     tokens: &[OutToken],
 ) -> Result<Truth, AllocError>
-    ensures { IfOk result (λ truth. spec.IsDecided (map.get table.now) faults.now tokens.now truth) }
+    ensures { IfOk result (λ truth. truth ≡ (if spec.has_error faults.now then Truth.Bad else spec.found (machine.run machine.at_first (reading.symbols (map.get table.now) tokens.now)))) }
 {
     if has_error(faults) {
         return Ok(Truth::Bad);
@@ -113,7 +113,7 @@ fn told(
     tokens: &[OutToken],
     expanded: Expanded,
 ) -> Result<Cond, AllocError>
-    ensures truth { IfOk result (λ c. spec.IsAnswer (map.get table.now) expanded expanded.asked c.truth) }
+    ensures truth { IfOk result (λ c. c.truth ≡ spec.truth (map.get table.now) expanded) }
     ensures used { IfOk result (λ c. c.used ≡ expanded.used) }
     ensures macros { IfOk result (λ c. c.macros ≡ spec.macros (map.get table.now) tokens.now expanded expanded.asked) }
 {
@@ -156,11 +156,13 @@ pub fn condition(
     lines: &[(TokId, u32)],
     budget: u32,
 ) -> Result<Cond, AllocError>
-    ensures truth { IfOk result (λ c. let e = spec.expansion (map.get table.now) lines.now budget tokens.now in spec.IsAnswer (map.get table.now) e e.asked c.truth) }
+    ensures truth { IfOk result (λ c. c.truth ≡ spec.truth (map.get table.now) (spec.expansion (map.get table.now) lines.now budget tokens.now)) }
+    ensures meaning { IfOk result (λ c. let e = spec.expansion (map.get table.now) lines.now budget tokens.now in spec.IsAnswer (map.get table.now) e e.asked c.truth) }
     ensures used { IfOk result (λ c. c.used ≡ (spec.expansion (map.get table.now) lines.now budget tokens.now).used) }
     ensures macros { IfOk result (λ c. let e = spec.expansion (map.get table.now) lines.now budget tokens.now in c.macros ≡ spec.macros (map.get table.now) tokens.now e e.asked) }
 {
     let written = prepared(alloc, table, tokens)?;
     let expanded = expand(alloc, written.as_slice(), table, lines, budget)?;
-    told(alloc, table, tokens, expanded)
+    let cond = told(alloc, table, tokens, expanded)?;
+    Ok(cond)
 }

@@ -4,6 +4,7 @@
 mod deciding;
 mod defined;
 mod frames;
+mod laws;
 mod marks;
 mod numbers;
 mod occurrences;
@@ -12,4 +13,5 @@ mod symbols;
 mod types;
 
 pub use deciding::condition;
+pub use laws::conditions_mean;
 pub use types::{Cond, Truth};
