@@ -30,6 +30,7 @@ past_is (suc skip) (c ∷ cs) = past_is skip cs
 
 limit_most : (p : Prefix) → limit p ≤ 4294967296
 limit_most prefix.Narrow = omega arith
+limit_most prefix.Utf8 = omega arith
 limit_most prefix.Char16 = omega arith
 limit_most prefix.Char32 = omega arith
 limit_most prefix.Wide = omega arith
@@ -170,49 +171,57 @@ pub drop_more : (n c : ℕ) (cs : List ℕ) → drop (2 + n - 1) (c ∷ cs) ≡ 
 drop_more n c cs = let e : 2 + n - 1 ≡ suc n = omega arith in rw e refl
 
 -- a c-char that neither closes a constant nor ends its line
-unfoldable IsInside : CChar → Type 0
-IsInside (Plain c) = ((c == 39) ≡ false) × (is_new_line c ≡ false)
-IsInside (Escape n) = Unit {0}
-IsInside Stray = Unit {0}
+unfoldable IsInside : ℕ → CChar → Type 0
+IsInside q (Plain c) = ((c == q) ≡ false) × (is_new_line c ≡ false)
+IsInside q (Escape n) = Unit {0}
+IsInside q Stray = Unit {0}
 
 if_both : {A : Type 0} (P : A → Type 0) (b : Bool) (x y : A) → P x → P y → P (if b then x else y)
 if_both P true x y p q = p
 if_both P false x y p q = q
 
-plain_is : (c : ℕ) → (c == 39) ≡ false → is_new_line c ≡ false → IsInside (Plain c)
+plain_is : (q c : ℕ) → (c == q) ≡ false → is_new_line c ≡ false → IsInside q (Plain c)
 unfolding IsInside
-plain_is c other line = (other, line)
+plain_is q c other line = (other, line)
 
-escape_is : (n : ℕ) → IsInside (Escape n)
+escape_is : (q n : ℕ) → IsInside q (Escape n)
 unfolding IsInside
-escape_is n = tt
+escape_is q n = tt
 
-stray_is : IsInside Stray
+stray_is : (q : ℕ) → IsInside q Stray
 unfolding IsInside
-stray_is = tt
+stray_is q = tt
 
-simple_inside : (c : ℕ) → IsInside (simple c)
+simple_inside : (q c : ℕ) → IsInside q (simple c)
 unfolding simple
-simple_inside c =
-    if_both IsInside _ _ _ (escape_is c) (if_both IsInside _ _ _ (escape_is 7) (if_both IsInside _ _ _ (escape_is 8) (if_both IsInside _ _ _ (escape_is 12)
-    (if_both IsInside _ _ _ (escape_is 10) (if_both IsInside _ _ _ (escape_is 13) (if_both IsInside _ _ _ (escape_is 9)
-    (if_both IsInside _ _ _ (escape_is 11) stray_is)))))))
+simple_inside q c =
+    if_both (IsInside q) _ _ _ (escape_is q c) (if_both (IsInside q) _ _ _ (escape_is q 7) (if_both (IsInside q) _ _ _ (escape_is q 8) (if_both (IsInside q) _ _ _ (escape_is q 12)
+    (if_both (IsInside q) _ _ _ (escape_is q 10) (if_both (IsInside q) _ _ _ (escape_is q 13) (if_both (IsInside q) _ _ _ (escape_is q 9)
+    (if_both (IsInside q) _ _ _ (escape_is q 11) (stray_is q))))))))
 
-escape_inside : (behind : List ℕ) → IsInside (escape behind).c_char
+escape_inside : (q : ℕ) (behind : List ℕ) → IsInside q (escape behind).c_char
 unfolding escape
-escape_inside behind =
-    if_both (λ (f : Front). IsInside f.c_char) _ _ _ (escape_is (digits_value 8 (octal behind)))
-    (if_both (λ (f : Front). IsInside f.c_char) _ _ _ (escape_is (digits_value 16 (hexadecimal behind))) (simple_inside (slice_index behind 0)))
+escape_inside q behind =
+    if_both (λ (f : Front). IsInside q f.c_char) _ _ _ (escape_is q (digits_value 8 (octal behind)))
+    (if_both (λ (f : Front). IsInside q f.c_char) _ _ _ (escape_is q (digits_value 16 (hexadecimal behind))) (simple_inside q (slice_index behind 0)))
 
-front_inside : (c : ℕ) (behind : List ℕ) → (c == 39) ≡ false → is_new_line c ≡ false → IsInside (front c behind).c_char
+front_inside : (q c : ℕ) (behind : List ℕ) → (c == q) ≡ false → is_new_line c ≡ false → IsInside q (front c behind).c_char
 unfolding front
-front_inside c behind other line = if_both (λ (f : Front). IsInside f.c_char) (c == 92) (escape behind) (record { c_char = Plain c; width = 1 }) (escape_inside behind) (plain_is c other line)
+front_inside q c behind other line = if_both (λ (f : Front). IsInside q f.c_char) (c == 92) (escape behind) (record { c_char = Plain c; width = 1 }) (escape_inside q behind) (plain_is q c other line)
 
-closed_next : (e : CChar) (es : List CChar) → IsInside e → closed 39 (e ∷ es) ≡ before e (closed 39 es)
+closed_next : (q : ℕ) (e : CChar) (es : List CChar) → IsInside q e → closed q (e ∷ es) ≡ before e (closed q es)
 unfolding IsInside
-closed_next (Plain c) es inside = let other = inside.0 in let line = inside.1 in rw (other, line) refl
-closed_next (Escape n) es inside = refl
-closed_next Stray es inside = refl
+closed_next q (Plain c) es inside = let other = inside.0 in let line = inside.1 in rw (other, line) refl
+closed_next q (Escape n) es inside = refl
+closed_next q Stray es inside = refl
+
+-- the first c-char of a text that neither closes it nor ends its line
+pub closed_step : (q c : ℕ) (cs rest all : List ℕ) → (c == q) ≡ false → is_new_line c ≡ false → rest ≡ drop ((front c cs).width - 1) cs → all ≡ c ∷ cs
+    → closed q (c_chars all) ≡ before (front c cs).c_char (closed q (c_chars rest))
+closed_step q c cs rest all other line behind is =
+    ap (λ xs. closed q (c_chars xs)) is
+    ∙ closed_next q (front c cs).c_char (c_chars_past ((front c cs).width - 1) cs) (front_inside q c cs other line)
+    ∙ ap (λ es. before (front c cs).c_char (closed q es)) (past_is ((front c cs).width - 1) cs ∙ sym (ap c_chars behind))
 
 joined_none : (us : Option (List ℕ)) → joined us None ≡ None
 joined_none None = refl
@@ -232,10 +241,7 @@ pub one_more : (p : Prefix) (s after : Seen) (c : ℕ) (cs rest all : List ℕ) 
     → rest ≡ drop ((front c cs).width - 1) cs → all ≡ c ∷ cs → goes_on p after (closed 39 (c_chars rest)) ≡ goes_on p s (closed 39 (c_chars all))
 one_more p s after c cs rest all other line adds behind is =
     goes_further p s after (front c cs).c_char (closed 39 (c_chars rest)) adds
-    ∙ sym (ap (goes_on p s)
-    (ap (λ xs. closed 39 (c_chars xs)) is
-    ∙ closed_next (front c cs).c_char (c_chars_past ((front c cs).width - 1) cs) (front_inside c cs other line)
-    ∙ ap (λ es. before (front c cs).c_char (closed 39 es)) (past_is ((front c cs).width - 1) cs ∙ sym (ap c_chars behind))))
+    ∙ sym (ap (goes_on p s) (closed_step 39 c cs rest all other line behind is))
 
 -- a text that ends here, or with a quote here
 pub nothing_more : (p : Prefix) (s : Seen) (all : List ℕ) → all ≡ [] → literal.Bad 102 ≡ goes_on p s (closed 39 (c_chars all))

@@ -1,3 +1,4 @@
 pub mod CCharLemmas
 pub mod DigitLemmas
+pub mod StringLemmas
 mod Wrapping

@@ -12,9 +12,10 @@ use Rattle.c_literals.specs.CChars.{CChar, c_chars, closed}
 use Rattle.c_literals.specs.Conversions.{wrapped}
 use Rattle.c_literals.specs.Units.{units}
 
--- p10, p11: the constant's type; wchar_t is int, char16_t unsigned short, char32_t unsigned int
+-- p10, p11: the constant's type, or that of an element of a string literal (6.4.5p6) with `u8`; wchar_t is int, char16_t unsigned short, char32_t unsigned int
 abbrev pub type_of : Prefix → IntTy
 type_of prefix.Narrow = int.Int
+type_of prefix.Utf8 = int.Char
 type_of prefix.Char16 = int.UShort
 type_of prefix.Char32 = int.UInt
 type_of prefix.Wide = int.Int
@@ -34,6 +35,7 @@ base_256 us = base_256_after 0 us
 
 abbrev pub of_number : Prefix → ℤ → Literal
 of_number prefix.Narrow z = literal.Int int.Int (wrapped int.Int z)
+of_number prefix.Utf8 z = literal.Bad 313
 of_number prefix.Char16 z = literal.Bad 313
 of_number prefix.Char32 z = literal.Bad 313
 of_number prefix.Wide z = literal.Bad 313

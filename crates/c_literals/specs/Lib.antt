@@ -7,4 +7,6 @@ pub mod Integer
 pub mod Kept
 pub mod Operators
 pub mod Ranges
+pub mod Strings
+pub mod Texts
 pub mod Units

@@ -8,6 +8,7 @@ use Rattle.c_literals.specs.CChars.{CChar, Plain, Escape, Stray}
 -- the number behind the greatest unit
 abbrev pub limit : Prefix → ℕ
 limit prefix.Narrow = 2 ^ 8
+limit prefix.Utf8 = 2 ^ 8
 limit prefix.Char16 = 2 ^ 16
 limit prefix.Char32 = 2 ^ 32
 limit prefix.Wide = 2 ^ 32
@@ -18,6 +19,7 @@ utf_16 c = if nat_lt c 65536 then c ∷ [] else (55296 + (c - 65536) / 1024) ∷
 
 abbrev pub encoded : Prefix → ℕ → List ℕ
 encoded prefix.Narrow c = encode_utf8 c
+encoded prefix.Utf8 c = encode_utf8 c
 encoded prefix.Char16 c = utf_16 c
 encoded prefix.Char32 c = c ∷ []
 encoded prefix.Wide c = c ∷ []

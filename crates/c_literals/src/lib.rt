@@ -12,9 +12,12 @@ mod ops;
 mod prefix;
 mod ranges;
 mod seen;
+mod strings;
 mod suffixes;
+mod text;
 
 pub use characters::character;
 pub use floatings::integer;
 pub use literal::Literal;
 pub use ops::{Op, convert, value_op};
+pub use strings::{LitError, StrValue, string_pieces};

@@ -16,6 +16,9 @@ pub(crate) const BAD_CHARACTER: u16 = 313;
 /// The rule that an escape breaks which is none, or has a value past the range of its unit.
 pub(crate) const BAD_ESCAPE: u16 = 314;
 
+/// The rule that the pieces of a string literal break whose prefixes differ.
+pub(crate) const PREFIXES_DIFFER: u16 = 315;
+
 /// A constant.
 #[derive(Clone, Copy, Debug, PartialEq, Eq, Drop)]
 pub enum Literal {

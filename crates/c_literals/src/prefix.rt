@@ -5,6 +5,8 @@
 pub(crate) enum Prefix {
     /// No prefix: bytes of UTF-8.
     Narrow,
+    /// `u8`: bytes of UTF-8, of a string literal.
+    Utf8,
     /// `u`: units of UTF-16.
     Char16,
     /// `U`: code points.

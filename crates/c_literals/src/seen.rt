@@ -28,6 +28,7 @@ fn type_of(prefix: Prefix) -> IntTy
 {
     match prefix {
         Prefix::Narrow => IntTy::Int,
+        Prefix::Utf8 => IntTy::Char,
         Prefix::Char16 => IntTy::UShort,
         Prefix::Char32 => IntTy::UInt,
         Prefix::Wide => IntTy::Int,
@@ -39,6 +40,7 @@ fn unit_type(prefix: Prefix) -> IntTy
 {
     match prefix {
         Prefix::Narrow => IntTy::SChar,
+        Prefix::Utf8 => IntTy::Char,
         Prefix::Char16 => IntTy::UShort,
         Prefix::Char32 => IntTy::UInt,
         Prefix::Wide => IntTy::Int,
@@ -50,6 +52,7 @@ fn of_number(prefix: Prefix, number: i128) -> Literal
 {
     match prefix {
         Prefix::Narrow => Literal::Int(IntTy::Int, wrapped(IntTy::Int, number)),
+        Prefix::Utf8 => Literal::Bad(BAD_CHARACTER),
         Prefix::Char16 => Literal::Bad(BAD_CHARACTER),
         Prefix::Char32 => Literal::Bad(BAD_CHARACTER),
         Prefix::Wide => Literal::Bad(BAD_CHARACTER),
@@ -124,7 +127,7 @@ pub(crate) fn add_char(prefix: Prefix, seen: Seen, c: char) -> Seen
     ensures { Kept.Adds prefix seen (Some (Units.encoded prefix c)) result }
 {
     match prefix {
-        Prefix::Narrow => {
+        Prefix::Narrow | Prefix::Utf8 => {
             let mut buffer = [0u8; 4];
             add_bytes(seen, c.encode_utf8(&mut buffer).as_bytes())
         }
@@ -135,12 +138,12 @@ pub(crate) fn add_char(prefix: Prefix, seen: Seen, c: char) -> Seen
 }
 
 /// The number behind the greatest unit.
-fn limit(prefix: Prefix) -> u64
+pub(crate) fn limit(prefix: Prefix) -> u64
     ensures value { result ≡ Units.limit prefix }
     ensures bounded { result ≤ 4294967296 }
 {
     match prefix {
-        Prefix::Narrow => 0x100,
+        Prefix::Narrow | Prefix::Utf8 => 0x100,
         Prefix::Char16 => 0x1_0000,
         Prefix::Char32 => 0x1_0000_0000,
         Prefix::Wide => 0x1_0000_0000,

@@ -1,11 +1,14 @@
 // Constants, case by case: reads calls from standard input, one a line, and prints the answer of each behind its line. A
 // value is its number, `?` where it is Unknown, `!` and a rule where it is Faulty, `-` where it isn't read. `integer
-// SPELLING` asks what a preprocessing number is as a constant, `character SPELLING` what a character constant is.
+// SPELLING` asks what a preprocessing number is as a constant, `character SPELLING` what a character constant is, `string
+// PIECES` with a bar between two pieces what a string literal is: its prefix's number and its units.
 #![tactic(auto)]
 
 mod words;
 
-use c_literals::{Literal, character, convert, integer, value_op};
+use c_literals::{LitError, Literal, character, convert, integer, string_pieces, value_op};
+use shared_text::Name;
+use std::alloc::{AllocError, Global};
 use std::io;
 use std::io::Read;
 use type_data::Value;
@@ -38,12 +41,44 @@ fn show_literal(rt: &HostRuntime, line: &str, literal: Literal) -> io::Result<()
     }
 }
 
+fn pieces_of(alloc: Global, line: &str) -> Result<Vec<Name>, AllocError> {
+    let mut pieces = Vec::new(alloc);
+    for piece in line.split('|') {
+        pieces.push(Name::from_str(alloc, piece)?)?;
+    }
+    Ok(pieces)
+}
+
+fn show_units(rt: &HostRuntime, units: &[u32]) -> io::Result<()> {
+    for unit in units {
+        let unit = *unit;
+        print!(rt; " {unit}")?;
+    }
+    println!(rt; "")
+}
+
+fn show_string(rt: &HostRuntime, line: &str, spellings: &str) -> io::Result<()> {
+    let pieces = pieces_of(rt.alloc(), spellings)?;
+    match string_pieces(rt.alloc(), pieces.as_slice()) {
+        Ok(text) => {
+            let prefix = text.prefix;
+            print!(rt; "{line} = {prefix}:")?;
+            show_units(rt, text.units.as_slice())
+        }
+        Err(LitError::Bad(rule)) => println!(rt; "{line} = Bad {rule}"),
+        Err(LitError::NoMemory) => println!(rt; "{line} = no memory"),
+    }
+}
+
 fn show(rt: &HostRuntime, line: &str) -> io::Result<()> {
     if let Some(spelling) = line.strip_prefix("integer ") {
         return show_literal(rt, line, integer(spelling));
     }
     if let Some(spelling) = line.strip_prefix("character ") {
         return show_literal(rt, line, character(spelling));
+    }
+    if let Some(spellings) = line.strip_prefix("string ") {
+        return show_string(rt, line, spellings);
     }
     match answered(line) {
         Some(Value::Known(number)) => println!(rt; "{line} = {number}"),
