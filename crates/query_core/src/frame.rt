@@ -20,7 +20,6 @@ pub(crate) struct Running<K, S> {
 }
 
 /// How far the work on a key has come. What a run holds stands apart, so that a frame is small.
-
 #[derive(Drop)]
 pub(crate) enum Stage<K, S> {
     /// It is an input without a record.

@@ -1,7 +1,6 @@
 // The sweep: records that the roots don't use go.
 
-ghost use Rattle.std.specs.Prelude.{◌≡◌, [], OnErr, IfOk, OnOk, IsSome, List, ℕ};
-ghost use Rattle.query_core.specs.Graph.{at};
+ghost use Rattle.std.specs.Prelude.{◌≡◌, [], OnErr, IfOk, OnOk};
 ghost use Rattle.query_core.specs.Soundness.{IsSound};
 ghost use Rattle.query_core.specs.Marking.{all_marked, root_nodes, reads_at};
 ghost use Rattle.query_core.specs.Sweeping.{AreUsed, Sweeps};

@@ -60,6 +60,7 @@ impl<R: Rules> Graph<R> {
         requires numbered { node_of R.queries self.now key.now ≡ at_node }
         ensures { IsStage R.queries R.has_read self.now key.now result }
     {
+        // a field is named, so the proof knows the type's invariant
         let _ = &self.store;
         if rules.is_input(key) {
             return Stage::Unset;
