@@ -1,0 +1,48 @@
+-- Scopes (ISO C11 6.2.1, 6.2.3): a list, innermost first. In each a name denotes one entity for each name space.
+use Rattle.std.specs.Prelude.{ℕ, Bool, ◌&&◌, nat_eq, List, [], ◌∷◌, Option, Some, None, if◌then◌else◌}
+use Rattle.std.specs.Cmp.Lexicographic.{pointwise}
+use Rattle.type_data.specs.declared.members.Space.{Space}
+use Rattle.type_data.specs.contracts.members.SpacePartialEq.TheImpl as spaces
+use Rattle.scope_tables.specs.Levels.{Scope}
+use Rattle.scope_tables.specs.declared.entities.Entity.{Entity}
+use Rattle.scope_tables.specs.declared.entities.ScopeKind.{ScopeKind}
+use Rattle.scope_tables.specs.declared.levels.Binding.{Binding}
+
+-- the same name space and the same name
+unfoldable pub binds : Space → List ℕ → Binding → Bool
+binds space name b = spaces.eq-value.it b.space space && pointwise nat_eq b.name name
+
+-- what a name denotes in a scope
+abbrev pub bound : Space → List ℕ → List Binding → Option Entity
+bound space name [] = None
+bound space name (b ∷ bs) = if binds space name b then Some b.entity else bound space name bs
+
+-- a binding takes the place of that of its name
+abbrev pub put : Binding → List Binding → List Binding
+put b [] = b ∷ []
+put b (c ∷ cs) = if binds b.space b.name c then b ∷ cs else c ∷ put b cs
+
+-- 6.2.1p4: what a name denotes is what it denotes in the innermost scope that has it
+abbrev pub or_outside : Option Entity → Option Entity → Option Entity
+or_outside (Some entity) outside = Some entity
+or_outside None outside = outside
+
+abbrev pub found : Space → List ℕ → List Scope → Option Entity
+found space name [] = None
+found space name (s ∷ outside) = or_outside (bound space name s.bindings) (found space name outside)
+
+abbrev pub entered : ScopeKind → List Scope → List Scope
+entered kind scopes = record { kind = kind; bindings = [] } ∷ scopes
+
+abbrev pub left : List Scope → List Scope
+left [] = []
+left (s ∷ outside) = outside
+
+abbrev pub declared_in : Binding → List Scope → List Scope
+declared_in b [] = []
+declared_in b (s ∷ outside) = record { kind = s.kind; bindings = put b s.bindings } ∷ outside
+
+-- what the name denoted before in the innermost scope
+abbrev pub before : Binding → List Scope → Option Entity
+before b [] = None
+before b (s ∷ outside) = bound b.space b.name s.bindings

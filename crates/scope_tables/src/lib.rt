@@ -1,0 +1,10 @@
+// What the names of a unit denote, and the scopes in which they do (ISO C11 6.2.1 to 6.2.4).
+#![tactic(auto)]
+
+mod entities;
+mod levels;
+mod scopes;
+
+pub use entities::{Anchor, Entity, EntityKind, Life, Linkage, Occ, Role, ScopeKind};
+pub use levels::Binding;
+pub use scopes::Scopes;
