@@ -1,5 +1,6 @@
 // The scopes at a place of a unit (ISO C11 6.2.1).
 use crate::levels::Level;
+use std::alloc::Global;
 use std::marker::Model;
 
 mod calls;
@@ -7,6 +8,7 @@ mod calls;
 /// The scopes that are entered. Contracts see them as a list, innermost first.
 #[derive(Drop)]
 pub struct Scopes {
+    alloc: Global,
     levels: Vec<Level>,
 }
 

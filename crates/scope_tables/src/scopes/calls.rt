@@ -15,16 +15,17 @@ impl Scopes {
         ensures { result ≡ [] }
     {
         Scopes {
+            alloc,
             levels: Vec::new(alloc),
         }
     }
 
     /// A scope within the others.
-    pub fn enter(&mut self, alloc: Global, kind: ScopeKind) -> Result<(), AllocError>
+    pub fn enter(&mut self, kind: ScopeKind) -> Result<(), AllocError>
         ensures entered { OnOk result (self.new ≡ spec.entered kind self.old) }
         ensures unchanged { OnErr result (self.new ≡ self.old) }
     {
-        self.levels.push(Level::new(alloc, kind))?;
+        self.levels.push(Level::new(self.alloc, kind))?;
         Ok(())
     }
 
