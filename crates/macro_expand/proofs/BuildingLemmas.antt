@@ -120,36 +120,6 @@ pasted_two f site front l r rs tokens b progress made some pasted_is made_is tok
     ∙ ap (λ (o : Option (List Marked × Marked)). build.pasted_to site (real f r) (reals f rs) o (real_building f b))
     (sym last)
 
-pub glued_is : (f : Names → Names) (site : TokId) (r : Marked) (rs more : List Marked) (b made : Building)
-    → more ≡ r ∷ rs
-    → made ≡ build.pasted_to site (real f r) (reals f rs) (last_of (reals f b.tokens)) (real_building f b)
-    → made ≡ build.glued site (reals f more) (real_building f b)
-glued_is f site r rs more b made more_is is =
-    is ∙ ap (λ (ts : List Marked). build.glued site (reals f ts) (real_building f b)) (sym more_is)
-
-pub glued_nothing : (f : Names → Names) (site : TokId) (more : List Marked) (b : Building) → more ≡ []
-    → real_building f b ≡ build.glued site (reals f more) (real_building f b)
-glued_nothing f site more b none =
-    ap (λ (ts : List Marked). build.glued site (reals f ts) (real_building f b)) (sym none)
-
-pub joins_put : (f : Names → Names) (site : TokId) (more : List Marked) (b made : Building) → b.empty ≡ true
-    → made ≡ build.puts b.space more b
-    → real_building f made ≡ joins site (reals f more) (real_building f b)
-unfolding joins
-joins_put f site more b made empty is =
-    ap (real_building f) is ∙ sym (puts_real f b.space more b)
-    ∙ ap (λ (e : Bool). if e then build.puts b.space (reals f more) (real_building f b)
-    else build.glued site (reals f more) (real_building f b)) (sym empty)
-
-pub joins_glued : (f : Names → Names) (site : TokId) (more : List Marked) (b made : Building) → b.empty ≡ false
-    → made ≡ build.glued site (reals f more) (real_building f b)
-    → made ≡ joins site (reals f more) (real_building f b)
-unfolding joins
-joins_glued f site more b made full is =
-    is
-    ∙ ap (λ (e : Bool). if e then build.puts b.space (reals f more) (real_building f b)
-    else build.glued site (reals f more) (real_building f b)) (sym full)
-
 -- an operand
 pub operand_put : (f : Names → Names) (again : Expander) (b made : Building) (o : Operand) (raw : Bool)
     → (o.given && not raw) ≡ false

@@ -16,6 +16,7 @@ use Rattle.macro_expand.specs.declared.arguments.Called.TheVariants.{Absent, Unc
 use Rattle.macro_expand.specs.Tokens.{is_paste, last_of}
 use Rattle.macro_expand.specs.Arguments.{called, fitted, lacks_variable}
 use Rattle.macro_expand.specs.Pasting.{pasted}
+use Rattle.macro_expand.specs.Tokens.{first_spaced}
 use Rattle.macro_expand.specs.Building as build
 use Rattle.macro_expand.specs.Substitution.{Expander}
 use Rattle.macro_expand.specs.Expansion as spec
@@ -123,7 +124,7 @@ pub pastes_keeps : (def : MacroDef) (args : List (List Marked)) (site : TokId) (
     (ts : List OutToken) → (build.pastes def args site b t ts).built.progress.left ≡ b.progress.left
 pastes_keeps def args site b t [] = refl
 pastes_keeps def args site b t (u ∷ us) =
-    joins_keeps site (build.operand def args u us).tokens (build.with_noted (build.operand def args u us).spelled b)
+    joins_keeps site (first_spaced (build.operand def args u us).space (build.operand def args u us).tokens) (build.with_noted (build.operand def args u us).spelled b)
 
 pub outcome_keeps : (again : Expander) → Keeps again → (space : Bool) (b : Building) (ts : List Marked)
     → (build.puts_outcome space b (again b.progress ts)).progress.left ≤ b.progress.left

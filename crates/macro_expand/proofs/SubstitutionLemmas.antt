@@ -13,7 +13,7 @@ use Rattle.macro_expand.specs.declared.types.Outcome.{Outcome}
 use Rattle.macro_expand.specs.declared.building.Building.{Building}
 use Rattle.macro_expand.specs.declared.building.Part.{Part}
 use Rattle.macro_expand.specs.Tokens.{is_paste, begins_paste, plain}
-use Rattle.macro_expand.specs.Tokens.{last_of}
+use Rattle.macro_expand.specs.Tokens.{first_spaced, last_of}
 use Rattle.macro_expand.specs.Progress.{noted}
 use Rattle.macro_expand.specs.Spelling.{string_of, sources}
 use Rattle.macro_expand.specs.Building as build
@@ -28,10 +28,10 @@ use Rattle.macro_expand.proofs.ElementLemmas.{operand_of, front_of, paste_next}
 
 glue_is : (sp : Bool) (site : TokId) (e : Element) (o : Output)
     → build.joins_operand site (built sp o) (operand_of e) ≡ built sp (meant.glue site e o)
-glue_is sp site (Paste t) o = joins_is sp site (noted [] o.progress) (plain t ∷ []) o.items
-glue_is sp site (Quoted t arg) o = joins_is sp site (noted (sources arg) o.progress) (string_of t arg ∷ []) o.items
-glue_is sp site (Param t arg) o = joins_is sp site (noted [] o.progress) arg o.items
-glue_is sp site (Other t) o = joins_is sp site (noted [] o.progress) (plain t ∷ []) o.items
+glue_is sp site (Paste t) o = joins_is sp site (noted [] o.progress) (first_spaced t.space_before (plain t ∷ [])) o.items
+glue_is sp site (Quoted t arg) o = joins_is sp site (noted (sources arg) o.progress) (first_spaced t.space_before (string_of t arg ∷ [])) o.items
+glue_is sp site (Param t arg) o = joins_is sp site (noted [] o.progress) (first_spaced t.space_before arg) o.items
+glue_is sp site (Other t) o = joins_is sp site (noted [] o.progress) (first_spaced t.space_before (plain t ∷ [])) o.items
 
 not_twice : (space begun : Bool) → (space && not (not begun)) ≡ (space && begun)
 not_twice space true = refl

@@ -11,7 +11,7 @@ use Rattle.macro_expand.specs.declared.operands.Operand.{Operand}
 use Rattle.macro_expand.specs.declared.building.Building.{Building}
 use Rattle.macro_expand.specs.declared.building.Part.{Part}
 use Rattle.macro_expand.specs.Progress.{faulty, noted}
-use Rattle.macro_expand.specs.Tokens.{is_hash, is_paste, begins_paste, plain, spaced, last_of}
+use Rattle.macro_expand.specs.Tokens.{is_hash, is_paste, begins_paste, plain, spaced, last_of, first_spaced}
 use Rattle.macro_expand.specs.Arguments.{arg_of}
 use Rattle.macro_expand.specs.Spelling.{string_of, sources}
 use Rattle.macro_expand.specs.Pasting.{pasted}
@@ -98,7 +98,7 @@ puts_operand again b o raw =
     else puts (space_of b o.space) o.tokens (with_noted o.spelled b)
 
 abbrev pub joins_operand : TokId → Building → Operand → Building
-joins_operand site b o = joins site o.tokens (with_noted o.spelled b)
+joins_operand site b o = joins site (first_spaced o.space o.tokens) (with_noted o.spelled b)
 
 -- an operand, in front of `##` or not
 abbrev pub puts_part : Expander → Building → List OutToken → Operand → Part

@@ -9,7 +9,7 @@ use Rattle.macro_expand.specs.declared.types.Progress.{Progress}
 use Rattle.macro_expand.specs.declared.types.Outcome.{Outcome}
 use Rattle.macro_expand.specs.HideSets.{united}
 use Rattle.macro_expand.specs.Progress.{faulty, noted}
-use Rattle.macro_expand.specs.Tokens.{is_hash, is_paste, plain, spaced, last_of}
+use Rattle.macro_expand.specs.Tokens.{is_hash, is_paste, plain, spaced, first_spaced, last_of}
 use Rattle.macro_expand.specs.Arguments.{arg_of}
 use Rattle.macro_expand.specs.Spelling.{string_of, sources}
 use Rattle.macro_expand.specs.Pasting.{pasted}
@@ -113,9 +113,9 @@ pasted_behind site ts o None = record o { items = items_of false ts }
 pasted_behind site ts o (Some (front, Placemarker space)) = record o { items = front ++ items_of space ts }
 pasted_behind site ts o (Some (front, Token l)) = pasted_to site front l ts o
 
--- `glue` of Prosser's algorithm: the last item and the right operand of `##`
+-- `glue` of Prosser's algorithm: the last item and the right operand of `##`, before which the white space of its element stands
 abbrev pub glue : TokId → Element → Output → Output
-glue site e o = pasted_behind site (written e) (noting e o) (last_of o.items)
+glue site e o = pasted_behind site (first_spaced (space_of e) (written e)) (noting e o) (last_of o.items)
 
 -- `##` stands next
 abbrev pub paste_follows : List Element → Bool

@@ -4,7 +4,7 @@ ghost use Rattle.macro_expand.specs.Codes.{Names};
 ghost use Rattle.macro_expand.specs.Stands.{Stands, Grows};
 ghost use Rattle.macro_expand.specs.Numbers.{real, reals, real_operand, real_building};
 ghost use Rattle.macro_expand.specs.Building as spec;
-ghost use Rattle.macro_expand.specs.Tokens.{last_of};
+ghost use Rattle.macro_expand.specs.Tokens.{last_of, first_spaced};
 
 use crate::glue::pasted;
 use crate::operands::Operand;
@@ -127,17 +127,24 @@ impl Building {
         alloc: Global,
         sets: &mut Sets,
         site: &TokId,
+        space: bool,
         more: MarkedList,
     ) -> Result<Building, AllocError>
         ensures grows { OnOk result (Grows sets.old sets.new) }
         ensures value { IfOk result (λ b. (f : Names → Names) → Stands f sets.new
-            → real_building f b ≡ spec.glued site.now (reals f more) (real_building f self)) }
+            → real_building f b ≡ spec.glued site.now (first_spaced space (reals f more)) (real_building f self)) }
     {
         let mut items = Queue::from_list(more).into_items();
         let Some(right) = items.pop_front() else {
             return Ok(self);
         };
-        let built = self.pasted_to(alloc, sets, site, right, Queue::from_items(items))?;
+        let built = self.pasted_to(
+            alloc,
+            sets,
+            site,
+            right.spaced(space),
+            Queue::from_items(items),
+        )?;
         Ok(built)
     }
 
@@ -210,18 +217,19 @@ impl Building {
         alloc: Global,
         sets: &mut Sets,
         site: &TokId,
+        space: bool,
         more: MarkedList,
     ) -> Result<Building, AllocError>
         ensures grows { OnOk result (Grows sets.old sets.new) }
         ensures value { IfOk result (λ b. (f : Names → Names) → Stands f sets.new
-            → real_building f b ≡ spec.joins site.now (reals f more) (real_building f self)) }
+            → real_building f b ≡ spec.joins site.now (first_spaced space (reals f more)) (real_building f self)) }
     {
         if self.empty {
-            let space = self.space;
-            let built = self.puts(space, more)?;
+            let before = self.space;
+            let built = self.puts(before, more)?;
             return Ok(built);
         }
-        let built = self.glued(alloc, sets, site, more)?;
+        let built = self.glued(alloc, sets, site, space, more)?;
         Ok(built)
     }
 
@@ -240,11 +248,11 @@ impl Building {
             given: _,
             tokens,
             spelled,
-            space: _,
+            space,
             more: _,
         } = operand;
         let noted = self.with_noted(spelled)?;
-        let built = noted.joins(alloc, sets, site, tokens)?;
+        let built = noted.joins(alloc, sets, site, space, tokens)?;
         Ok(built)
     }
 }

@@ -2,6 +2,7 @@ use Rattle.std.proofs.Common.{rules, ◌≡◌, ◌∷◌, ap, ◌∙◌}
 use Rattle.macro_expand.specs.declared.building.Building.{Building}
 use Rattle.macro_expand.specs.Numbers.{reals, real_args, real_building}
 use Rattle.macro_expand.specs.Building.{with_noted}
+use Rattle.macro_expand.specs.Tokens.{first_spaced}
 use Rattle.macro_expand.proofs.Spending.{joins_keeps}
 use Rattle.macro_expand.proofs.SetLemmas.{stands_for, table_stands}
 use Rattle.macro_expand.proofs.BuildingLemmas.{paste_joins, pastes_right}
@@ -20,5 +21,5 @@ pub returns-clause-same : goal.returns-clause-same
 returns-clause-same c =
     let f = stands_for c.joins_operand.new.sets in
     ap (λ (b : Building). b.progress.left) (c.in_ok-built-2.ensures.value f (table_stands c.joins_operand.new.sets))
-    ∙ joins_keeps c.args.site.now (reals f c.in_ok-operand.operand.tokens)
+    ∙ joins_keeps c.args.site.now (first_spaced c.in_ok-operand.operand.space (reals f c.in_ok-operand.operand.tokens))
     (with_noted c.in_ok-operand.operand.spelled (real_building f c.args.building))
