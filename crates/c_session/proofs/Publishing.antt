@@ -12,16 +12,16 @@ use Rattle.c_session.specs.Published.{number_data, publish_start, publish_end, v
 use Rattle.c_session.specs.Replies.{header, framed, diagnostic, publish, publish_data}
 
 -- what stands in order lies within the limit
-pub order_limit : (from limit : ℕ) (faults : List LexFault) → InOrder from limit (ranges faults) → from ≤ limit
-order_limit from limit [] order = order
-order_limit from limit (fault ∷ faults) order =
-    let rest : fault.end ≤ limit = order_limit fault.end limit faults order.2 in omega (arith, order.0, order.1, rest)
+pub order_limit : (text : List ℕ) (from limit : ℕ) (faults : List LexFault) → InOrder text from limit (ranges faults) → from ≤ limit
+order_limit text from limit [] order = order
+order_limit text from limit (fault ∷ faults) order =
+    let rest : fault.end ≤ limit = order_limit text fault.end limit faults order.4 in omega (arith, order.0, order.1, rest)
 
-pub order_within : (from limit : ℕ) (faults : List LexFault) → InOrder from limit (ranges faults) → AreWithin limit faults
-order_within from limit [] order = tt
-order_within from limit (fault ∷ faults) order =
-    let rest : fault.end ≤ limit = order_limit fault.end limit faults order.2 in
-    (omega (arith, order.1, rest), rest, order_within fault.end limit faults order.2)
+pub order_within : (text : List ℕ) (from limit : ℕ) (faults : List LexFault) → InOrder text from limit (ranges faults) → AreWithin limit faults
+order_within text from limit [] order = tt
+order_within text from limit (fault ∷ faults) order =
+    let rest : fault.end ≤ limit = order_limit text fault.end limit faults order.4 in
+    (omega (arith, order.1, rest), rest, order_within text fault.end limit faults order.4)
 
 -- the text as it is made of its members
 spelled_out : (items uri version : List ℕ) → List ℕ

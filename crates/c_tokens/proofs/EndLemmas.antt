@@ -13,10 +13,9 @@ use Rattle.c_tokens.specs.Logical.{Character, logical, characters_of, closing_li
 use Rattle.c_tokens.specs.Pieces.{Piece, pieces}
 use Rattle.c_tokens.specs.Lexed.{token_of, place_of, fault_as, faults_from, pieces_of}
 use Rattle.c_tokens.specs.Reading.{rest}
-use Rattle.c_tokens.specs.Laws.{Follow, InOrder, AreNumbered, ranges}
+use Rattle.c_tokens.specs.Laws.{Follow, AreNumbered}
 use Rattle.c_tokens.proofs.FrontLemmas.{if_cases}
 use Rattle.c_tokens.proofs.FollowLemmas.{text_follows, follow_closed}
-use Rattle.c_tokens.proofs.LawLemmas.{places_in_order, faults_in_order}
 use Rattle.c_tokens.proofs.LexingLemmas.{Goes}
 use Rattle.c_tokens.proofs.ClosedPieces.{closed_text}
 
@@ -48,12 +47,6 @@ logical_follows text =
     if_cases (λ (t : List Character). Follow 0 (length text) (cs ++ t)) (ends_in_line_end false cs) [] (m ∷ [])
     (λ _. rw (append-nil cs) (text_follows text))
     (λ _. follow_closed 0 (length text) cs m refl refl refl (text_follows text))
-
-pub ordered_places : (text : List ℕ) → InOrder 0 (length text) (flat_map place_of (pieces_of text))
-ordered_places text = places_in_order Fresh false 0 (logical text) 0 (length text) (logical_follows text)
-
-pub ordered_faults : (text : List ℕ) → InOrder 0 (length text) (ranges (faults_from 0 (pieces_of text)))
-ordered_faults text = faults_in_order Fresh false 0 (logical text) 0 0 (length text) (logical_follows text)
 
 -- a fault of some pieces has one of their tokens
 numbered_more : (fs more : List LexFault) (few many : ℕ) → few ≤ many → AreNumbered few fs → AreNumbered many more → AreNumbered many (fs ++ more)

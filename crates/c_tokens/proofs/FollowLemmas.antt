@@ -7,6 +7,7 @@ use Rattle.c_tokens.specs.declared.logical.Unit.{Unit}
 use Rattle.c_tokens.specs.Cut.{cut}
 use Rattle.c_tokens.specs.Logical.{Source, Character, trigraph, line_end_width, backslash_width, begins_trigraph, continues, plain, replaced, first_unit, first_source, source_of, characters, characters_of, end_of}
 use Rattle.c_tokens.specs.Laws.{Follow}
+use Rattle.c_tokens.specs.Reading.{rest, units}
 use Rattle.c_tokens.proofs.Boundaries.{within_from_some}
 use Rattle.c_tokens.proofs.FrontLemmas.{if_cases}
 
@@ -56,7 +57,7 @@ source_within bytes long = if_cases (Within bytes) (nat_lt 0 (backslash_width by
     removed_within b l e within = let some : 0 < l = grind (arith, common_steps, e) in (omega (arith, some), within some)
 
 -- the bytes of units
-abbrev widths : List Source → ℕ
+abbrev pub widths : List Source → ℕ
 widths [] = 0
 widths (s ∷ us) = s.width + widths us
 
@@ -75,6 +76,11 @@ characters_follow from at (s ∷ us) before =
     if_cases (λ (cs : List Character). Follow from (at + (s.width + widths us)) cs) s.removed _ _
     (λ _. subst (λ (limit : ℕ). Follow from limit (characters from (at + s.width) us)) e (characters_follow from (at + s.width) us (omega (arith, before))))
     (λ _. (refl, before, omega arith, subst (λ (limit : ℕ). Follow (at + s.width) limit (characters (at + s.width) (at + s.width) us)) e (characters_follow (at + s.width) (at + s.width) us (omega arith))))
+
+-- the characters from a place on
+pub rest_follows : (text : List ℕ) (at : ℕ) → Follow at (at + widths (units text at)) (rest text at)
+unfolding rest
+rest_follows text at = characters_follow at at (units text at) (omega arith)
 
 pub text_follows : (text : List ℕ) → Follow 0 (length text) (characters_of text)
 text_follows text = subst (λ (limit : ℕ). Follow 0 limit (characters_of text)) (omega (arith, widths_of_cut 0 text (omega arith))) (characters_follow 0 0 (cut first_source (λ s. s.width) 0 text) (omega arith))

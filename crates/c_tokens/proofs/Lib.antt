@@ -1,4 +1,5 @@
 pub mod AfterLemmas
+mod AloneLemmas
 pub mod Boundaries
 pub mod ClosedFirst
 pub mod ClosedFronts
@@ -16,6 +17,7 @@ pub mod LongestTokens
 pub mod MemberLemmas
 pub mod NextLemmas
 pub mod OpenLemmas
+pub mod OrderLemmas
 pub mod ReadingLemmas
 pub mod RunLemmas
 pub mod WordLemmas

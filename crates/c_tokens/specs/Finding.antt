@@ -16,9 +16,19 @@ pub record IsPiece (text : List ℕ) (p : PieceRead) : Type 0 where
   pub after : IsAfter text p.at p.front.count p.front.end
   pub own : p.own ≡ start_of (take p.front.count (rest text p.at))
   pub some : 0 < p.front.count
-  pub own_within : p.own ≤ p.front.end
+  pub own_within : p.own < p.front.end
+  pub begins : p.at ≤ p.own
+  pub past : (n here : ℕ) → 0 < n → IsAfter text p.at n here → p.own < here
   pub own_boundary : KeepsBoundary text p.at p.own
   pub two : p.front.class ≡ OpenComment → 2 ≤ p.front.count
+
+-- a range within a piece that was read
+pub record IsWithin (text : List ℕ) (p : PieceRead) (from to : ℕ) : Type 0 where
+  pub begins : p.at ≤ from
+  pub some : from < to
+  pub ends : to ≤ p.front.end
+  pub front : KeepsBoundary text p.at from
+  pub back : KeepsBoundary text p.at to
 
 -- the piece at the front of what is left
 pub record IsNextPiece (text : List ℕ) (at : ℕ) (context : Context) (spaced : Bool) (p : PieceRead) : Type 0 where

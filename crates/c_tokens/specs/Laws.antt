@@ -1,5 +1,5 @@
 -- What holds of the pieces of every text.
-use Rattle.std.specs.Prelude.{◌≡◌, ◌↔◌, ℕ, ◌<◌, ◌≤◌, true, false, List, [], ◌∷◌, length, IfSome}
+use Rattle.std.specs.Prelude.{◌≡◌, ◌↔◌, ℕ, ◌<◌, ◌≤◌, true, false, List, [], ◌∷◌, length, IfSome, IsUtf8, IsCharBoundary}
 use Rattle.std.specs.List.{flat_map}
 use Rattle.c_tokens.specs.declared.types.LexFault.{LexFault}
 use Rattle.tok_data.specs.declared.tokens.PpToken.{PpToken}
@@ -26,10 +26,15 @@ Follow from limit (c ∷ cs) = (c.from ≡ from) × (c.from ≤ c.own) × (c.own
 abbrev pub CharactersFollow : List ℕ → Type 0
 CharactersFollow text = Follow 0 (length text) (logical text)
 
--- ranges that stand in order from a place on, up to a limit
-abbrev pub InOrder : ℕ → ℕ → List (ℕ × ℕ) → Type 0
-InOrder from limit [] = from ≤ limit
-InOrder from limit (r ∷ rs) = (from ≤ r.0) × (r.0 ≤ r.1) × InOrder r.1 limit rs
+-- ranges of a text that stand in order from a place on, up to a limit: none is empty, and each begins and ends where a
+-- code point does
+abbrev pub InOrder : List ℕ → ℕ → ℕ → List (ℕ × ℕ) → Type 0
+InOrder text from limit [] = from ≤ limit
+InOrder text from limit (r ∷ rs) = (from ≤ r.0) × (r.0 < r.1) × IsCharBoundary text r.0 × IsCharBoundary text r.1 × InOrder text r.1 limit rs
+
+-- ranges that are in order up to a place are so up to a later one, with what was added
+abbrev pub Grows : List ℕ → ℕ → ℕ → List (ℕ × ℕ) → List (ℕ × ℕ) → Type 0
+Grows text at here rs more = IsUtf8 text → IsCharBoundary text at → InOrder text 0 at rs → InOrder text 0 here more
 
 -- a fault that has a token has one of the first `count`
 abbrev pub AreNumbered : ℕ → List LexFault → Type 0

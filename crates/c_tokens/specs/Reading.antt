@@ -1,5 +1,5 @@
 -- How the code reads a text: from a place where a unit begins, one logical character after another.
-use Rattle.std.specs.Prelude.{◌≡◌, ℕ, ◌+◌, ◌-◌, ◌<◌, ◌≤◌, List, [], ◌∷◌, take, drop, length, Some, slice_index, IsUtf8, IsCharBoundary, ⊤}
+use Rattle.std.specs.Prelude.{◌≡◌, ℕ, ◌+◌, ◌-◌, ◌<◌, ◌≤◌, List, [], ◌∷◌, take, drop, length, Some, false, slice_index, IsUtf8, IsCharBoundary, ⊤}
 use Rattle.c_tokens.specs.declared.logical.Unit.{Unit}
 use Rattle.c_tokens.specs.declared.logical.Unit.TheVariants.{Removed, Trigraph, Plain}
 use Rattle.c_tokens.specs.declared.logical.Read.{Read}
@@ -7,7 +7,7 @@ use Rattle.c_tokens.specs.declared.pieces.Next.{Next}
 use Rattle.c_tokens.specs.declared.pieces.Opening.{Opening}
 use Rattle.c_tokens.specs.declared.pieces.Front.{Front as FrontRead}
 use Rattle.c_tokens.specs.Cut.{cut}
-use Rattle.c_tokens.specs.Logical.{Source, Character, first_source, characters, start_of, end_of, codes_of}
+use Rattle.c_tokens.specs.Logical.{Source, Character, first_unit, continues, first_source, characters, start_of, end_of, codes_of}
 use Rattle.c_tokens.specs.Pieces.{Front, literal_prefix}
 
 -- the units from a place on
@@ -50,6 +50,12 @@ pub record IsNext (text : List ℕ) (at : ℕ) (r : Read) : Type 0 where
   pub within : r.end ≤ length text
   pub own_boundary : KeepsBoundary text at r.own
   pub boundary : KeepsBoundary text at r.end
+
+-- the byte at a place is a unit by itself
+pub record IsAlone (text : List ℕ) (at : ℕ) : Type 0 where
+  pub within : at + 1 < length text
+  pub unit : first_unit (drop at text) ≡ Plain 1
+  pub ends : continues (slice_index text (at + 1)) ≡ false
 
 -- `count` logical characters from a place on end at another one
 pub record IsAfter (text : List ℕ) (at count here : ℕ) : Type 0 where

@@ -1,12 +1,12 @@
 // A text is read piece by piece; each token gets its spelling, its place and its faults.
-ghost use Rattle.std.specs.Prelude.{◌≡◌, ℕ, [], ◌+◌, ◌<◌, ◌≤◌, ◌^◌, ◌++◌, length, take, Some, MatchOption, IfOk, OnOk, option_to_list, IsCharBoundary, string_bytes, vec_len};
+ghost use Rattle.std.specs.Prelude.{◌≡◌, ℕ, [], ◌+◌, ◌<◌, ◌≤◌, ◌^◌, ◌++◌, length, take, Some, IfSome, MatchOption, IfOk, OnOk, option_to_list, IsCharBoundary, string_bytes, vec_len};
 ghost use Rattle.std.specs.List.{flat_map};
-ghost use Rattle.c_tokens.specs.Finding.{read_piece, IsPiece, IsNextPiece};
-ghost use Rattle.c_tokens.specs.Laws.{AreNumbered, InOrder, ranges};
+ghost use Rattle.c_tokens.specs.Finding.{read_piece, IsPiece, IsNextPiece, IsWithin};
+ghost use Rattle.c_tokens.specs.Laws.{AreNumbered, Grows, InOrder, ranges};
 ghost use Rattle.c_tokens.specs.Lexed.{is_fresh, token_by, place_by, token_of, place_of, fault_as, faults_from, pieces_of};
 ghost use Rattle.c_tokens.specs.Logical.{end_of};
 ghost use Rattle.c_tokens.specs.Pieces;
-ghost use Rattle.c_tokens.specs.Reading.{rest, read_character, read_spelling, IsCharacter, IsNext, IsFront};
+ghost use Rattle.c_tokens.specs.Reading.{rest, read_character, read_spelling, IsAfter, IsCharacter, IsNext, IsFront};
 
 use crate::logical::{Read, Unit, next_character};
 use crate::names::Names;
@@ -143,7 +143,7 @@ fn end_of_two(text: &[u8], at: usize) -> usize
     requires place { at ≤ length text.now }
     requires two { 2 ≤ length (rest text.now at) }
     ensures end { result ≡ end_of at (take 2 (rest text.now at)) }
-    ensures within { result ≤ length text.now }
+    ensures after { IsAfter text.now at 2 result }
 {
     let first = look_ahead(text, at);
     look_ahead(text, first.end).end
@@ -153,7 +153,8 @@ fn end_of_two(text: &[u8], at: usize) -> usize
 fn fault_of(text: &[u8], piece: Piece, number: u32) -> Option<LexFault>
     requires piece { IsPiece text.now piece }
     requires small { length text.now < 2 ^ 32 }
-    ensures { let p = read_piece text.now piece in option_to_list result ≡ fault_as p.class p.characters number }
+    ensures value { let p = read_piece text.now piece in option_to_list result ≡ fault_as p.class p.characters number }
+    ensures within { IfSome result (λ f. IsWithin text.now piece f.start f.end) }
 {
     let start = piece.own as u32;
     let end = piece.front.end as u32;
@@ -190,6 +191,7 @@ fn add_fault(found: &mut Found, text: &[u8], piece: Piece) -> Result<(), AllocEr
     ensures tokens { found.new.tokens ≡ found.old.tokens }
     ensures places { found.new.places ≡ found.old.places }
     ensures faults { OnOk result (let p = read_piece text.now piece in found.new.faults.items ≡ found.old.faults.items ++ fault_as p.class p.characters (vec_len found.old.tokens)) }
+    ensures fault_order { OnOk result (Grows text.now piece.at piece.front.end (ranges found.old.faults.items) (ranges found.new.faults.items)) }
 {
     let number = found.tokens.len() as u32;
     let Some(fault) = fault_of(text, piece, number) else {
@@ -215,6 +217,7 @@ fn add_token(
     ensures spelling { IfOk result (λ word. word ≡ Pieces.spelling (read_piece text.now piece).characters) }
     ensures tokens { OnOk result (found.new.tokens.items ≡ found.old.tokens.items ++ token_by (Some kind) (read_piece text.now piece)) }
     ensures places { OnOk result (found.new.places.items ≡ found.old.places.items ++ place_by (Some kind) (read_piece text.now piece)) }
+    ensures place_order { OnOk result (Grows text.now piece.at piece.front.end found.old.places.items found.new.places.items) }
     ensures faults { found.new.faults ≡ found.old.faults }
 {
     let name = name_of(alloc, names, text, piece)?;
@@ -247,6 +250,8 @@ fn add_piece(
     ensures tokens { OnOk result (found.new.tokens.items ≡ found.old.tokens.items ++ token_of (read_piece text.now piece)) }
     ensures places { OnOk result (found.new.places.items ≡ found.old.places.items ++ place_of (read_piece text.now piece)) }
     ensures faults { OnOk result (let p = read_piece text.now piece in found.new.faults.items ≡ found.old.faults.items ++ fault_as p.class p.characters (vec_len found.old.tokens)) }
+    ensures place_order { OnOk result (Grows text.now piece.at piece.front.end found.old.places.items found.new.places.items) }
+    ensures fault_order { OnOk result (Grows text.now piece.at piece.front.end (ranges found.old.faults.items) (ranges found.new.faults.items)) }
 {
     add_fault(found, text.as_bytes(), piece)?;
     match piece.front.class {
@@ -290,7 +295,8 @@ fn next_piece(text: &[u8], at: usize, context: Context, spaced: bool) -> Option<
 }
 
 /// The preprocessing tokens of a text with the place and the faults of each (ISO C11 5.1.1.2, phases 1 to 3, and
-/// 6.4). Places are ranges in bytes of the text. Fails only for want of memory.
+/// 6.4). Places are ranges in bytes of the text: each begins and ends where a code point does, none is empty, and they
+/// stand in order, as do the faults' ranges. Fails only for want of memory.
 pub fn lex(alloc: Global, text: &str) -> Result<Lexed, AllocError>
     requires { length text.now ≤ 4290772992 }
     ensures tokens { IfOk result (λ lexed. lexed.tokens ≡ flat_map token_of (pieces_of text.now)) }
@@ -299,8 +305,8 @@ pub fn lex(alloc: Global, text: &str) -> Result<Lexed, AllocError>
     ensures paired { IfOk result (λ lexed. length lexed.tokens ≡ length lexed.places) }
     ensures few { IfOk result (λ lexed. length lexed.tokens ≤ length text.now) }
     ensures numbered { IfOk result (λ lexed. AreNumbered (length lexed.tokens) lexed.faults) }
-    ensures place_order { IfOk result (λ lexed. InOrder 0 (length text.now) lexed.places) }
-    ensures fault_order { IfOk result (λ lexed. InOrder 0 (length text.now) (ranges lexed.faults)) }
+    ensures place_order { IfOk result (λ lexed. InOrder text.now 0 (length text.now) lexed.places) }
+    ensures fault_order { IfOk result (λ lexed. InOrder text.now 0 (length text.now) (ranges lexed.faults)) }
 {
     let mut found = Found {
         tokens: Vec::new(alloc),

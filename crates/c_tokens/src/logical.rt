@@ -1,8 +1,8 @@
 // Logical characters (ISO C11 5.1.1.2, phases 1 and 2), read from a text one after another.
-ghost use Rattle.std.specs.Prelude.{◌≡◌, ℕ, [], ◌+◌, ◌^◌, ◌-◌, ◌<◌, ◌≤◌, length, slice_index, drop, IsSome, IfSome, false, IsUtf8, IsCharBoundary, MatchOption};
+ghost use Rattle.std.specs.Prelude.{◌≡◌, ℕ, [], ◌+◌, ◌^◌, ◌-◌, ◌<◌, ◌≤◌, length, slice_index, drop, IsSome, IfSome, IsTrue, false, IsUtf8, IsCharBoundary, MatchOption};
 ghost use Rattle.std.specs.List.{prefix_len};
 ghost use Rattle.c_tokens.specs.Logical;
-ghost use Rattle.c_tokens.specs.Reading.{rest, IsNext};
+ghost use Rattle.c_tokens.specs.Reading.{rest, IsNext, IsAlone};
 
 /// What stands at a place of a text: a removed line end or a character (both with their width in bytes), or the
 /// character that a trigraph sequence stands for.
@@ -86,6 +86,12 @@ fn backslash_width(text: &[u8]) -> usize
     }
 }
 
+fn continues(byte: u8) -> bool
+    ensures { result ≡ Logical.continues byte }
+{
+    128 <= byte && byte < 192
+}
+
 // How many bytes at the front continue a character.
 fn continuing(text: &[u8]) -> usize
     ensures value { result ≡ prefix_len Logical.continues text.now }
@@ -144,8 +150,45 @@ fn first_unit(text: &[u8]) -> Unit
     plain(text)
 }
 
+// Whether the byte at a place is a character as it stands: it begins no removed line end and no trigraph sequence, and
+// the byte behind it continues nothing.
+#[inline(always)]
+fn stands_alone(text: &[u8], at: usize) -> bool
+    requires { at ≤ length text.now }
+    ensures { IsTrue result → IsAlone text.now at }
+{
+    if text.len() - at < 2 {
+        return false;
+    }
+    let byte = text[at];
+    if byte == b'\\' || byte == b'?' {
+        return false;
+    }
+    if continues(text[at + 1]) {
+        return false;
+    }
+    true
+}
+
 /// The first logical character from a place on at which a unit begins, or none where only removed line ends are left.
+#[inline(always)]
 pub fn next_character(text: &[u8], at: usize) -> Option<Read>
+    requires { at ≤ length text.now }
+    ensures { MatchOption result (rest text.now at ≡ []) (IsNext text.now at) }
+{
+    if stands_alone(text, at) {
+        return Some(Read {
+            unit: Unit::Plain(1),
+            code: text[at],
+            own: at,
+            end: at + 1,
+        });
+    }
+    next_marked(text, at)
+}
+
+// The same, unit by unit.
+fn next_marked(text: &[u8], at: usize) -> Option<Read>
     requires { at ≤ length text.now }
     ensures { MatchOption result (rest text.now at ≡ []) (IsNext text.now at) }
 {

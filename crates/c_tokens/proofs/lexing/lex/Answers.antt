@@ -8,7 +8,8 @@ use Rattle.c_tokens.specs.Lexed.{pieces_of}
 use Rattle.c_tokens.specs.Laws.{InOrder, ranges}
 use Rattle.c_tokens.specs.Reading.{rest}
 use Rattle.c_tokens.proofs.LexingLemmas.{goes_begins}
-use Rattle.c_tokens.proofs.EndLemmas.{ended_tokens, ended_places, ended_faults, ordered_places, ordered_faults, numbered_faults}
+use Rattle.c_tokens.proofs.EndLemmas.{ended_tokens, ended_places, ended_faults, numbered_faults}
+use Rattle.c_tokens.proofs.OrderLemmas.{order_further}
 use Rattle.c_tokens.proofs.LawLemmas.{paired}
 use Rattle.c_tokens.proofs.lexing.lex.Goals as goal
 
@@ -17,6 +18,8 @@ loop-piece-init c = record {
   goes = rw (c.new.ensures.items, c.new-2.ensures.items, c.new-3.ensures.items) (goes_begins (pieces Fresh false 0 (rest c.args.text.now 0)));
   within = omega arith;
   boundary = IsCharBoundary-start c.args.text.now c.utf8.text;
+  place_order = rw c.new-2.ensures.items (omega arith);
+  fault_order = rw c.new-3.ensures.items (omega arith);
   numbered = rw c.new.ensures.items (omega arith);
 }
 
@@ -44,18 +47,13 @@ returns-clause-paired c =
 
 pub returns-clause-place_order : goal.returns-clause-place_order
 returns-clause-place_order c =
-    let none : rest c.args.text.now c.loop-piece.at ≡ [] = subst (λ (t : List ℕ). rest t c.loop-piece.at ≡ []) c.as_bytes.ensures.value c.in_default.ensures in
-    let places = c.from_vec-2.ensures ∙ ended_places _ _ _ c.args.text.now c.loop-piece.at c.loop-piece.context c.loop-piece.spaced none c.loop-piece.invariant.goes in
-    subst (λ (rs : List (ℕ × ℕ)). InOrder 0 (length c.args.text.now) rs) (sym places) (ordered_places c.args.text.now)
+    subst (λ (rs : List (ℕ × ℕ)). InOrder c.args.text.now 0 (length c.args.text.now) rs) (sym c.from_vec-2.ensures)
+    (order_further c.args.text.now 0 c.loop-piece.at (length c.args.text.now) c.loop-piece.found.places.items c.loop-piece.invariant.within c.loop-piece.invariant.place_order)
 
 pub returns-clause-fault_order : goal.returns-clause-fault_order
 returns-clause-fault_order c =
-    let none : rest c.args.text.now c.loop-piece.at ≡ [] = subst (λ (t : List ℕ). rest t c.loop-piece.at ≡ []) c.as_bytes.ensures.value c.in_default.ensures in
-    let faults = c.from_vec-3.ensures ∙ ended_faults _ _ _ c.args.text.now c.loop-piece.at c.loop-piece.context c.loop-piece.spaced none c.loop-piece.invariant.goes in
-    subst (λ (fs : List LexFault). InOrder 0 (length c.args.text.now) (ranges fs)) (sym faults) (ordered_faults c.args.text.now)
-
-pub returns-clause-few : goal.returns-clause-few
-returns-clause-few c = omega (arith, ap length c.from_vec.ensures, c.loop-piece.invariant.numbered, c.loop-piece.invariant.within)
+    subst (λ (fs : List LexFault). InOrder c.args.text.now 0 (length c.args.text.now) (ranges fs)) (sym c.from_vec-3.ensures)
+    (order_further c.args.text.now 0 c.loop-piece.at (length c.args.text.now) (ranges c.loop-piece.found.faults.items) c.loop-piece.invariant.within c.loop-piece.invariant.fault_order)
 
 pub returns-clause-numbered : goal.returns-clause-numbered
 returns-clause-numbered c =

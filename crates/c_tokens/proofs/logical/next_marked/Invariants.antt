@@ -2,7 +2,7 @@
 use Rattle.std.proofs.Common.{◌≡◌, ◌≤◌, ◌-◌, length}
 use Rattle.c_tokens.specs.Logical.{characters}
 use Rattle.c_tokens.specs.Reading.{units, rest, KeepsBoundary}
-use Rattle.c_tokens.proofs.logical.next_character.Given as goal
+use Rattle.c_tokens.proofs.logical.next_marked.Given as goal
 
 abbrev pub invariant-loop-own : goal.invariant-loop-own
 invariant-loop-own l = record {
