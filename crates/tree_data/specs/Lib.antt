@@ -1,1 +1,4 @@
+pub mod Names
+pub mod Seen
 pub mod Trees
+pub mod Types

@@ -1,9 +1,13 @@
 // Trees of expressions (ISO C11 6.5). A tree holds the numbers of its tokens, and no text.
 ghost use Rattle.std.specs.Prelude.{◌≡◌, IfOk};
 ghost use Rattle.tree_data.specs.Trees as spec;
-ghost use Rattle.tree_data.specs.Trees.{tree_of, is_unary};
+ghost use Rattle.tree_data.specs.Trees.{is_unary};
+ghost use Rattle.tree_data.specs.Seen as seen;
+ghost use Rattle.tree_data.specs.Seen.{tree_of};
+ghost use Rattle.tree_data.specs.Types.{type_of};
 
 use crate::parts::{Choice, Suffix};
+use crate::types::{Prefix, TypeName, begins_with_operator};
 use std::alloc::{AllocError, Global};
 
 /// An expression. What is written side by side, however long, stands in one list: a tree is no deeper than its brackets,
@@ -21,8 +25,10 @@ pub enum Expr {
     Paren(u32, Box<Expr>, u32),
     /// A primary expression and at least one postfix operator behind it, the first one applied first (6.5.2).
     Postfix(Box<Expr>, Vec<Suffix>),
-    /// At least one unary operator and the operand behind the last one, which is applied first (6.5.3).
-    Unary(Vec<u32>, Box<Expr>),
+    /// At least one unary operator or cast and the operand behind the last one, which is applied first (6.5.3, 6.5.4).
+    Unary(Vec<Prefix>, Box<Expr>),
+    /// `sizeof ( type-name )` or `_Alignof ( type-name )` (6.5.3).
+    OfType(u32, u32, TypeName, u32),
     /// An operand and at least one binary operator with the operand behind it; all operators are of one level of
     /// precedence and group to the left (6.5.5 to 6.5.14, 6.5.17).
     Binary(Box<Expr>, Vec<(u32, Expr)>),
@@ -65,25 +71,25 @@ impl Expr {
     /// An expression with postfix operators behind it.
     pub fn postfix(alloc: Global, first: Expr, suffixes: Vec<Suffix>) -> Result<Expr, AllocError>
         ensures { IfOk result (λ e. tree_of e
-            ≡ spec.Postfix_of (tree_of first) (spec.behinds (spec.suffixes_of suffixes.items) spec.None_behind)) }
+            ≡ spec.Postfix_of (tree_of first) (spec.behinds (seen.suffixes_of suffixes.items) spec.None_behind)) }
     {
         let first = Box::new(alloc, first)?;
         Ok(Expr::Postfix(first, suffixes))
     }
 
-    /// An operand with unary operators in front of it.
-    pub fn unary(alloc: Global, operators: Vec<u32>, operand: Expr) -> Result<Expr, AllocError>
+    /// An operand with unary operators and casts in front of it.
+    pub fn unary(alloc: Global, prefixes: Vec<Prefix>, operand: Expr) -> Result<Expr, AllocError>
         ensures { IfOk result (λ e. tree_of e
-            ≡ spec.Unary_of (spec.fronts (spec.operators_of operators.items) spec.None_before) (tree_of operand)) }
+            ≡ spec.Unary_of (spec.fronts (seen.prefixes_of prefixes.items) spec.None_before) (tree_of operand)) }
     {
         let operand = Box::new(alloc, operand)?;
-        Ok(Expr::Unary(operators, operand))
+        Ok(Expr::Unary(prefixes, operand))
     }
 
     /// An operand with operators and operands behind it.
     pub fn binary(alloc: Global, first: Expr, more: Vec<(u32, Expr)>) -> Result<Expr, AllocError>
         ensures { IfOk result (λ e. tree_of e
-            ≡ spec.Binary_of (tree_of first) (spec.behinds (spec.operands_of more.items) spec.None_behind)) }
+            ≡ spec.Binary_of (tree_of first) (spec.behinds (seen.operands_of more.items) spec.None_behind)) }
     {
         let first = Box::new(alloc, first)?;
         Ok(Expr::Binary(first, more))
@@ -92,7 +98,7 @@ impl Expr {
     /// Tests with the expressions of which one is chosen, and the last one.
     pub fn conditional(alloc: Global, choices: Vec<Choice>, last: Expr) -> Result<Expr, AllocError>
         ensures { IfOk result (λ e. tree_of e
-            ≡ spec.Conditional_of (spec.fronts (spec.choices_of choices.items) spec.None_before) (tree_of last)) }
+            ≡ spec.Conditional_of (spec.fronts (seen.choices_of choices.items) spec.None_before) (tree_of last)) }
     {
         let last = Box::new(alloc, last)?;
         Ok(Expr::Conditional(choices, last))
@@ -101,10 +107,17 @@ impl Expr {
     /// Places to which a value is assigned, from the last to the first, and the value.
     pub fn assign(alloc: Global, places: Vec<(Expr, u32)>, value: Expr) -> Result<Expr, AllocError>
         ensures { IfOk result (λ e. tree_of e
-            ≡ spec.Assign_of (spec.fronts (spec.lefts_of places.items) spec.None_before) (tree_of value)) }
+            ≡ spec.Assign_of (spec.fronts (seen.lefts_of places.items) spec.None_before) (tree_of value)) }
     {
         let value = Box::new(alloc, value)?;
         Ok(Expr::Assign(places, value))
+    }
+
+    /// The size or the alignment of a type.
+    pub fn of_type(keyword: u32, opening: u32, name: TypeName, closing: u32) -> Expr
+        ensures { tree_of result ≡ spec.Of_type keyword opening (type_of name) closing }
+    {
+        Expr::OfType(keyword, opening, name, closing)
     }
 
     /// Whether its production is one of unary-expression (6.5.3), which alone may stand on the left of an assignment.
@@ -117,7 +130,8 @@ impl Expr {
             Expr::Text(_) => true,
             Expr::Paren(_, _, _) => true,
             Expr::Postfix(_, _) => true,
-            Expr::Unary(_, _) => true,
+            Expr::Unary(prefixes, _) => begins_with_operator(prefixes.as_slice()),
+            Expr::OfType(_, _, _, _) => true,
             Expr::Binary(_, _) => false,
             Expr::Conditional(_, _) => false,
             Expr::Assign(_, _) => false,

@@ -3,6 +3,8 @@
 
 mod expr;
 mod parts;
+mod types;
 
 pub use expr::Expr;
 pub use parts::{Choice, Suffix};
+pub use types::{Pointer, Prefix, Specifier, TypeName};

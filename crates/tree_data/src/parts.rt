@@ -1,7 +1,8 @@
 // Parts of expressions that stand in lists (ISO C11 6.5).
 ghost use Rattle.std.specs.Prelude.{◌≡◌, IfOk};
 ghost use Rattle.tree_data.specs.Trees as spec;
-ghost use Rattle.tree_data.specs.Trees.{tree_of, behind_of, front_of};
+ghost use Rattle.tree_data.specs.Seen as seen;
+ghost use Rattle.tree_data.specs.Seen.{tree_of, behind_of, front_of};
 
 use crate::expr::Expr;
 use std::alloc::{AllocError, Global};
@@ -62,7 +63,7 @@ impl Suffix {
         closing: u32,
     ) -> Result<Suffix, AllocError>
         ensures { IfOk result (λ s. behind_of s ≡ spec.Call_with_of opening (tree_of first)
-            (spec.behinds (spec.operands_of more.items) spec.None_behind) closing) }
+            (spec.behinds (seen.operands_of more.items) spec.None_behind) closing) }
     {
         let first = Box::new(alloc, first)?;
         Ok(Suffix::CallWith(opening, first, more, closing))

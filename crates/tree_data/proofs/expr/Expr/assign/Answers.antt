@@ -2,7 +2,8 @@ use Rattle.std.proofs.Common.{ap, sym, ◌∙◌}
 use Rattle.tree_data.specs.declared.expr.Expr.TheOpen as layer
 use Rattle.tree_data.specs.declared.expr.Expr.TheFolds.{fold-roll-Expr}
 use Rattle.tree_data.specs.declared.expr.Expr.TheVariants.{rolls-Assign}
-use Rattle.tree_data.specs.Trees.{Assign_of, Behind, Front, None_before, Tree, behind_of, behind_step, front_of, front_step, fronts, lefts_of, tree_of, tree_step}
+use Rattle.tree_data.specs.Seen.{behind_of, behind_step, front_of, front_step, lefts_of, tree_of, tree_step}
+use Rattle.tree_data.specs.Trees.{Assign_of, Behind, Front, None_before, Tree, fronts}
 use Rattle.tree_data.proofs.expr.Expr.assign.Goals as goal
 
 pub returns : goal.returns

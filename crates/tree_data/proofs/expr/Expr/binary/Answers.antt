@@ -2,7 +2,8 @@ use Rattle.std.proofs.Common.{ap, sym, ◌∙◌}
 use Rattle.tree_data.specs.declared.expr.Expr.TheOpen as layer
 use Rattle.tree_data.specs.declared.expr.Expr.TheFolds.{fold-roll-Expr}
 use Rattle.tree_data.specs.declared.expr.Expr.TheVariants.{rolls-Binary}
-use Rattle.tree_data.specs.Trees.{Behind, Binary_of, Front, None_behind, Tree, behind_of, behind_step, behinds, front_of, front_step, operands_of, tree_of, tree_step}
+use Rattle.tree_data.specs.Seen.{behind_of, behind_step, front_of, front_step, operands_of, tree_of, tree_step}
+use Rattle.tree_data.specs.Trees.{Behind, Binary_of, Front, None_behind, Tree, behinds}
 use Rattle.tree_data.proofs.expr.Expr.binary.Goals as goal
 
 pub returns : goal.returns

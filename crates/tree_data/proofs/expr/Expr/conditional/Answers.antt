@@ -2,7 +2,8 @@ use Rattle.std.proofs.Common.{ap, sym, ◌∙◌}
 use Rattle.tree_data.specs.declared.expr.Expr.TheOpen as layer
 use Rattle.tree_data.specs.declared.expr.Expr.TheFolds.{fold-roll-Expr}
 use Rattle.tree_data.specs.declared.expr.Expr.TheVariants.{rolls-Conditional}
-use Rattle.tree_data.specs.Trees.{Behind, Conditional_of, Front, None_before, Tree, behind_of, behind_step, choices_of, front_of, front_step, fronts, tree_of, tree_step}
+use Rattle.tree_data.specs.Seen.{behind_of, behind_step, choices_of, front_of, front_step, tree_of, tree_step}
+use Rattle.tree_data.specs.Trees.{Behind, Conditional_of, Front, None_before, Tree, fronts}
 use Rattle.tree_data.proofs.expr.Expr.conditional.Goals as goal
 
 pub returns : goal.returns

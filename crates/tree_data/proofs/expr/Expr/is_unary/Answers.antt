@@ -1,8 +1,11 @@
 use Rattle.std.proofs.Common.{ap, sym, ◌∙◌}
 use Rattle.tree_data.specs.declared.expr.Expr.TheOpen as layer
 use Rattle.tree_data.specs.declared.expr.Expr.TheFolds.{fold-roll-Expr}
-use Rattle.tree_data.specs.declared.expr.Expr.TheVariants.{rolls-Name, rolls-Constant, rolls-Text, rolls-Paren, rolls-Postfix, rolls-Unary, rolls-Binary, rolls-Conditional, rolls-Assign}
-use Rattle.tree_data.specs.Trees.{Tree, Behind, Front, tree_step, behind_step, front_step, tree_of, behind_of, front_of, is_unary}
+use Rattle.tree_data.specs.declared.expr.Expr.TheVariants.{rolls-Name, rolls-Constant, rolls-Text, rolls-Paren, rolls-Postfix, rolls-Binary, rolls-Conditional, rolls-Assign, rolls-OfType, rolls-Unary}
+use Rattle.tree_data.specs.Seen.{tree_step, behind_step, front_step, tree_of, behind_of, front_of}
+use Rattle.tree_data.specs.Trees.{Tree, Behind, Front, is_unary}
+use Rattle.tree_data.specs.Types.{begin_with_operator}
+use Rattle.tree_data.proofs.Operators.{operator_first}
 use Rattle.tree_data.proofs.expr.Expr.is_unary.Goals as goal
 
 pub returns-in-Name : goal.returns-in-Name
@@ -50,15 +53,6 @@ returns-in-Postfix c =
     is_unary
     (fold-roll-Expr Tree Behind Front tree_step behind_step front_step (layer.Postfix c.in-Postfix.field-0 c.in-Postfix.field-1)))
 
-pub returns-in-Unary : goal.returns-in-Unary
-unfolding tree_of behind_of front_of tree_step behind_step front_step
-returns-in-Unary c =
-    sym
-    (ap (λ e. is_unary (tree_of e)) (c.in-Unary.is ∙ sym (rolls-Unary c.in-Unary.field-0 c.in-Unary.field-1))
-    ∙ ap
-    is_unary
-    (fold-roll-Expr Tree Behind Front tree_step behind_step front_step (layer.Unary c.in-Unary.field-0 c.in-Unary.field-1)))
-
 pub returns-in-Binary : goal.returns-in-Binary
 unfolding tree_of behind_of front_of tree_step behind_step front_step
 returns-in-Binary c =
@@ -85,3 +79,24 @@ returns-in-Assign c =
     ∙ ap
     is_unary
     (fold-roll-Expr Tree Behind Front tree_step behind_step front_step (layer.Assign c.in-Assign.field-0 c.in-Assign.field-1)))
+
+pub returns-in-OfType : goal.returns-in-OfType
+unfolding tree_of behind_of front_of tree_step behind_step front_step
+returns-in-OfType c =
+    sym
+    (ap (λ e. is_unary (tree_of e)) (c.in-OfType.is ∙ sym (rolls-OfType c.in-OfType.field-0 c.in-OfType.field-1 c.in-OfType.field-2 c.in-OfType.field-3))
+    ∙ ap
+    is_unary
+    (fold-roll-Expr Tree Behind Front tree_step behind_step front_step (layer.OfType c.in-OfType.field-0 c.in-OfType.field-1 c.in-OfType.field-2 c.in-OfType.field-3)))
+
+pub returns-in-Unary : goal.returns-in-Unary
+unfolding tree_of behind_of front_of tree_step behind_step front_step
+returns-in-Unary c =
+    c.begins_with_operator.ensures
+    ∙ ap begin_with_operator c.as_slice.ensures.value
+    ∙ operator_first c.in-Unary.prefixes.items
+    ∙ sym
+    (ap (λ e. is_unary (tree_of e)) (c.in-Unary.is ∙ sym (rolls-Unary c.in-Unary.prefixes c.in-Unary.field-1))
+    ∙ ap
+    is_unary
+    (fold-roll-Expr Tree Behind Front tree_step behind_step front_step (layer.Unary c.in-Unary.prefixes c.in-Unary.field-1)))

@@ -2,7 +2,8 @@ use Rattle.std.proofs.Common.{ap, sym, ◌∙◌}
 use Rattle.tree_data.specs.declared.expr.Expr.TheOpen as layer
 use Rattle.tree_data.specs.declared.expr.Expr.TheFolds.{fold-roll-Suffix}
 use Rattle.tree_data.specs.declared.parts.Suffix.TheVariants.{rolls-Step}
-use Rattle.tree_data.specs.Trees.{Behind, Front, Tree, behind_of, behind_step, front_of, front_step, tree_of, tree_step}
+use Rattle.tree_data.specs.Seen.{behind_of, behind_step, front_of, front_step, tree_of, tree_step}
+use Rattle.tree_data.specs.Trees.{Behind, Front, Tree}
 use Rattle.tree_data.proofs.parts.Suffix.step.Goals as goal
 
 pub returns : goal.returns
