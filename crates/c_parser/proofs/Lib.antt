@@ -2,10 +2,13 @@ mod Fronts
 mod Joins
 mod KindLemmas
 mod Marks
+mod Numbers
 mod Parsing
 mod Pushes
 mod Spans
+mod SpecifierLists
 mod Tables
+mod Types
 mod Uniqueness
 mod Views
 mod Wholes

@@ -1,8 +1,8 @@
 -- Kinds told apart.
-use Rattle.std.proofs.Common.{◌≡◌, refl, ap, sym, ◌∙◌, subst, ℕ, ◌<◌, List, arith, true, false, true≢false}
+use Rattle.std.proofs.Common.{◌≡◌, refl, ap, sym, ◌∙◌, subst, ℕ, ◌<◌, List, arith, Bool, true, false, true≢false}
 use Rattle.c_parser.specs.declared.kinds.Kind.{Kind}
-use Rattle.c_parser.specs.declared.kinds.Kind.TheVariants.{Identifier, TypeName, Constant, Text, OpenParen, CloseParen, OpenBracket, CloseBracket, Member, Step, Ampersand, Star, Sign, Complement, SizeOf, Quotient, Shift, Relation, Equality, Caret, Bar, And, Or, Question, Colon, Assignment, Comma}
-use Rattle.c_parser.specs.Kinds.{kind_at, level_of, is_prefix}
+use Rattle.c_parser.specs.declared.kinds.Kind.TheVariants.{Identifier, TypeName, TypeWord, Qualifier, Tag, AlignOf, Constant, Text, OpenParen, CloseParen, OpenBracket, CloseBracket, Member, Step, Ampersand, Star, Sign, Complement, SizeOf, Quotient, Shift, Relation, Equality, Caret, Bar, And, Or, Question, Colon, Assignment, Comma}
+use Rattle.c_parser.specs.Kinds.{kind_at, level_of, is_prefix, is_size, is_suffix, is_opening, is_specifying, starts_type}
 use Rattle.c_parser.specs.Reading.{Stops}
 
 abbrev pub code_of : Kind → ℕ
@@ -25,6 +25,10 @@ code_of Question = 16
 code_of Colon = 17
 code_of Assignment = 18
 code_of Comma = 19
+code_of TypeWord = 20
+code_of Qualifier = 21
+code_of Tag = 22
+code_of AlignOf = 23
 code_of _ = 0
 
 -- no two kinds of these are the same
@@ -149,3 +153,84 @@ not_assignment OpenParen h not = absurd (omega (arith, h))
 not_assignment Member h not = absurd (omega (arith, h))
 not_assignment Step h not = absurd (omega (arith, h))
 not_assignment _ h not = omega arith
+
+pub word_starts : (k : Kind) → is_specifying k ≡ true → starts_type k ≡ true
+word_starts TypeWord h = refl
+word_starts Qualifier h = refl
+word_starts Tag h = refl
+word_starts TypeName h = refl
+word_starts _ h = absurd (true≢false (sym h))
+
+-- what an expression may begin with
+abbrev pub is_start : Kind → Bool
+is_start Identifier = true
+is_start Constant = true
+is_start Text = true
+is_start OpenParen = true
+is_start Step = true
+is_start Ampersand = true
+is_start Star = true
+is_start Sign = true
+is_start Complement = true
+is_start SizeOf = true
+is_start AlignOf = true
+is_start _ = false
+
+pub prefix_starts : (k : Kind) → is_prefix k ≡ true → is_start k ≡ true
+prefix_starts Step h = refl
+prefix_starts Ampersand h = refl
+prefix_starts Star h = refl
+prefix_starts Sign h = refl
+prefix_starts Complement h = refl
+prefix_starts SizeOf h = refl
+prefix_starts _ h = absurd (true≢false (sym h))
+
+pub size_starts : (k : Kind) → is_size k ≡ true → is_start k ≡ true
+size_starts SizeOf h = refl
+size_starts AlignOf h = refl
+size_starts _ h = absurd (true≢false (sym h))
+
+-- an expression begins with no type name
+pub no_type : (k : Kind) → is_start k ≡ true → starts_type k ≡ false
+no_type TypeWord h = absurd (true≢false (sym h))
+no_type Qualifier h = absurd (true≢false (sym h))
+no_type Tag h = absurd (true≢false (sym h))
+no_type TypeName h = absurd (true≢false (sym h))
+no_type _ h = refl
+
+pub size_is : (k : Kind) → is_size k ≡ true → (k ≡ SizeOf → ⊥) → (k ≡ AlignOf → ⊥) → ⊥
+size_is SizeOf h u v = u refl
+size_is AlignOf h u v = v refl
+size_is _ h u v = true≢false (sym h)
+
+pub opening_is : (k : Kind) → is_opening k ≡ true → k ≡ OpenParen
+opening_is OpenParen h = refl
+opening_is _ h = absurd (true≢false (sym h))
+
+pub suffix_level : (k : Kind) → is_suffix k ≡ true → level_of k ≡ 16
+suffix_level OpenBracket h = refl
+suffix_level OpenParen h = refl
+suffix_level Member h = refl
+suffix_level Step h = refl
+suffix_level _ h = absurd (true≢false (sym h))
+
+pub level_suffix : (k : Kind) → level_of k ≡ 16 → is_suffix k ≡ true
+level_suffix OpenBracket h = refl
+level_suffix OpenParen h = refl
+level_suffix Member h = refl
+level_suffix Step h = refl
+level_suffix Comma h = absurd (omega (arith, h))
+level_suffix Assignment h = absurd (omega (arith, h))
+level_suffix Question h = absurd (omega (arith, h))
+level_suffix Or h = absurd (omega (arith, h))
+level_suffix And h = absurd (omega (arith, h))
+level_suffix Bar h = absurd (omega (arith, h))
+level_suffix Caret h = absurd (omega (arith, h))
+level_suffix Ampersand h = absurd (omega (arith, h))
+level_suffix Equality h = absurd (omega (arith, h))
+level_suffix Relation h = absurd (omega (arith, h))
+level_suffix Shift h = absurd (omega (arith, h))
+level_suffix Sign h = absurd (omega (arith, h))
+level_suffix Star h = absurd (omega (arith, h))
+level_suffix Quotient h = absurd (omega (arith, h))
+level_suffix _ h = absurd (omega (arith, h))

@@ -1,16 +1,19 @@
 -- What a call of the parser found is the only tree there; where a part has none, the whole has none.
-use Rattle.std.proofs.Common.{◌≡◌, refl, ap, sym, ◌∙◌, subst, ℕ, ◌+◌, ◌<◌, ◌≤◌, List, [], ◌∷◌, ◌++◌, length, arith, true, false, true≢false, append_assoc, append-nil}
-use Rattle.tree_data.specs.Trees.{Tree, Name_of, Constant_of, Text_of, Paren_of, Postfix_of, Binary_of, Behind, Operand_of, Index_of, Call_of, Call_with_of, Member_of, Step_of, Behinds, None_behind, Behind_then, behinds}
+use Rattle.std.proofs.Common.{◌≡◌, refl, ap, sym, ◌∙◌, subst, ℕ, ◌+◌, ◌<◌, ◌≤◌, List, [], ◌∷◌, ◌++◌, length, arith, true, false, true≢false, append_assoc, append-nil, Bool, ◌&&◌}
+use Rattle.tree_data.specs.Trees.{Tree, Name_of, Constant_of, Text_of, Paren_of, Postfix_of, Binary_of, Behind, Operand_of, Index_of, Call_of, Call_with_of, Member_of, Step_of, Behinds, None_behind, Behind_then, behinds, Of_type}
 use Rattle.c_parser.specs.declared.answers.Stop.{Stop}
 use Rattle.c_parser.specs.declared.kinds.Kind.{Kind}
-use Rattle.c_parser.specs.declared.kinds.Kind.TheVariants.{Identifier, Constant, Text, OpenParen, CloseParen, OpenBracket, CloseBracket, Member, Step}
+use Rattle.c_parser.specs.declared.kinds.Kind.TheVariants.{Identifier, Constant, Text, OpenParen, CloseParen, OpenBracket, CloseBracket, Member, Step, SizeOf, AlignOf}
 use Rattle.c_parser.specs.Joining.{followed}
-use Rattle.c_parser.specs.Kinds.{kind_at, level_at, is_word}
+use Rattle.c_parser.specs.Kinds.{kind_at, level_at, is_word, is_size, is_suffix}
 use Rattle.c_parser.specs.Levels.{IsBinary, behinds_level, rank}
-use Rattle.c_parser.specs.Reading.{HoldTexts, HoldsBehind, HoldBehinds, Reads, Stops, Found, FoundTexts, FoundBehind, FoundBehinds, IsWant}
-use Rattle.c_parser.proofs.Marks.{clash}
+use Rattle.c_parser.specs.Reading.{HoldTexts, HoldsBehind, HoldBehinds, Reads, Stops, Found, FoundTexts, FoundBehind, FoundBehinds, IsWant, FoundType}
+use Rattle.tree_data.specs.Names.{Naming}
+use Rattle.c_parser.specs.Grammar.{IsMore, goes_on}
+use Rattle.c_parser.specs.TypeNames.{HoldsType}
+use Rattle.c_parser.proofs.Marks.{clash, suffix_level, level_suffix, size_is}
 use Rattle.c_parser.proofs.Uniqueness.{Only, OnlyBehinds, reads_only, behinds_only, behind_only, any_stop, closed, index_closes}
-use Rattle.c_parser.proofs.Views.{lowered, loosely, Following, Primary, a_name, a_constant, a_text, a_paren, primary_view, index_view, Calling, no_arguments, arguments, call_view, member_view, operand_view}
+use Rattle.c_parser.proofs.Views.{lowered, loosely, Following, Primary, a_name, a_constant, a_text, a_paren, primary_view, index_view, Calling, no_arguments, arguments, call_view, member_view, operand_view, a_size, postfix_view, begins}
 
 -- no tree of this level, whose call gave e, but for want of memory
 abbrev pub Fails : List Kind → ℕ → ℕ → Stop → Type 0
@@ -78,10 +81,11 @@ binary_made ks l a i f m (Behind_then x xs) b h g =
     )
 
 postfix_made : (ks : List Kind) → (a : ℕ) → (f : Tree) → (m : ℕ) → (xs : Behinds) → (b : ℕ)
-    → Reads ks 17 f a m → HoldBehinds ks 16 xs m b → Reads ks 16 (followed Postfix_of f xs) a b
-postfix_made ks a f m None_behind b h g =
+    → (level_at ks m ≡ 16 → goes_on f ≡ true) → Reads ks 17 f a m → HoldBehinds ks 16 xs m b → Reads ks 16 (followed Postfix_of f xs) a b
+postfix_made ks a f m None_behind b fit h g =
     subst (λ x. Reads ks 16 f a x) (sym g) (lowered ks 16 17 f a m (omega arith) h)
-postfix_made ks a f m (Behind_then x xs) b h g = (omega arith, (m, tt, h.0, h.1, g))
+postfix_made ks a f m (Behind_then x xs) b fit h g =
+    (omega arith, (m, tt, h.0, h.1, g, fit (begins ks 16 x m g.0 g.1)))
 
 pub binary_found : (ks : List Kind) → (l a : ℕ) → IsBinary l → (f : Tree) → (m : ℕ) → (xs : Behinds) → (b : ℕ)
     → Found ks (l + 1) a f m → FoundBehinds ks l m xs b → Found ks l a (followed Binary_of f xs) b
@@ -90,12 +94,83 @@ binary_found ks l a i f m xs b x y =
     let two : m ≤ b = y.forth in
     record { reads = binary_made ks l a i f m xs b x.reads y.reads; stops = y.stops; forth = omega arith; inside = y.inside }
 
+-- the size of a type is closed: no postfix operator goes on behind it
+size_goes_not : (ks : List Kind) → (f : Tree) → (a m : ℕ) → (is_size (kind_at ks a) && is_suffix (kind_at ks m)) ≡ false
+    → level_at ks m ≡ 16 → Primary ks f a m → goes_on f ≡ true
+size_goes_not ks f a m h l (a_name e k g) = ap goes_on e
+size_goes_not ks f a m h l (a_constant e k g) = ap goes_on e
+size_goes_not ks f a m h l (a_text ns e k g) = ap goes_on e
+size_goes_not ks f a m h l (a_paren u c e k r x g) = ap goes_on e
+size_goes_not ks f a m h l (a_size y c e k o i x g) =
+    absurd
+    (true≢false
+    (sym (ap (λ p. p && is_suffix (kind_at ks m)) k ∙ level_suffix (kind_at ks m) l) ∙ h))
+
+sized_stays : (ks : List Kind) → (f : Tree) → (a m : ℕ) → is_size (kind_at ks a) ≡ true → Primary ks f a m → goes_on f ≡ false
+sized_stays ks f a m h (a_name e k g) = absurd (true≢false (sym h ∙ ap is_size k))
+sized_stays ks f a m h (a_constant e k g) = absurd (true≢false (sym h ∙ ap is_size k))
+sized_stays ks f a m h (a_text ns e k g) = absurd (true≢false (sym h ∙ ap is_size k))
+sized_stays ks f a m h (a_paren u c e k r x g) = absurd (true≢false (sym h ∙ ap is_size k))
+sized_stays ks f a m h (a_size y c e k o i x g) = ap goes_on e
+
+closed_more : (ks : List Kind) → (f : Tree) → (a m : ℕ) → (xs : Behinds) → (b : ℕ) → is_size (kind_at ks a) ≡ true → level_at ks m ≡ 16
+    → Reads ks 17 f a m → (IsMore xs → goes_on f ≡ true) → HoldBehinds ks 16 xs m b → Stops ks 16 b → ⊥
+closed_more ks f a m None_behind b h l r fit g s =
+    let low : level_at ks m < 16 = subst (λ x. level_at ks x < 16) g s in
+    absurd (omega arith)
+closed_more ks f a m (Behind_then x xs) b h l r fit g s =
+    true≢false (sym (fit tt) ∙ sized_stays ks f a m h (primary_view ks f a m r))
+
+both_left : (p q : Bool) → (p && q) ≡ true → p ≡ true
+both_left true q h = refl
+both_left false q h = absurd (true≢false (sym h))
+
+both_right : (p q : Bool) → (p && q) ≡ true → q ≡ true
+both_right true q h = h
+both_right false q h = absurd (true≢false (sym h))
+
+pub closed_fails : (ks : List Kind) → (a : ℕ) → (f : Tree) → (m : ℕ) → Found ks 17 a f m
+    → (is_size (kind_at ks a) && is_suffix (kind_at ks m)) ≡ true → (t : Tree) → (b : ℕ) → Reads ks 16 t a b → Stops ks 16 b → ⊥
+closed_fails ks a f m found h t b r s =
+    let v = postfix_view ks t a b r in
+    let one = found_only ks 17 a f m (omega arith) found v.first v.behind v.reads (any_stop ks v.behind) in
+    let size = both_left (is_size (kind_at ks a)) (is_suffix (kind_at ks m)) h in
+    let level = suffix_level (kind_at ks m) (both_right (is_size (kind_at ks a)) (is_suffix (kind_at ks m)) h) in
+    closed_more
+    ks
+    v.first
+    a
+    v.behind
+    v.more
+    b
+    size
+    (ap (λ x. level_at ks x) (sym one.1) ∙ level)
+    v.reads
+    (v.fit refl)
+    v.goes
+    s
+
 pub postfix_found : (ks : List Kind) → (a : ℕ) → (f : Tree) → (m : ℕ) → (xs : Behinds) → (b : ℕ)
-    → Found ks 17 a f m → FoundBehinds ks 16 m xs b → Found ks 16 a (followed Postfix_of f xs) b
-postfix_found ks a f m xs b x y =
+    → (is_size (kind_at ks a) && is_suffix (kind_at ks m)) ≡ false → Found ks 17 a f m → FoundBehinds ks 16 m xs b → Found ks 16 a (followed Postfix_of f xs) b
+postfix_found ks a f m xs b e x y =
     let one : a < m = x.forth in
     let two : m ≤ b = y.forth in
-    record { reads = postfix_made ks a f m xs b x.reads y.reads; stops = y.stops; forth = omega arith; inside = y.inside }
+    record {
+      reads =
+          postfix_made
+          ks
+          a
+          f
+          m
+          xs
+          b
+          (λ l. size_goes_not ks f a m e l (primary_view ks f a m x.reads))
+          x.reads
+          y.reads;
+      stops = y.stops;
+      forth = omega arith;
+      inside = y.inside;
+    }
 
 -- what the loop over things behind keeps
 pub record Tail (ks : List Kind) (l : ℕ) (done : List Behind) (at : ℕ) (xs : Behinds) (b : ℕ) : Type 0 where
@@ -363,6 +438,7 @@ enclosed : (ks : List Kind) → (t : Tree) → (a b : ℕ) → kind_at ks a ≡ 
 enclosed ks t a b k (a_name e k' f) = clash (kind_at ks a) OpenParen Identifier k k' (λ x. omega (arith, x))
 enclosed ks t a b k (a_constant e k' f) = clash (kind_at ks a) OpenParen Constant k k' (λ x. omega (arith, x))
 enclosed ks t a b k (a_text ns e k' f) = clash (kind_at ks a) OpenParen Text k k' (λ x. omega (arith, x))
+enclosed ks t a b k (a_size y c e k' o h l f) = absurd (true≢false (sym k' ∙ ap is_size k))
 enclosed ks t a b k (a_paren u c e k' r l f) = record { inner = u; closing = c; reads = r; closes = l }
 
 pub paren_fails : (ks : List Kind) → (at : ℕ) → kind_at ks at ≡ OpenParen → (e : Stop) → Fails ks 1 (at + 1) e → Fails ks 17 at e
@@ -379,15 +455,69 @@ paren_left_open ks at k u c last found e not t b h s =
     not (e ∙ ap (λ y. kind_at ks y) one.1 ∙ v.closes)
 
 other_first : (ks : List Kind) → (at : ℕ) → (k : Kind) → k ≡ kind_at ks at → (k ≡ Identifier → ⊥) → (k ≡ Constant → ⊥) → (k ≡ Text → ⊥)
-    → (k ≡ OpenParen → ⊥) → (t : Tree) → (b : ℕ) → Primary ks t at b → ⊥
-other_first ks at k e w x y z t b (a_name e' k' f) = w (e ∙ k')
-other_first ks at k e w x y z t b (a_constant e' k' f) = x (e ∙ k')
-other_first ks at k e w x y z t b (a_text ns e' k' f) = y (e ∙ k')
-other_first ks at k e w x y z t b (a_paren u c e' k' r l f) = z (e ∙ k')
+    → (k ≡ OpenParen → ⊥) → (k ≡ SizeOf → ⊥) → (k ≡ AlignOf → ⊥) → (t : Tree) → (b : ℕ) → Primary ks t at b → ⊥
+other_first ks at k e w x y z u v t b (a_name e' k' f) = w (e ∙ k')
+other_first ks at k e w x y z u v t b (a_constant e' k' f) = x (e ∙ k')
+other_first ks at k e w x y z u v t b (a_text ns e' k' f) = y (e ∙ k')
+other_first ks at k e w x y z u v t b (a_paren i c e' k' r l f) = z (e ∙ k')
+other_first ks at k e w x y z u v t b (a_size i c e' k' o h l f) = size_is k (ap is_size e ∙ k') u v
 
 pub other_fails : (ks : List Kind) → (at : ℕ) → (k : Kind) → k ≡ kind_at ks at → (k ≡ Identifier → ⊥) → (k ≡ Constant → ⊥) → (k ≡ Text → ⊥)
+    → (k ≡ OpenParen → ⊥) → (k ≡ SizeOf → ⊥) → (k ≡ AlignOf → ⊥) → (t : Tree) → (b : ℕ) → Reads ks 17 t at b → Stops ks 17 b → ⊥
+other_fails ks at k e w x y z u v t b h s = other_first ks at k e w x y z u v t b (primary_view ks t at b h)
+
+-- the size or alignment of a type
+record Sized (ks : List Kind) (t : Tree) (a b : ℕ) : Type 0 where
+  name : Naming
+  closing : ℕ
+  opens : kind_at ks (a + 1) ≡ OpenParen
+  holds : HoldsType ks name (a + 2) closing
+  closes : kind_at ks closing ≡ CloseParen
+
+sized : (ks : List Kind) → (t : Tree) → (a b : ℕ) → is_size (kind_at ks a) ≡ true → Primary ks t a b → Sized ks t a b
+sized ks t a b h (a_name e k f) = absurd (true≢false (sym h ∙ ap is_size k))
+sized ks t a b h (a_constant e k f) = absurd (true≢false (sym h ∙ ap is_size k))
+sized ks t a b h (a_text ns e k f) = absurd (true≢false (sym h ∙ ap is_size k))
+sized ks t a b h (a_paren u c e k r l f) = absurd (true≢false (sym h ∙ ap is_size k))
+sized ks t a b h (a_size y c e k o i l f) = record { name = y; closing = c; opens = o; holds = i; closes = l }
+
+-- what a call that reads the name of a type answers where none ends at a `)`
+abbrev pub FailsType : List Kind → ℕ → Stop → Type 0
+FailsType ks a e = (y : Naming) → (c : ℕ) → HoldsType ks y a c → kind_at ks c ≡ CloseParen → IsWant e
+
+abbrev pub OnlyType : List Kind → ℕ → Naming → ℕ → Type 0
+OnlyType ks a y c = (y' : Naming) → (c' : ℕ) → HoldsType ks y' a c' → kind_at ks c' ≡ CloseParen → (y ≡ y') × (c ≡ c')
+
+pub size_unopened : (ks : List Kind) → (at : ℕ) → is_size (kind_at ks at) ≡ true → (k : Kind) → k ≡ kind_at ks (at + 1)
     → (k ≡ OpenParen → ⊥) → (t : Tree) → (b : ℕ) → Reads ks 17 t at b → Stops ks 17 b → ⊥
-other_fails ks at k e w x y z t b h s = other_first ks at k e w x y z t b (primary_view ks t at b h)
+size_unopened ks at h k e not t b r s =
+    let v = sized ks t at b h (primary_view ks t at b r) in
+    not (e ∙ v.opens)
+
+pub size_fails : (ks : List Kind) → (at : ℕ) → is_size (kind_at ks at) ≡ true → (e : Stop) → FailsType ks (at + 2) e → Fails ks 17 at e
+size_fails ks at h e fails t b r s =
+    let v = sized ks t at b h (primary_view ks t at b r) in
+    fails v.name v.closing v.holds v.closes
+
+pub size_left_open : (ks : List Kind) → (at : ℕ) → is_size (kind_at ks at) ≡ true → (y : Naming) → (c : ℕ) → (last : Kind)
+    → OnlyType ks (at + 2) y c → last ≡ kind_at ks c → (last ≡ CloseParen → ⊥)
+    → (t : Tree) → (b : ℕ) → Reads ks 17 t at b → Stops ks 17 b → ⊥
+size_left_open ks at h y c last only e not t b r s =
+    let v = sized ks t at b h (primary_view ks t at b r) in
+    let one = only v.name v.closing v.holds v.closes in
+    not (e ∙ ap (λ x. kind_at ks x) one.1 ∙ v.closes)
+
+pub size_found : (ks : List Kind) → (at : ℕ) → is_size (kind_at ks at) ≡ true → kind_at ks (at + 1) ≡ OpenParen → (y : Naming) → (c : ℕ)
+    → FoundType ks (at + 2) y c → kind_at ks c ≡ CloseParen → c < length ks → Found ks 17 at (Of_type at (at + 1) y c) (c + 1)
+size_found ks at h o y c found l i =
+    let more : at + 2 < c = found.forth in
+    let two : at + 2 ≡ (at + 1) + 1 = omega arith in
+    record {
+      reads = (omega arith, (refl, h, refl, o, subst (λ x. HoldsType ks y x c) two found.reads, l, refl));
+      stops = any_stop ks (c + 1);
+      forth = omega arith;
+      inside = omega arith;
+    }
 
 -- what the loop over string literals keeps
 pub record Pieces (ks : List Kind) (start : ℕ) (done : List ℕ) (at : ℕ) : Type 0 where

@@ -4,7 +4,8 @@ use Rattle.std.proofs.lemmas.List.{map-append}
 use Rattle.tree_data.specs.declared.expr.Expr.{Expr}
 use Rattle.tree_data.specs.declared.parts.Suffix.{Suffix}
 use Rattle.tree_data.specs.declared.parts.Choice.{Choice}
-use Rattle.tree_data.specs.Trees.{Tree, Operand_of, Choice_of, operand, left, tree_of, behind_of, front_of, operands_of, suffixes_of, choices_of, lefts_of, is_unary}
+use Rattle.tree_data.specs.Seen.{tree_of, behind_of, front_of, operands_of, suffixes_of, choices_of, lefts_of}
+use Rattle.tree_data.specs.Trees.{Tree, Operand_of, Choice_of, operand, left, is_unary}
 use Rattle.c_parser.specs.declared.kinds.Kind.{Kind}
 use Rattle.c_parser.specs.declared.kinds.Kind.TheVariants.{Question, Colon, Assignment}
 use Rattle.c_parser.specs.Kinds.{kind_at, level_at}

@@ -1,54 +1,15 @@
 -- A tree holds from one place to another exactly where it is formed and spells the numbers between them.
-use Rattle.std.proofs.Common.{◌≡◌, refl, ap, sym, ◌∙◌, subst, ℕ, zero, suc, ◌+◌, ◌≤◌, List, [], ◌∷◌, ◌++◌, length, arith}
-use Rattle.tree_data.specs.Trees.{Tree, Name_of, Constant_of, Text_of, Paren_of, Postfix_of, Unary_of, Binary_of, Conditional_of, Assign_of, Behind, Operand_of, Index_of, Call_of, Call_with_of, Member_of, Step_of, Behinds, None_behind, Behind_then, Front, Operator_of, Choice_of, Left_of, Fronts, None_before, Front_then}
+use Rattle.std.proofs.Common.{◌≡◌, refl, ap, sym, ◌∙◌, subst, ℕ, ◌+◌, List, [], ◌∷◌, ◌++◌, length, arith}
+use Rattle.tree_data.specs.Trees.{Tree, Name_of, Constant_of, Text_of, Paren_of, Postfix_of, Unary_of, Binary_of, Conditional_of, Assign_of, Of_type, Behind, Operand_of, Index_of, Call_of, Call_with_of, Member_of, Step_of, Behinds, None_behind, Behind_then, Front, Operator_of, Cast_of, Choice_of, Left_of, Fronts, None_before, Front_then}
 use Rattle.c_parser.specs.declared.kinds.Kind.{Kind}
 use Rattle.c_parser.specs.declared.kinds.Kind.TheVariants.{Text}
 use Rattle.c_parser.specs.Grammar.{spell, spell_behind, spell_behinds, spell_front, spell_fronts, IsFormed, IsBehind, AreBehind, IsInFront, AreInFront, GoOn, IsExpression, numbers}
-use Rattle.c_parser.specs.Kinds.{kind_at, level_at, is_prefix}
+use Rattle.c_parser.specs.Kinds.{kind_at, level_at, is_size, operator_at, casts_at}
 use Rattle.c_parser.specs.Levels.{behinds_level}
+use Rattle.c_parser.specs.TypeNames.{spell_type, HoldsType}
+use Rattle.c_parser.proofs.Numbers.{Spans, spans_join, spans_split, numbers_span, span_numbers}
+use Rattle.c_parser.proofs.Types.{type_formed, type_spanned, type_held}
 use Rattle.c_parser.specs.Reading.{HoldTexts, Holds, HoldsBehind, HoldBehinds, HoldsFront, HoldFronts, Reads}
-
--- the numbers are those from a up to b
-abbrev pub Spans : List ℕ → ℕ → ℕ → Type 0
-Spans [] a b = b ≡ a
-Spans (x ∷ xs) a b = (x ≡ a) × Spans xs (a + 1) b
-
-spans_join : (xs ys : List ℕ) → (a m b : ℕ) → Spans xs a m → Spans ys m b → Spans (xs ++ ys) a b
-spans_join [] ys a m b h g = subst (λ k. Spans ys k b) h g
-spans_join (x ∷ xs) ys a m b h g = (h.0, spans_join xs ys (a + 1) m b h.1 g)
-
-record Split (xs ys : List ℕ) (a b : ℕ) : Type 0 where
-  at : ℕ
-  front : Spans xs a at
-  back : Spans ys at b
-
-spans_split : (xs ys : List ℕ) → (a b : ℕ) → Spans (xs ++ ys) a b → Split xs ys a b
-spans_split [] ys a b h = record { at = a; front = refl; back = h }
-spans_split (x ∷ xs) ys a b h =
-    let r = spans_split xs ys (a + 1) b h.1 in
-    record { at = r.at; front = (h.0, r.front); back = r.back }
-
-spans_forth : (xs : List ℕ) → (a b : ℕ) → Spans xs a b → a ≤ b
-spans_forth [] a b h = omega (arith, h)
-spans_forth (x ∷ xs) a b h = omega (arith, spans_forth xs (a + 1) b h.1)
-
-numbers_span : (k a : ℕ) → Spans (numbers a k) a (a + k)
-numbers_span zero a = omega arith
-numbers_span (suc k) a =
-    let e : (a + 1) + k ≡ a + suc k = omega arith in
-    (refl, subst (λ b. Spans (numbers (a + 1) k) (a + 1) b) e (numbers_span k (a + 1)))
-
-span_numbers : (xs : List ℕ) → (a b k : ℕ) → Spans xs a b → b ≡ a + k → xs ≡ numbers a k
-span_numbers [] a b zero h e = refl
-span_numbers [] a b (suc k) h e =
-    let h' : b ≡ a = h in
-    absurd (omega arith)
-span_numbers (x ∷ xs) a b zero h e =
-    let more : a + 1 ≤ b = spans_forth xs (a + 1) b h.1 in
-    absurd (omega arith)
-span_numbers (x ∷ xs) a b (suc k) h e =
-    let e' : b ≡ (a + 1) + k = omega arith in
-    ap (λ y. y ∷ xs) h.0 ∙ ap (λ ys. a ∷ ys) (span_numbers xs (a + 1) b k h.1 e')
 
 -- what holds is formed
 texts_go : (ks : List Kind) → (n : ℕ) → (ns : List ℕ) → (b : ℕ) → HoldTexts ks ns (n + 1) b → GoOn ks n ns
@@ -66,7 +27,9 @@ mutual
     texts_go ks n ns b (subst (λ x. HoldTexts ks ns (x + 1) b) (sym h.1.0) h.1.2),
   )
   formed ks (Paren_of o t c) a b h = (ap (λ x. kind_at ks x) h.0 ∙ h.1, h.2, formed ks t (a + 1) c h.3, h.4)
-  formed ks (Postfix_of f bs) a b h = (h.1, h.2, formed ks f a h.0 h.3, formed_behinds ks 16 bs h.0 b h.4)
+  formed ks (Postfix_of f bs) a b h = (h.1, h.5, h.2, formed ks f a h.0 h.3, formed_behinds ks 16 bs h.0 b h.4)
+  formed ks (Of_type k o t c) a b h =
+      (ap (λ x. is_size (kind_at ks x)) h.0 ∙ h.1, h.3, type_formed ks t (o + 1) c h.4, h.5)
   formed ks (Unary_of fs t) a b h = (h.1, formed_fronts ks 15 fs a h.0 h.2, h.3, formed ks t h.0 b h.4)
   formed ks (Binary_of f bs) a b h =
       (h.1, h.2, h.3, formed ks f a h.0 h.4, formed_behinds ks (behinds_level ks bs) bs h.0 b h.5)
@@ -95,7 +58,14 @@ mutual
   formed_behinds ks l (Behind_then x xs) a b h = (formed_behind ks l x a h.0 h.1, formed_behinds ks l xs h.0 b h.2)
 
   formed_front : (ks : List Kind) → (l : ℕ) → (x : Front) → (a b : ℕ) → HoldsFront ks l x a b → IsInFront ks l x
-  formed_front ks l (Operator_of o) a b h = (h.0, ap (λ x. is_prefix (kind_at ks x)) h.1 ∙ h.2)
+  formed_front ks l (Operator_of o) a b h = (h.0, ap (λ x. operator_at ks x) h.1 ∙ h.2)
+  formed_front ks l (Cast_of o t c) a b h = (
+    h.0,
+    ap (λ x. kind_at ks x) h.1 ∙ h.2,
+    ap (λ x. casts_at ks x) h.1 ∙ h.3,
+    type_formed ks t (a + 1) c h.4,
+    h.5,
+  )
   formed_front ks l (Choice_of t q e c) a b h =
       (h.0, h.1, formed ks t a q h.2, h.3, h.4, formed ks e (q + 1) c h.5, h.6)
   formed_front ks l (Left_of t o) a b h = (h.0, h.1, formed ks t a o h.2, h.3)
@@ -115,6 +85,16 @@ mutual
   spanned ks (Constant_of n) a b h = (h.0, h.2)
   spanned ks (Text_of ns) a b h = texts_span ks ns a b h.1
   spanned ks (Paren_of o t c) a b h = (h.0, spans_join (spell t) (c ∷ []) (a + 1) c b (spanned ks t (a + 1) c h.3) (refl, h.5))
+  spanned ks (Of_type k o t c) a b h = (
+    h.0,
+    (
+      h.2,
+      subst
+          (λ x. Spans (spell_type t ++ c ∷ []) x b)
+          (ap (λ x. x + 1) h.2)
+          (spans_join (spell_type t) (c ∷ []) (o + 1) c b (type_spanned ks t (o + 1) c h.4) (refl, h.6)),
+    ),
+  )
   spanned ks (Postfix_of f bs) a b h =
       spans_join (spell f) (spell_behinds bs) a h.0 b (spanned ks f a h.0 h.3) (spanned_behinds ks 16 bs h.0 b h.4)
   spanned ks (Unary_of fs t) a b h =
@@ -166,6 +146,8 @@ mutual
 
   spanned_front : (ks : List Kind) → (l : ℕ) → (x : Front) → (a b : ℕ) → HoldsFront ks l x a b → Spans (spell_front x) a b
   spanned_front ks l (Operator_of o) a b h = (h.1, h.3)
+  spanned_front ks l (Cast_of o t c) a b h =
+      (h.1, spans_join (spell_type t) (c ∷ []) (a + 1) c b (type_spanned ks t (a + 1) c h.4) (refl, h.6))
   spanned_front ks l (Choice_of t q e c) a b h =
       spans_join
       (spell t)
@@ -215,7 +197,20 @@ mutual
       )
   held ks (Postfix_of t bs) a b f s =
       let r = spans_split (spell t) (spell_behinds bs) a b s in
-      (r.at, f.0, f.1, held ks t a r.at f.2 r.front, held_behinds ks 16 bs r.at b f.3 r.back)
+      (r.at, f.0, f.2, held ks t a r.at f.3 r.front, held_behinds ks 16 bs r.at b f.4 r.back, f.1)
+  held ks (Of_type k o t c) a b f s =
+      let r = spans_split (spell_type t) (c ∷ []) ((a + 1) + 1) b s.1.1 in (
+        s.0,
+        ap (λ x. is_size (kind_at ks x)) (sym s.0) ∙ f.0,
+        s.1.0,
+        f.1,
+        subst
+            (λ x. HoldsType ks t (x + 1) c)
+            (sym s.1.0)
+            (subst (λ x. HoldsType ks t ((a + 1) + 1) x) (sym r.back.0) (type_held ks t ((a + 1) + 1) r.at f.2 r.front)),
+        f.3,
+        r.back.1 ∙ ap (λ x. x + 1) (sym r.back.0),
+      )
   held ks (Unary_of fs t) a b f s =
       let r = spans_split (spell_fronts fs) (spell t) a b s in
       (r.at, f.0, held_fronts ks 15 fs a r.at f.1 r.front, f.2, held ks t r.at b f.3 r.back)
@@ -268,7 +263,17 @@ mutual
       (r.at, held_behind ks l x a r.at f.0 r.front, held_behinds ks l xs r.at b f.1 r.back)
 
   held_front : (ks : List Kind) → (l : ℕ) → (x : Front) → (a b : ℕ) → IsInFront ks l x → Spans (spell_front x) a b → HoldsFront ks l x a b
-  held_front ks l (Operator_of o) a b f s = (f.0, s.0, ap (λ x. is_prefix (kind_at ks x)) (sym s.0) ∙ f.1, s.1)
+  held_front ks l (Operator_of o) a b f s = (f.0, s.0, ap (λ x. operator_at ks x) (sym s.0) ∙ f.1, s.1)
+  held_front ks l (Cast_of o t c) a b f s =
+      let r = spans_split (spell_type t) (c ∷ []) (a + 1) b s.1 in (
+        f.0,
+        s.0,
+        ap (λ x. kind_at ks x) (sym s.0) ∙ f.1,
+        ap (λ x. casts_at ks x) (sym s.0) ∙ f.2,
+        subst (λ x. HoldsType ks t (a + 1) x) (sym r.back.0) (type_held ks t (a + 1) r.at f.3 r.front),
+        f.4,
+        r.back.1 ∙ ap (λ x. x + 1) (sym r.back.0),
+      )
   held_front ks l (Choice_of t q e c) a b f s =
       let r = spans_split (spell t) (q ∷ (spell e ++ c ∷ [])) a b s in
       let p = spans_split (spell e) (c ∷ []) (r.at + 1) b r.back.1 in (

@@ -1,16 +1,19 @@
 -- No two trees of a level hold from one place on, where the level stops behind them.
-use Rattle.std.proofs.Common.{◌≡◌, refl, ap, sym, ◌∙◌, subst, ℕ, zero, suc, ◌+◌, ◌-◌, ◌<◌, ◌≤◌, List, [], ◌∷◌, length, arith, true≢false}
-use Rattle.tree_data.specs.Trees.{Tree, Name_of, Constant_of, Text_of, Paren_of, Postfix_of, Unary_of, Binary_of, Conditional_of, Assign_of, Behind, Operand_of, Index_of, Call_of, Call_with_of, Member_of, Step_of, Behinds, None_behind, Behind_then, Front, Operator_of, Choice_of, Left_of, Fronts, None_before, Front_then}
+use Rattle.std.proofs.Common.{◌≡◌, refl, ap, sym, ◌∙◌, subst, ℕ, zero, suc, ◌+◌, ◌-◌, ◌<◌, ◌≤◌, List, [], ◌∷◌, length, arith, inl, inr, true, true≢false}
+use Rattle.tree_data.specs.Trees.{Tree, Name_of, Constant_of, Text_of, Paren_of, Postfix_of, Unary_of, Binary_of, Conditional_of, Assign_of, Of_type, Behind, Operand_of, Index_of, Call_of, Call_with_of, Member_of, Step_of, Behinds, None_behind, Behind_then, Front, Operator_of, Cast_of, Choice_of, Left_of, Fronts, None_before, Front_then}
 use Rattle.c_parser.specs.declared.kinds.Kind.{Kind}
 use Rattle.c_parser.specs.declared.kinds.Kind.TheVariants.{Identifier, Constant, Text, OpenParen, CloseParen, OpenBracket, CloseBracket, Member, Step, Question, Colon, Assignment, End}
-use Rattle.c_parser.specs.Grammar.{IsExpression, IsBefore}
+use Rattle.c_parser.specs.Grammar.{IsExpression}
 use Rattle.c_parser.specs.Joining.{followed, preceded}
-use Rattle.c_parser.specs.Kinds.{kind_at, level_at}
-use Rattle.c_parser.specs.Levels.{IsBinary, behinds_level, rank}
+use Rattle.c_parser.specs.Kinds.{kind_at, level_at, is_size, operator_at}
+use Rattle.c_parser.specs.Levels.{IsBinary, behinds_level, fronts_level, rank}
 use Rattle.c_parser.specs.Reading.{HoldTexts, Holds, HoldsBehind, HoldBehinds, HoldsFront, HoldFronts, Reads, Stops}
-use Rattle.c_parser.proofs.Marks.{clash, leveled, no_prefix, level_most, stops_at}
+use Rattle.c_parser.proofs.Marks.{clash, leveled, level_most, stops_at, is_start}
 use Rattle.c_parser.proofs.Spans.{expression_reads}
-use Rattle.c_parser.proofs.Views.{lowered, looser, loosely, begins, followed_more, preceded_more, Following, Preceding, Primary, a_name, a_constant, a_text, a_paren, postfix_view, binary_view, unary_view, conditional_view, assign_view, cast_view, primary_view, first_postfix, index_view, Calling, no_arguments, arguments, call_view, member_view, step_view, operand_view, operator_view, choice_view, left_view}
+use Rattle.c_parser.proofs.Views.{lowered, looser, loosely, begins, followed_more, preceded_more, parted, fronts_low, fronts_high, Following, Preceding, Primary, a_name, a_constant, a_text, a_paren, a_size, postfix_view, binary_view, unary_view, prefixed_view, conditional_view, assign_view, primary_view, starts, first_postfix, first_unary, begins_cast, index_view, Calling, no_arguments, arguments, call_view, member_view, step_view, operand_view, Prefixing, an_operator, a_cast, prefix_view, cast_here, no_cast_operator, choice_view, left_view}
+use Rattle.tree_data.specs.Names.{Naming}
+use Rattle.c_parser.specs.TypeNames.{HoldsType}
+use Rattle.c_parser.proofs.Types.{type_only}
 use native.Mathlib.Decide.{dec_lt}
 
 -- each tree of this level that holds from a is this one
@@ -47,6 +50,7 @@ same_name ks t a b e k f t' b' (a_name e' k' f') = (e ∙ sym e', f ∙ sym f')
 same_name ks t a b e k f t' b' (a_constant e' k' f') = clash (kind_at ks a) Identifier Constant k k' (λ x. omega (arith, x))
 same_name ks t a b e k f t' b' (a_text ns e' k' f') = clash (kind_at ks a) Identifier Text k k' (λ x. omega (arith, x))
 same_name ks t a b e k f t' b' (a_paren u c e' k' r l f') = clash (kind_at ks a) Identifier OpenParen k k' (λ x. omega (arith, x))
+same_name ks t a b e k f t' b' (a_size y c e' k' o h l f') = absurd (true≢false (sym k' ∙ ap is_size k))
 
 same_constant : (ks : List Kind) → (t : Tree) → (a b : ℕ) → t ≡ Constant_of a → kind_at ks a ≡ Constant → b ≡ a + 1
     → (t' : Tree) → (b' : ℕ) → Primary ks t' a b' → (t ≡ t') × (b ≡ b')
@@ -54,6 +58,7 @@ same_constant ks t a b e k f t' b' (a_name e' k' f') = clash (kind_at ks a) Cons
 same_constant ks t a b e k f t' b' (a_constant e' k' f') = (e ∙ sym e', f ∙ sym f')
 same_constant ks t a b e k f t' b' (a_text ns e' k' f') = clash (kind_at ks a) Constant Text k k' (λ x. omega (arith, x))
 same_constant ks t a b e k f t' b' (a_paren u c e' k' r l f') = clash (kind_at ks a) Constant OpenParen k k' (λ x. omega (arith, x))
+same_constant ks t a b e k f t' b' (a_size y c e' k' o h l f') = absurd (true≢false (sym k' ∙ ap is_size k))
 
 same_text : (ks : List Kind) → (t : Tree) → (a b : ℕ) → (ns : List ℕ) → t ≡ Text_of ns → kind_at ks a ≡ Text → HoldTexts ks ns a b
     → (t' : Tree) → (b' : ℕ) → Primary ks t' a b' → (t ≡ t') × (b ≡ b')
@@ -63,6 +68,7 @@ same_text ks t a b ns e k f t' b' (a_text ns' e' k' f') =
     let same = texts_only ks ns a b f ns' b' f' in
     (e ∙ ap Text_of same.0 ∙ sym e', same.1)
 same_text ks t a b ns e k f t' b' (a_paren u c e' k' r l f') = clash (kind_at ks a) Text OpenParen k k' (λ x. omega (arith, x))
+same_text ks t a b ns e k f t' b' (a_size y c e' k' o h l f') = absurd (true≢false (sym k' ∙ ap is_size k))
 
 pub closed : (ks : List Kind) → (c : ℕ) → kind_at ks c ≡ CloseParen → Stops ks 1 c
 closed ks c e = stops_at ks 1 c CloseParen e (omega arith)
@@ -72,9 +78,23 @@ same_paren : (ks : List Kind) → (a : ℕ) → (u : Tree) → (c : ℕ) → kin
 same_paren ks a u c k only t' b' (a_name e' k' f') = clash (kind_at ks a) OpenParen Identifier k k' (λ x. omega (arith, x))
 same_paren ks a u c k only t' b' (a_constant e' k' f') = clash (kind_at ks a) OpenParen Constant k k' (λ x. omega (arith, x))
 same_paren ks a u c k only t' b' (a_text ns e' k' f') = clash (kind_at ks a) OpenParen Text k k' (λ x. omega (arith, x))
+same_paren ks a u c k only t' b' (a_size y d e' k' o h l f') = absurd (true≢false (sym k' ∙ ap is_size k))
 same_paren ks a u c k only t' b' (a_paren u' c' e' k' r l f') =
     let same = only u' c' r (closed ks c' l) in
     (ap (λ x. Paren_of a x c) same.0 ∙ ap (λ x. Paren_of a u' x) same.1 ∙ sym e', ap (λ x. x + 1) same.1 ∙ sym f')
+
+same_size : (ks : List Kind) → (t : Tree) → (a b : ℕ) → (y : Naming) → (c : ℕ) → t ≡ Of_type a (a + 1) y c → is_size (kind_at ks a) ≡ true
+    → HoldsType ks y (a + 2) c → kind_at ks c ≡ CloseParen → b ≡ c + 1
+    → (t' : Tree) → (b' : ℕ) → Primary ks t' a b' → (t ≡ t') × (b ≡ b')
+same_size ks t a b y c e k h l f t' b' (a_name e' k' f') = absurd (true≢false (sym k ∙ ap is_size k'))
+same_size ks t a b y c e k h l f t' b' (a_constant e' k' f') = absurd (true≢false (sym k ∙ ap is_size k'))
+same_size ks t a b y c e k h l f t' b' (a_text ns e' k' f') = absurd (true≢false (sym k ∙ ap is_size k'))
+same_size ks t a b y c e k h l f t' b' (a_paren u d e' k' r l' f') = absurd (true≢false (sym k ∙ ap is_size k'))
+same_size ks t a b y c e k h l f t' b' (a_size y' c' e' k' o h' l' f') =
+    let same = type_only ks y (a + 2) c h l y' c' h' l' in (
+      e ∙ ap (λ x. Of_type a (a + 1) x c) same.0 ∙ ap (λ x. Of_type a (a + 1) y' x) same.1 ∙ sym e',
+      f ∙ ap (λ x. x + 1) same.1 ∙ sym f',
+    )
 
 -- a level from the next one
 pub following_only : (ks : List Kind) → (l a : ℕ) → (make : Tree → Behinds → Tree)
@@ -131,11 +151,15 @@ left_first ks a t b only s x m h =
     let e : level_at ks b ≡ 2 = ap (λ k. level_at ks k) same.1 ∙ leveled (kind_at ks v.operator) Assignment v.assigns in
     absurd (omega arith)
 
+prefix_first : {A : Type 0} → (ks : List Kind) → (a : ℕ) → (t : Tree) → (b : ℕ) → Reads ks 16 t a b
+    → (x : Front) → (m : ℕ) → Prefixing ks x a m → A
+prefix_first ks a t b h x m (an_operator e k f) = absurd (true≢false (sym k ∙ (first_postfix ks t a b h).no_operator))
+prefix_first ks a t b h x m (a_cast y c e k z g l f) =
+    absurd (true≢false (sym (cast_here ks y a c k g) ∙ (first_postfix ks t a b h).no_cast))
+
 operator_first : {A : Type 0} → (ks : List Kind) → (a : ℕ) → (t : Tree) → (b : ℕ) → Reads ks 16 t a b
     → (x : Front) → (m : ℕ) → HoldsFront ks 15 x a m → A
-operator_first ks a t b h x m g =
-    let v = operator_view ks x a m g in
-    absurd (true≢false (sym v.1 ∙ first_postfix ks t a b h))
+operator_first ks a t b h x m g = prefix_first ks a t b h x m (prefix_view ks x a m g)
 
 -- where an expression of the next level stands, nothing stands in front
 not_first : {A : Type 0} → (ks : List Kind) → (l a : ℕ) → (t : Tree) → (b : ℕ) → Fronting l → Reads ks (l + 1) t a b
@@ -259,8 +283,12 @@ postfix_step : (ks : List Kind) → (a : ℕ) → (t : Tree) → (b : ℕ) → O
 postfix_step ks a t b only s =
     following_only ks 16 a Postfix_of (λ t b h. postfix_view ks t a b h) t b None_behind b only (none_behind ks 16 b s)
 
-cast_step : (ks : List Kind) → (a : ℕ) → (t : Tree) → (b : ℕ) → Only ks 15 a t b → Only ks 14 a t b
-cast_step ks a t b only t' b' h s = only t' b' (cast_view ks t' a b' h) (looser ks 14 15 b' (omega arith) s)
+cast_step : (ks : List Kind) → (a : ℕ) → (t : Tree) → (b : ℕ) → Reads ks 15 t a b → Only ks 15 a t b → Only ks 14 a t b
+cast_step ks a t b r only t' b' h s =
+    elim (parted ks 14 t' a b' h) [
+      | inl e ↦ absurd (true≢false (sym (begins_cast ks t' a b' e h.1) ∙ first_unary ks t a b r))
+      | inr q ↦ only t' b' q (looser ks 14 15 b' (omega arith) s)
+    ]
 
 step : (ks : List Kind) → (n a : ℕ) → (t : Tree) → (b : ℕ) → Level n → Reads ks (n + 1) t a b → Only ks (n + 1) a t b
     → Stops ks n b → Only ks n a t b
@@ -268,7 +296,7 @@ step ks n a t b (at_binary i) r only s =
     following_only ks n a Binary_of (λ t b h. binary_view ks n i t a b h) t b None_behind b only (none_behind ks n b s)
 step ks n a t b (at_front f) r only s = front_step ks n a t b f (none_before ks n a t b f r only s)
 step ks n a t b (at_cast e) r only s =
-    subst (λ k. Only ks k a t b) (sym e) (cast_step ks a t b (subst (λ k. Only ks (k + 1) a t b) e only))
+    subst (λ k. Only ks k a t b) (sym e) (cast_step ks a t b (subst (λ k. Reads ks (k + 1) t a b) e r) (subst (λ k. Only ks (k + 1) a t b) e only))
 step ks n a t b (at_postfix e) r only s =
     subst (λ k. Only ks k a t b) (sym e)
     (postfix_step ks a t b (subst (λ k. Only ks (k + 1) a t b) e only) (subst (λ k. Stops ks k b) e s))
@@ -319,7 +347,10 @@ rank_most ks (Constant_of n) a b h = omega arith
 rank_most ks (Text_of ns) a b h = omega arith
 rank_most ks (Paren_of o t c) a b h = omega arith
 rank_most ks (Postfix_of f bs) a b h = omega arith
-rank_most ks (Unary_of fs t) a b h = omega arith
+rank_most ks (Unary_of fs t) a b h =
+    let most : fronts_level fs ≤ 15 = fronts_high fs in
+    omega arith
+rank_most ks (Of_type k o y c) a b h = omega arith
 rank_most ks (Binary_of f bs) a b h =
     let most : behinds_level ks bs ≤ 13 = h.2.1 in
     omega arith
@@ -334,16 +365,35 @@ placed ks n t a b low h s only =
     lower ks (rank ks t) n a t b low h.0 (rank_most ks t a b h.1) (own, h.1) only s
 
 -- what stands in front, and no expression of the next level
-record OnlyFront (ks : List Kind) (l a : ℕ) (x : Front) (m : ℕ) : Type 0 where
-  same : (x' : Front) → (m' : ℕ) → HoldsFront ks l x' a m' → (x ≡ x') × (m ≡ m')
-  not_next : (t : Tree) → (b : ℕ) → Reads ks (l + 1) t a b → Stops ks l b → ⊥
+pub record OnlyFront (ks : List Kind) (l a : ℕ) (x : Front) (m : ℕ) : Type 0 where
+  pub same : (x' : Front) → (m' : ℕ) → HoldsFront ks l x' a m' → (x ≡ x') × (m ≡ m')
+  pub not_next : (t : Tree) → (b : ℕ) → Reads ks (l + 1) t a b → Stops ks l b → ⊥
+
+same_operator : (ks : List Kind) → (o a m : ℕ) → o ≡ a → operator_at ks a ≡ true → m ≡ a + 1
+    → (x' : Front) → (m' : ℕ) → Prefixing ks x' a m' → (Operator_of o ≡ x') × (m ≡ m')
+same_operator ks o a m e k f x' m' (an_operator e' k' f') = (ap Operator_of e ∙ sym e', f ∙ sym f')
+same_operator ks o a m e k f x' m' (a_cast y c e' k' z h l f') = absurd (true≢false (sym k ∙ no_cast_operator ks a k'))
 
 operator_only : (ks : List Kind) → (o a m : ℕ) → HoldsFront ks 15 (Operator_of o) a m → OnlyFront ks 15 a (Operator_of o) m
 operator_only ks o a m h = record {
-  same = λ x' m' h'.
-      let v = operator_view ks x' a m' h' in
-      (ap Operator_of h.1 ∙ sym v.0, h.3 ∙ sym v.2);
+  same = λ x' m' h'. same_operator ks o a m h.1 h.2 h.3 x' m' (prefix_view ks x' a m' h');
   not_next = λ t b r s. operator_first ks a t b r (Operator_of o) m h;
+}
+
+same_cast : (ks : List Kind) → (o : ℕ) → (y : Naming) → (c a m : ℕ) → o ≡ a → kind_at ks a ≡ OpenParen → HoldsType ks y (a + 1) c
+    → kind_at ks c ≡ CloseParen → m ≡ c + 1
+    → (x' : Front) → (m' : ℕ) → Prefixing ks x' a m' → (Cast_of o y c ≡ x') × (m ≡ m')
+same_cast ks o y c a m e k h l f x' m' (an_operator e' k' f') = absurd (true≢false (sym k' ∙ no_cast_operator ks a k))
+same_cast ks o y c a m e k h l f x' m' (a_cast y' c' e' k' z h' l' f') =
+    let same = type_only ks y (a + 1) c h l y' c' h' l' in (
+      ap (λ x. Cast_of x y c) e ∙ ap (λ x. Cast_of a x c) same.0 ∙ ap (λ x. Cast_of a y' x) same.1 ∙ sym e',
+      f ∙ ap (λ x. x + 1) same.1 ∙ sym f',
+    )
+
+cast_only : (ks : List Kind) → (o : ℕ) → (y : Naming) → (c a m : ℕ) → HoldsFront ks 15 (Cast_of o y c) a m → OnlyFront ks 15 a (Cast_of o y c) m
+cast_only ks o y c a m h = record {
+  same = λ x' m' h'. same_cast ks o y c a m h.1 h.2 h.4 h.5 h.6 x' m' (prefix_view ks x' a m' h');
+  not_next = λ t b r s. operator_first ks a t b r (Cast_of o y c) m h;
 }
 
 choice_only : (ks : List Kind) → (t : Tree) → (q : ℕ) → (e : Tree) → (c a m : ℕ) → HoldsFront ks 3 (Choice_of t q e c) a m
@@ -430,30 +480,8 @@ index_only ks t c a k only x' m' h' s' =
     (ap (λ y. Index_of a y c) same.0 ∙ ap (λ y. Index_of a v.inner y) same.1 ∙ sym v.is, ap (λ y. y + 1) same.1 ∙ sym v.ends)
 
 -- no expression begins with `)`
-no_closing : {A : Type 0} → (ks : List Kind) → (a : ℕ) → kind_at ks a ≡ CloseParen → (t : Tree) → (b : ℕ) → Primary ks t a b → A
-no_closing ks a k t b (a_name e k' f) = clash (kind_at ks a) CloseParen Identifier k k' (λ x. omega (arith, x))
-no_closing ks a k t b (a_constant e k' f) = clash (kind_at ks a) CloseParen Constant k k' (λ x. omega (arith, x))
-no_closing ks a k t b (a_text ns e k' f) = clash (kind_at ks a) CloseParen Text k k' (λ x. omega (arith, x))
-no_closing ks a k t b (a_paren u c e k' r l f) = clash (kind_at ks a) CloseParen OpenParen k k' (λ x. omega (arith, x))
-
-mutual
-  pub empty_call : {A : Type 0} → (ks : List Kind) → (t : Tree) → (a b : ℕ) → kind_at ks a ≡ CloseParen → Holds ks t a b → A
-  empty_call ks (Name_of n) a b k h = clash (kind_at ks a) CloseParen Identifier k h.1 (λ x. omega (arith, x))
-  empty_call ks (Constant_of n) a b k h = clash (kind_at ks a) CloseParen Constant k h.1 (λ x. omega (arith, x))
-  empty_call ks (Text_of ns) a b k h = clash (kind_at ks a) CloseParen Text k h.0 (λ x. omega (arith, x))
-  empty_call ks (Paren_of o t c) a b k h = clash (kind_at ks a) CloseParen OpenParen k h.1 (λ x. omega (arith, x))
-  empty_call ks (Postfix_of f bs) a b k h = empty_call ks f a h.0 k h.3
-  empty_call ks (Unary_of fs t) a b k h = empty_front ks 15 fs a h.0 k h.1 h.2
-  empty_call ks (Binary_of f bs) a b k h = empty_call ks f a h.0 k h.4
-  empty_call ks (Conditional_of fs t) a b k h = empty_front ks 3 fs a h.0 k h.1 h.2
-  empty_call ks (Assign_of fs t) a b k h = empty_front ks 2 fs a h.0 k h.1 h.2
-
-  empty_front : {A : Type 0} → (ks : List Kind) → (l : ℕ) → (xs : Fronts) → (a m : ℕ) → kind_at ks a ≡ CloseParen → IsBefore xs
-      → HoldFronts ks l xs a m → A
-  empty_front ks l None_before a m k i h = absurd i
-  empty_front ks l (Front_then (Operator_of o) xs) a m k i h = no_prefix (kind_at ks a) CloseParen k refl h.1.2
-  empty_front ks l (Front_then (Choice_of t q e c) xs) a m k i h = empty_call ks t a q k h.1.2
-  empty_front ks l (Front_then (Left_of t o) xs) a m k i h = empty_call ks t a o k h.1.2
+pub empty_call : {A : Type 0} → (ks : List Kind) → (t : Tree) → (a b : ℕ) → kind_at ks a ≡ CloseParen → Holds ks t a b → A
+empty_call ks t a b k h = absurd (true≢false (sym (starts ks t a b h) ∙ ap is_start k))
 
 same_call : (ks : List Kind) → (a : ℕ) → kind_at ks (a + 1) ≡ CloseParen
     → (x' : Behind) → (m' : ℕ) → Calling ks x' a m' → (Call_of a (a + 1) ≡ x') × (a + 2 ≡ m')
@@ -527,25 +555,43 @@ mutual
       (λ x. Only ks 16 a x b)
       (followed_more Postfix_of f bs h.1)
       (following_only ks 16 a Postfix_of (λ t b h. postfix_view ks t a b h) f h.0 bs b first (behinds_only ks 16 bs h.0 b h.4 s))
+  own_only ks (Of_type k o y c) a b h s = λ t' b' h' s'.
+      let two : (a + 1) + 1 ≡ a + 2 = omega arith in
+      same_size
+      ks
+      (Of_type k o y c)
+      a
+      b
+      y
+      c
+      (ap (λ x. Of_type x o y c) h.0 ∙ ap (λ x. Of_type a x y c) h.2)
+      h.1
+      (subst (λ x. HoldsType ks y x c) (ap (λ x. x + 1) h.2 ∙ two) h.4)
+      h.5
+      h.6
+      t'
+      b'
+      (primary_view ks t' a b' h')
   own_only ks (Unary_of fs t) a b h s =
-      let end = looser ks 15 16 b (omega arith) s in
+      let end' = looser ks (fronts_level fs) 15 b (fronts_high fs) s in
+      let end = looser ks 15 16 b (omega arith) end' in
       let last =
       placed ks 16 t h.0 b (omega arith) (h.3, h.4) end (own_only ks t h.0 b h.4 (looser ks 16 (rank ks t) b h.3 end)) in
       subst
-      (λ x. Only ks 15 a x b)
+      (λ x. Only ks (fronts_level fs) a x b)
       (preceded_more Unary_of fs t h.1)
       (preceding_only
       ks
-      15
+      (fronts_level fs)
       15
       a
-      (omega arith)
+      (fronts_high fs)
       Unary_of
-      (λ t b h. unary_view ks t a b h)
+      (λ t b h. prefixed_view ks t a b (lowered ks 14 (fronts_level fs) t a b (fronts_low fs) h))
       fs
       t
       b
-      (fronts_only ks 15 (by_operators refl) fs a h.0 t b h.2 (h.3, h.4) last s))
+      (fronts_only ks 15 (by_operators refl) fs a h.0 t b h.2 (h.3, h.4) last end'))
   own_only ks (Binary_of f bs) a b h s =
       let end = loosely ks (behinds_level ks bs) bs h.0 b h.5 s in
       let low : 1 ≤ behinds_level ks bs + 1 = omega arith in
@@ -706,12 +752,17 @@ mutual
       (behind_only ks l x a h.0 h.1 (loosely ks l xs h.0 b h.2 s))
       (behinds_only ks l xs h.0 b h.2 s)
 
-  front_only : (ks : List Kind) → (l : ℕ) → (x : Front) → (a m : ℕ) → HoldsFront ks l x a m → OnlyFront ks l a x m
+  pub front_only : (ks : List Kind) → (l : ℕ) → (x : Front) → (a m : ℕ) → HoldsFront ks l x a m → OnlyFront ks l a x m
   front_only ks l (Operator_of o) a m h =
       subst
       (λ k. OnlyFront ks k a (Operator_of o) m)
       (sym h.0)
       (operator_only ks o a m (refl, h.1, h.2, h.3))
+  front_only ks l (Cast_of o y c) a m h =
+      subst
+      (λ k. OnlyFront ks k a (Cast_of o y c) m)
+      (sym h.0)
+      (cast_only ks o y c a m (refl, h.1, h.2, h.3, h.4, h.5, h.6))
   front_only ks l (Choice_of t q e c) a m h =
       let one = stops_at ks 4 q Question h.3 (omega arith) in
       let two = stops_at ks 1 c Colon h.6 (omega arith) in

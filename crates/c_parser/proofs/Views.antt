@@ -1,14 +1,17 @@
 -- What a tree is at its level of precedence: first what has the level itself, then the tokens that tell the parts apart.
-use Rattle.std.proofs.Common.{◌≡◌, refl, ap, sym, ◌∙◌, subst, ℕ, ◌+◌, ◌<◌, ◌≤◌, List, arith, ◌⊎◌, inl, inr, true, false}
-use Rattle.tree_data.specs.Trees.{Tree, Name_of, Constant_of, Text_of, Paren_of, Postfix_of, Unary_of, Binary_of, Conditional_of, Assign_of, Behind, Operand_of, Index_of, Call_of, Call_with_of, Member_of, Step_of, Behinds, None_behind, Behind_then, Front, Operator_of, Choice_of, Left_of, Fronts, None_before, Front_then}
+use Rattle.std.proofs.Common.{◌≡◌, refl, ap, sym, ◌∙◌, subst, ℕ, ◌+◌, ◌<◌, ◌≤◌, List, arith, ◌⊎◌, inl, inr, Bool, true, false, true≢false, ◌&&◌, not}
+use Rattle.tree_data.specs.Trees.{Tree, Name_of, Constant_of, Text_of, Paren_of, Postfix_of, Unary_of, Binary_of, Conditional_of, Assign_of, Of_type, Behind, Operand_of, Index_of, Call_of, Call_with_of, Member_of, Step_of, Behinds, None_behind, Behind_then, Front, Operator_of, Cast_of, Choice_of, Left_of, Fronts, None_before, Front_then}
 use Rattle.c_parser.specs.declared.kinds.Kind.{Kind}
 use Rattle.c_parser.specs.declared.kinds.Kind.TheVariants.{Identifier, Constant, Text, OpenParen, CloseParen, OpenBracket, CloseBracket, Member, Step, Question, Colon, Assignment}
-use Rattle.c_parser.specs.Grammar.{IsMore, IsBefore}
+use Rattle.tree_data.specs.Names.{Naming}
+use Rattle.c_parser.specs.Grammar.{IsMore, IsBefore, goes_on}
 use Rattle.c_parser.specs.Joining.{followed, preceded}
-use Rattle.c_parser.specs.Kinds.{kind_at, level_at, is_prefix, is_word}
-use Rattle.c_parser.specs.Levels.{IsBinary, behinds_level, rank}
+use Rattle.c_parser.specs.Kinds.{kind_at, level_at, is_prefix, is_word, is_size, is_opening, starts_type, operator_at, type_at, casts_at}
+use Rattle.c_parser.specs.TypeNames.{HoldsType}
+use Rattle.c_parser.specs.Levels.{IsBinary, behinds_level, fronts_level, rank}
 use Rattle.c_parser.specs.Reading.{HoldTexts, Holds, HoldsBehind, HoldBehinds, HoldsFront, HoldFronts, Reads, Stops}
-use Rattle.c_parser.proofs.Marks.{clash, leveled}
+use Rattle.c_parser.proofs.Marks.{clash, leveled, is_start, prefix_starts, size_starts, no_type}
+use Rattle.c_parser.proofs.Types.{type_starts}
 use native.Mathlib.Decide.{dec_lt}
 
 pub lowered : (ks : List Kind) → (n m : ℕ) → (t : Tree) → (a b : ℕ) → n ≤ m → Reads ks m t a b → Reads ks n t a b
@@ -22,7 +25,7 @@ looser ks n m b le s =
     omega arith
 
 -- a tree of a level has that level itself or the next one
-parted : (ks : List Kind) → (n : ℕ) → (t : Tree) → (a b : ℕ) → Reads ks n t a b → (rank ks t ≡ n) ⊎ Reads ks (n + 1) t a b
+pub parted : (ks : List Kind) → (n : ℕ) → (t : Tree) → (a b : ℕ) → Reads ks n t a b → (rank ks t ≡ n) ⊎ Reads ks (n + 1) t a b
 parted ks n t a b h =
     let le : n ≤ rank ks t = h.0 in
     elim (dec_lt n (rank ks t)) [
@@ -32,6 +35,20 @@ parted ks n t a b h =
           inl (omega arith)
     ]
 
+pub fronts_low : (fs : Fronts) → 14 ≤ fronts_level fs
+fronts_low None_before = omega arith
+fronts_low (Front_then (Operator_of o) fs) = omega arith
+fronts_low (Front_then (Cast_of o t c) fs) = omega arith
+fronts_low (Front_then (Choice_of t q e c) fs) = omega arith
+fronts_low (Front_then (Left_of t o) fs) = omega arith
+
+pub fronts_high : (fs : Fronts) → fronts_level fs ≤ 15
+fronts_high None_before = omega arith
+fronts_high (Front_then (Operator_of o) fs) = omega arith
+fronts_high (Front_then (Cast_of o t c) fs) = omega arith
+fronts_high (Front_then (Choice_of t q e c) fs) = omega arith
+fronts_high (Front_then (Left_of t o) fs) = omega arith
+
 -- an expression of the next level, and what goes on behind it at this one
 pub record Following (ks : List Kind) (l : ℕ) (make : Tree → Behinds → Tree) (t : Tree) (a b : ℕ) : Type 0 where
   pub first : Tree
@@ -40,6 +57,7 @@ pub record Following (ks : List Kind) (l : ℕ) (make : Tree → Behinds → Tre
   pub is : t ≡ followed make first more
   pub reads : Reads ks (l + 1) first a behind
   pub goes : HoldBehinds ks l more behind b
+  pub fit : l ≡ 16 → IsMore more → goes_on first ≡ true
 
 -- what stands in front at this level, and an expression of the next one
 pub record Preceding (ks : List Kind) (l : ℕ) (make : Fronts → Tree → Tree) (t : Tree) (a b : ℕ) : Type 0 where
@@ -59,7 +77,8 @@ preceded_more make None_before t h = absurd h
 preceded_more make (Front_then x xs) t h = refl
 
 alone : (ks : List Kind) → (l : ℕ) → (make : Tree → Behinds → Tree) → (t : Tree) → (a b : ℕ) → Reads ks (l + 1) t a b → Following ks l make t a b
-alone ks l make t a b h = record { first = t; behind = b; more = None_behind; is = refl; reads = h; goes = refl }
+alone ks l make t a b h =
+    record { first = t; behind = b; more = None_behind; is = refl; reads = h; goes = refl; fit = λ e i. absurd i }
 
 bare : (ks : List Kind) → (l : ℕ) → (make : Fronts → Tree → Tree) → (t : Tree) → (a b : ℕ) → Reads ks (l + 1) t a b → Preceding ks l make t a b
 bare ks l make t a b h = record { before = None_before; behind = a; last = t; is = refl; goes = refl; reads = h }
@@ -77,8 +96,13 @@ own_postfix ks (Postfix_of f bs) a b e h =
       is = sym (followed_more Postfix_of f bs h.1);
       reads = (h.2, h.3);
       goes = h.4;
+      fit = λ e i. h.5;
     }
-own_postfix ks (Unary_of fs u) a b e h = absurd (omega (arith, e))
+own_postfix ks (Unary_of fs u) a b e h =
+    let low : 14 ≤ fronts_level fs = fronts_low fs in
+    let high : fronts_level fs ≤ 15 = fronts_high fs in
+    let same : fronts_level fs ≡ 16 = e in
+    absurd (omega arith)
 own_postfix ks (Binary_of f bs) a b e h =
     let most : behinds_level ks bs ≤ 13 = h.2.1 in
     let same : behinds_level ks bs ≡ 16 = e in
@@ -87,6 +111,7 @@ own_postfix ks (Binary_of f bs) a b e h =
     absurd (omega arith)
 own_postfix ks (Conditional_of fs u) a b e h = absurd (omega (arith, e))
 own_postfix ks (Assign_of fs u) a b e h = absurd (omega (arith, e))
+own_postfix ks (Of_type k o y c) a b e h = absurd (omega (arith, e))
 
 pub postfix_view : (ks : List Kind) → (t : Tree) → (a b : ℕ) → Reads ks 16 t a b → Following ks 16 Postfix_of t a b
 postfix_view ks t a b h =
@@ -94,6 +119,11 @@ postfix_view ks t a b h =
       | inl e ↦ own_postfix ks t a b e h.1
       | inr r ↦ alone ks 16 Postfix_of t a b r
     ]
+
+no_suffix : {A : Type 0} → (l : ℕ) → IsBinary l → l ≡ 16 → A
+no_suffix l i e =
+    let most : l ≤ 13 = i.1 in
+    absurd (omega arith)
 
 too_high : {A : Type 0} → (l r : ℕ) → IsBinary l → 14 ≤ r → r ≡ l → A
 too_high l r i le e =
@@ -106,7 +136,7 @@ own_binary ks l (Constant_of n) a b i e h = too_high l 17 i (omega arith) e
 own_binary ks l (Text_of ns) a b i e h = too_high l 17 i (omega arith) e
 own_binary ks l (Paren_of o u c) a b i e h = too_high l 17 i (omega arith) e
 own_binary ks l (Postfix_of f bs) a b i e h = too_high l 16 i (omega arith) e
-own_binary ks l (Unary_of fs u) a b i e h = too_high l 15 i (omega arith) e
+own_binary ks l (Unary_of fs u) a b i e h = too_high l (fronts_level fs) i (fronts_low fs) e
 own_binary ks l (Binary_of f bs) a b i e h =
     record {
       first = f;
@@ -115,9 +145,11 @@ own_binary ks l (Binary_of f bs) a b i e h =
       is = sym (followed_more Binary_of f bs h.1);
       reads = subst (λ k. Reads ks (k + 1) f a h.0) e (h.3, h.4);
       goes = subst (λ k. HoldBehinds ks k bs h.0 b) e h.5;
+      fit = λ x i'. no_suffix l i x;
     }
 own_binary ks l (Conditional_of fs u) a b i e h = absurd (i.3 (sym e))
 own_binary ks l (Assign_of fs u) a b i e h = absurd (i.2 (sym e))
+own_binary ks l (Of_type k o y c) a b i e h = too_high l 17 i (omega arith) e
 
 pub binary_view : (ks : List Kind) → (l : ℕ) → IsBinary l → (t : Tree) → (a b : ℕ) → Reads ks l t a b → Following ks l Binary_of t a b
 binary_view ks l i t a b h =
@@ -149,6 +181,7 @@ own_unary ks (Binary_of f bs) a b e h =
     absurd (omega arith)
 own_unary ks (Conditional_of fs u) a b e h = absurd (omega (arith, e))
 own_unary ks (Assign_of fs u) a b e h = absurd (omega (arith, e))
+own_unary ks (Of_type k o y c) a b e h = absurd (omega (arith, e))
 
 pub unary_view : (ks : List Kind) → (t : Tree) → (a b : ℕ) → Reads ks 15 t a b → Preceding ks 15 Unary_of t a b
 unary_view ks t a b h =
@@ -163,7 +196,11 @@ own_conditional ks (Constant_of n) a b e h = absurd (omega (arith, e))
 own_conditional ks (Text_of ns) a b e h = absurd (omega (arith, e))
 own_conditional ks (Paren_of o u c) a b e h = absurd (omega (arith, e))
 own_conditional ks (Postfix_of f bs) a b e h = absurd (omega (arith, e))
-own_conditional ks (Unary_of fs u) a b e h = absurd (omega (arith, e))
+own_conditional ks (Unary_of fs u) a b e h =
+    let low : 14 ≤ fronts_level fs = fronts_low fs in
+    let high : fronts_level fs ≤ 15 = fronts_high fs in
+    let same : fronts_level fs ≡ 3 = e in
+    absurd (omega arith)
 own_conditional ks (Binary_of f bs) a b e h =
     let most : behinds_level ks bs ≤ 13 = h.2.1 in
     let same : behinds_level ks bs ≡ 3 = e in
@@ -180,6 +217,7 @@ own_conditional ks (Conditional_of fs u) a b e h =
       reads = (h.3, h.4);
     }
 own_conditional ks (Assign_of fs u) a b e h = absurd (omega (arith, e))
+own_conditional ks (Of_type k o y c) a b e h = absurd (omega (arith, e))
 
 pub conditional_view : (ks : List Kind) → (t : Tree) → (a b : ℕ) → Reads ks 3 t a b → Preceding ks 3 Conditional_of t a b
 conditional_view ks t a b h =
@@ -194,7 +232,11 @@ own_assign ks (Constant_of n) a b e h = absurd (omega (arith, e))
 own_assign ks (Text_of ns) a b e h = absurd (omega (arith, e))
 own_assign ks (Paren_of o u c) a b e h = absurd (omega (arith, e))
 own_assign ks (Postfix_of f bs) a b e h = absurd (omega (arith, e))
-own_assign ks (Unary_of fs u) a b e h = absurd (omega (arith, e))
+own_assign ks (Unary_of fs u) a b e h =
+    let low : 14 ≤ fronts_level fs = fronts_low fs in
+    let high : fronts_level fs ≤ 15 = fronts_high fs in
+    let same : fronts_level fs ≡ 2 = e in
+    absurd (omega arith)
 own_assign ks (Binary_of f bs) a b e h =
     let most : behinds_level ks bs ≤ 13 = h.2.1 in
     let same : behinds_level ks bs ≡ 2 = e in
@@ -211,6 +253,7 @@ own_assign ks (Assign_of fs u) a b e h =
       goes = h.2;
       reads = (h.3, h.4);
     }
+own_assign ks (Of_type k o y c) a b e h = absurd (omega (arith, e))
 
 pub assign_view : (ks : List Kind) → (t : Tree) → (a b : ℕ) → Reads ks 2 t a b → Preceding ks 2 Assign_of t a b
 assign_view ks t a b h =
@@ -219,14 +262,22 @@ assign_view ks t a b h =
       | inr r ↦ bare ks 2 Assign_of t a b r
     ]
 
--- the grammar has no cast
-own_cast : {A : Type 0} → (ks : List Kind) → (t : Tree) → (a b : ℕ) → rank ks t ≡ 14 → Holds ks t a b → A
+-- with a cast in front
+own_cast : (ks : List Kind) → (t : Tree) → (a b : ℕ) → rank ks t ≡ 14 → Holds ks t a b → Preceding ks 15 Unary_of t a b
 own_cast ks (Name_of n) a b e h = absurd (omega (arith, e))
 own_cast ks (Constant_of n) a b e h = absurd (omega (arith, e))
 own_cast ks (Text_of ns) a b e h = absurd (omega (arith, e))
 own_cast ks (Paren_of o u c) a b e h = absurd (omega (arith, e))
 own_cast ks (Postfix_of f bs) a b e h = absurd (omega (arith, e))
-own_cast ks (Unary_of fs u) a b e h = absurd (omega (arith, e))
+own_cast ks (Unary_of fs u) a b e h =
+    record {
+      before = fs;
+      behind = h.0;
+      last = u;
+      is = sym (preceded_more Unary_of fs u h.1);
+      goes = h.2;
+      reads = (h.3, h.4);
+    }
 own_cast ks (Binary_of f bs) a b e h =
     let most : behinds_level ks bs ≤ 13 = h.2.1 in
     let same : behinds_level ks bs ≡ 14 = e in
@@ -235,16 +286,74 @@ own_cast ks (Binary_of f bs) a b e h =
     absurd (omega arith)
 own_cast ks (Conditional_of fs u) a b e h = absurd (omega (arith, e))
 own_cast ks (Assign_of fs u) a b e h = absurd (omega (arith, e))
-
-pub cast_view : (ks : List Kind) → (t : Tree) → (a b : ℕ) → Reads ks 14 t a b → Reads ks 15 t a b
-cast_view ks t a b h =
-    elim (parted ks 14 t a b h) [
-      | inl e ↦ own_cast ks t a b e h.1
-      | inr r ↦ r
-    ]
+own_cast ks (Of_type k o y c) a b e h = absurd (omega (arith, e))
 
 pub prefixed_view : (ks : List Kind) → (t : Tree) → (a b : ℕ) → Reads ks 14 t a b → Preceding ks 15 Unary_of t a b
-prefixed_view ks t a b h = unary_view ks t a b (cast_view ks t a b h)
+prefixed_view ks t a b h =
+    elim (parted ks 14 t a b h) [
+      | inl e ↦ own_cast ks t a b e h.1
+      | inr r ↦ unary_view ks t a b r
+    ]
+
+-- where a tree begins
+and_left : (p q : Bool) → p && q ≡ true → p ≡ true
+and_left true q h = refl
+and_left false q h = absurd (true≢false (sym h))
+
+and_false : (p : Bool) → p && false ≡ false
+and_false true = refl
+and_false false = refl
+
+pub operator_prefix : (ks : List Kind) → (a : ℕ) → operator_at ks a ≡ true → is_prefix (kind_at ks a) ≡ true
+unfolding operator_at
+operator_prefix ks a h = and_left (is_prefix (kind_at ks a)) (not (is_size (kind_at ks a) && type_at ks (a + 1))) h
+
+no_operator : (ks : List Kind) → (a : ℕ) → is_prefix (kind_at ks a) ≡ false → operator_at ks a ≡ false
+unfolding operator_at
+no_operator ks a h = ap (λ p. p && not (is_size (kind_at ks a) && type_at ks (a + 1))) h
+
+no_size : (ks : List Kind) → (a : ℕ) → is_size (kind_at ks a) ≡ true → type_at ks (a + 1) ≡ true → operator_at ks a ≡ false
+unfolding operator_at
+no_size ks a h t =
+    ap (λ p. is_prefix (kind_at ks a) && not (p && type_at ks (a + 1))) h
+    ∙ ap (λ p. is_prefix (kind_at ks a) && not (true && p)) t
+    ∙ and_false (is_prefix (kind_at ks a))
+
+pub unopened : (ks : List Kind) → (a : ℕ) → is_opening (kind_at ks a) ≡ false → type_at ks a ≡ false
+unfolding type_at
+unopened ks a h = ap (λ p. p && starts_type (kind_at ks (a + 1))) h
+
+opened : (ks : List Kind) → (a : ℕ) → kind_at ks a ≡ OpenParen → type_at ks a ≡ starts_type (kind_at ks (a + 1))
+unfolding type_at
+opened ks a h = ap (λ k. is_opening k && starts_type (kind_at ks (a + 1))) h
+
+prefix_opens_not : (k : Kind) → is_prefix k ≡ true → is_opening k ≡ false
+prefix_opens_not OpenParen h = absurd (true≢false (sym h))
+prefix_opens_not _ h = refl
+
+size_opens_not : (k : Kind) → is_size k ≡ true → is_opening k ≡ false
+size_opens_not OpenParen h = absurd (true≢false (sym h))
+size_opens_not _ h = refl
+
+mutual
+  pub starts : (ks : List Kind) → (t : Tree) → (a b : ℕ) → Holds ks t a b → is_start (kind_at ks a) ≡ true
+  starts ks (Name_of n) a b h = ap is_start h.1
+  starts ks (Constant_of n) a b h = ap is_start h.1
+  starts ks (Text_of ns) a b h = ap is_start h.0
+  starts ks (Paren_of o t c) a b h = ap is_start h.1
+  starts ks (Postfix_of f bs) a b h = starts ks f a h.0 h.3
+  starts ks (Unary_of fs t) a b h = front_starts ks 15 fs a h.0 h.1 h.2
+  starts ks (Binary_of f bs) a b h = starts ks f a h.0 h.4
+  starts ks (Conditional_of fs t) a b h = front_starts ks 3 fs a h.0 h.1 h.2
+  starts ks (Assign_of fs t) a b h = front_starts ks 2 fs a h.0 h.1 h.2
+  starts ks (Of_type k o t c) a b h = size_starts (kind_at ks a) h.1
+
+  front_starts : (ks : List Kind) → (l : ℕ) → (xs : Fronts) → (a m : ℕ) → IsBefore xs → HoldFronts ks l xs a m → is_start (kind_at ks a) ≡ true
+  front_starts ks l None_before a m i h = absurd i
+  front_starts ks l (Front_then (Operator_of o) xs) a m i h = prefix_starts (kind_at ks a) (operator_prefix ks a h.1.2)
+  front_starts ks l (Front_then (Cast_of o t c) xs) a m i h = ap is_start h.1.2
+  front_starts ks l (Front_then (Choice_of t q e c) xs) a m i h = starts ks t a q h.1.2
+  front_starts ks l (Front_then (Left_of t o) xs) a m i h = starts ks t a o h.1.2
 
 -- a primary expression, by its first token
 pub data Primary (ks : List Kind) (t : Tree) (a b : ℕ) : Type 0 where
@@ -253,6 +362,8 @@ pub data Primary (ks : List Kind) (t : Tree) (a b : ℕ) : Type 0 where
   a_text : (ns : List ℕ) → t ≡ Text_of ns → kind_at ks a ≡ Text → HoldTexts ks ns a b → Primary ks t a b
   a_paren : (u : Tree) → (c : ℕ) → t ≡ Paren_of a u c → kind_at ks a ≡ OpenParen
       → Reads ks 1 u (a + 1) c → kind_at ks c ≡ CloseParen → b ≡ c + 1 → Primary ks t a b
+  a_size : (y : Naming) → (c : ℕ) → t ≡ Of_type a (a + 1) y c → is_size (kind_at ks a) ≡ true → kind_at ks (a + 1) ≡ OpenParen
+      → HoldsType ks y (a + 2) c → kind_at ks c ≡ CloseParen → b ≡ c + 1 → Primary ks t a b
 
 pub primary_view : (ks : List Kind) → (t : Tree) → (a b : ℕ) → Reads ks 17 t a b → Primary ks t a b
 primary_view ks (Name_of n) a b h = a_name (ap Name_of h.1.0) h.1.1 h.1.2
@@ -261,7 +372,21 @@ primary_view ks (Text_of ns) a b h = a_text ns refl h.1.0 h.1.1
 primary_view ks (Paren_of o u c) a b h =
     a_paren u c (ap (λ x. Paren_of x u c) h.1.0) h.1.1 (h.1.2, h.1.3) h.1.4 h.1.5
 primary_view ks (Postfix_of f bs) a b h = absurd (omega (arith, h.0))
-primary_view ks (Unary_of fs u) a b h = absurd (omega (arith, h.0))
+primary_view ks (Unary_of fs u) a b h =
+    let le : 17 ≤ fronts_level fs = h.0 in
+    let most : fronts_level fs ≤ 15 = fronts_high fs in
+    absurd (omega arith)
+primary_view ks (Of_type k o y c) a b h =
+    let two : (a + 1) + 1 ≡ a + 2 = omega arith in
+    a_size
+    y
+    c
+    (ap (λ x. Of_type x o y c) h.1.0 ∙ ap (λ x. Of_type a x y c) h.1.2)
+    h.1.1
+    (ap (λ x. kind_at ks x) (sym h.1.2) ∙ h.1.3)
+    (subst (λ x. HoldsType ks y x c) (ap (λ x. x + 1) h.1.2 ∙ two) h.1.4)
+    h.1.5
+    h.1.6
 primary_view ks (Binary_of f bs) a b h =
     let le : 17 ≤ behinds_level ks bs = h.0 in
     let most : behinds_level ks bs ≤ 13 = h.1.2.1 in
@@ -269,17 +394,88 @@ primary_view ks (Binary_of f bs) a b h =
 primary_view ks (Conditional_of fs u) a b h = absurd (omega (arith, h.0))
 primary_view ks (Assign_of fs u) a b h = absurd (omega (arith, h.0))
 
-first_primary : (ks : List Kind) → (t : Tree) → (a b : ℕ) → Primary ks t a b → is_prefix (kind_at ks a) ≡ false
-first_primary ks t a b (a_name e k f) = ap is_prefix k
-first_primary ks t a b (a_constant e k f) = ap is_prefix k
-first_primary ks t a b (a_text ns e k f) = ap is_prefix k
-first_primary ks t a b (a_paren u c e k r l f) = ap is_prefix k
+-- a primary expression begins with no unary operator and no cast
+pub record Bare (ks : List Kind) (a : ℕ) : Type 0 where
+  pub no_operator : operator_at ks a ≡ false
+  pub no_cast : type_at ks a ≡ false
 
--- a postfix expression begins with no unary operator
-pub first_postfix : (ks : List Kind) → (t : Tree) → (a b : ℕ) → Reads ks 16 t a b → is_prefix (kind_at ks a) ≡ false
+plain : (ks : List Kind) → (a : ℕ) → is_prefix (kind_at ks a) ≡ false → is_opening (kind_at ks a) ≡ false → Bare ks a
+plain ks a p o = record { no_operator = no_operator ks a p; no_cast = unopened ks a o }
+
+first_primary : (ks : List Kind) → (t : Tree) → (a b : ℕ) → Primary ks t a b → Bare ks a
+first_primary ks t a b (a_name e k f) = plain ks a (ap is_prefix k) (ap is_opening k)
+first_primary ks t a b (a_constant e k f) = plain ks a (ap is_prefix k) (ap is_opening k)
+first_primary ks t a b (a_text ns e k f) = plain ks a (ap is_prefix k) (ap is_opening k)
+first_primary ks t a b (a_paren u c e k r l f) = record {
+  no_operator = no_operator ks a (ap is_prefix k);
+  no_cast = opened ks a k ∙ no_type (kind_at ks (a + 1)) (starts ks u (a + 1) c r.1);
+}
+first_primary ks t a b (a_size y c e k o h l f) =
+    let two : a + 2 ≡ (a + 1) + 1 = omega arith in
+    record {
+      no_operator =
+          no_size
+          ks
+          a
+          k
+          (opened ks (a + 1) o ∙ ap (λ x. starts_type (kind_at ks x)) (sym two) ∙ type_starts ks y (a + 2) c h);
+      no_cast = unopened ks a (size_opens_not (kind_at ks a) k);
+    }
+
+pub first_postfix : (ks : List Kind) → (t : Tree) → (a b : ℕ) → Reads ks 16 t a b → Bare ks a
 first_postfix ks t a b h =
     let v = postfix_view ks t a b h in
     first_primary ks v.first a v.behind (primary_view ks v.first a v.behind v.reads)
+
+pub cast_here : (ks : List Kind) → (y : Naming) → (a c : ℕ) → kind_at ks a ≡ OpenParen → HoldsType ks y (a + 1) c → type_at ks a ≡ true
+cast_here ks y a c k h = opened ks a k ∙ type_starts ks y (a + 1) c h
+
+-- a unary expression begins with no cast
+begins_unary : (ks : List Kind) → (t : Tree) → (a b : ℕ) → rank ks t ≡ 15 → Holds ks t a b → type_at ks a ≡ false
+begins_unary ks (Unary_of None_before u) a b e h = absurd h.1
+begins_unary ks (Unary_of (Front_then (Operator_of o) fs) u) a b e h =
+    unopened ks a (prefix_opens_not (kind_at ks a) (operator_prefix ks a h.2.1.2))
+begins_unary ks (Unary_of (Front_then (Cast_of o y c) fs) u) a b e h = absurd (omega (arith, e))
+begins_unary ks (Unary_of (Front_then (Choice_of t q x c) fs) u) a b e h = absurd (omega (arith, h.2.1.0))
+begins_unary ks (Unary_of (Front_then (Left_of t o) fs) u) a b e h = absurd (omega (arith, h.2.1.0))
+begins_unary ks (Name_of n) a b e h = absurd (omega (arith, e))
+begins_unary ks (Constant_of n) a b e h = absurd (omega (arith, e))
+begins_unary ks (Text_of ns) a b e h = absurd (omega (arith, e))
+begins_unary ks (Paren_of o u c) a b e h = absurd (omega (arith, e))
+begins_unary ks (Postfix_of f bs) a b e h = absurd (omega (arith, e))
+begins_unary ks (Binary_of f bs) a b e h =
+    let most : behinds_level ks bs ≤ 13 = h.2.1 in
+    let same : behinds_level ks bs ≡ 15 = e in
+    absurd (omega arith)
+begins_unary ks (Conditional_of fs u) a b e h = absurd (omega (arith, e))
+begins_unary ks (Assign_of fs u) a b e h = absurd (omega (arith, e))
+begins_unary ks (Of_type k o y c) a b e h = absurd (omega (arith, e))
+
+pub begins_cast : (ks : List Kind) → (t : Tree) → (a b : ℕ) → rank ks t ≡ 14 → Holds ks t a b → type_at ks a ≡ true
+begins_cast ks (Unary_of None_before u) a b e h = absurd h.1
+begins_cast ks (Unary_of (Front_then (Operator_of o) fs) u) a b e h = absurd (omega (arith, e))
+begins_cast ks (Unary_of (Front_then (Cast_of o y c) fs) u) a b e h = cast_here ks y a c h.2.1.2 h.2.1.4
+begins_cast ks (Unary_of (Front_then (Choice_of t q x c) fs) u) a b e h = absurd (omega (arith, e))
+begins_cast ks (Unary_of (Front_then (Left_of t o) fs) u) a b e h = absurd (omega (arith, e))
+begins_cast ks (Name_of n) a b e h = absurd (omega (arith, e))
+begins_cast ks (Constant_of n) a b e h = absurd (omega (arith, e))
+begins_cast ks (Text_of ns) a b e h = absurd (omega (arith, e))
+begins_cast ks (Paren_of o u c) a b e h = absurd (omega (arith, e))
+begins_cast ks (Postfix_of f bs) a b e h = absurd (omega (arith, e))
+begins_cast ks (Binary_of f bs) a b e h =
+    let most : behinds_level ks bs ≤ 13 = h.2.1 in
+    let same : behinds_level ks bs ≡ 14 = e in
+    absurd (omega arith)
+begins_cast ks (Conditional_of fs u) a b e h = absurd (omega (arith, e))
+begins_cast ks (Assign_of fs u) a b e h = absurd (omega (arith, e))
+begins_cast ks (Of_type k o y c) a b e h = absurd (omega (arith, e))
+
+pub first_unary : (ks : List Kind) → (t : Tree) → (a b : ℕ) → Reads ks 15 t a b → type_at ks a ≡ false
+first_unary ks t a b h =
+    elim (parted ks 15 t a b h) [
+      | inl e ↦ begins_unary ks t a b e h.1
+      | inr r ↦ (first_postfix ks t a b r).no_cast
+    ]
 
 not_binary : {A : Type 0} → IsBinary 16 → A
 not_binary i = absurd (omega (arith, i.1))
@@ -328,12 +524,12 @@ call_view ks (Call_with_of o t bs c) a b k h = arguments t h.0 bs c (ap (λ y. C
 call_view ks (Member_of o n) a b k h = clash (kind_at ks a) OpenParen Member k h.2 (λ e. omega (arith, e))
 call_view ks (Step_of o) a b k h = clash (kind_at ks a) OpenParen Step k h.2 (λ e. omega (arith, e))
 
-pub record Naming (ks : List Kind) (x : Behind) (a b : ℕ) : Type 0 where
+pub record Selecting (ks : List Kind) (x : Behind) (a b : ℕ) : Type 0 where
   pub is : x ≡ Member_of a (a + 1)
   pub word : is_word (kind_at ks (a + 1)) ≡ true
   pub ends : b ≡ a + 2
 
-pub member_view : (ks : List Kind) → (x : Behind) → (a b : ℕ) → kind_at ks a ≡ Member → HoldsBehind ks 16 x a b → Naming ks x a b
+pub member_view : (ks : List Kind) → (x : Behind) → (a b : ℕ) → kind_at ks a ≡ Member → HoldsBehind ks 16 x a b → Selecting ks x a b
 member_view ks (Operand_of o t) a b k h = not_binary h.0
 member_view ks (Index_of o t c) a b k h = clash (kind_at ks a) Member OpenBracket k h.2 (λ e. omega (arith, e))
 member_view ks (Call_of o c) a b k h = clash (kind_at ks a) Member OpenParen k h.2 (λ e. omega (arith, e))
@@ -361,11 +557,6 @@ pub record Operating (ks : List Kind) (l : ℕ) (x : Behind) (a b : ℕ) : Type 
   pub operand : Tree
   pub is : x ≡ Operand_of a operand
   pub reads : Reads ks (l + 1) operand (a + 1) b
-
-no_suffix : {A : Type 0} → (l : ℕ) → IsBinary l → l ≡ 16 → A
-no_suffix l i e =
-    let most : l ≤ 13 = i.1 in
-    absurd (omega arith)
 
 pub operand_view : (ks : List Kind) → (l : ℕ) → (x : Behind) → (a b : ℕ) → IsBinary l → HoldsBehind ks l x a b → Operating ks l x a b
 operand_view ks l (Operand_of o t) a b i h = record { operand = t; is = ap (λ y. Operand_of y t) h.1; reads = (h.3, h.4) }
@@ -414,14 +605,24 @@ pub record Placing (ks : List Kind) (x : Front) (a b : ℕ) : Type 0 where
   pub assigns : kind_at ks operator ≡ Assignment
   pub ends : b ≡ operator + 1
 
-pub operator_view : (ks : List Kind) → (x : Front) → (a b : ℕ) → HoldsFront ks 15 x a b
-    → (x ≡ Operator_of a) × (is_prefix (kind_at ks a) ≡ true) × (b ≡ a + 1)
-operator_view ks (Operator_of o) a b h = (ap Operator_of h.1, h.2, h.3)
-operator_view ks (Choice_of t q e c) a b h = absurd (omega (arith, h.0))
-operator_view ks (Left_of t o) a b h = absurd (omega (arith, h.0))
+-- a unary operator, or a cast
+pub data Prefixing (ks : List Kind) (x : Front) (a b : ℕ) : Type 0 where
+  an_operator : x ≡ Operator_of a → operator_at ks a ≡ true → b ≡ a + 1 → Prefixing ks x a b
+  a_cast : (y : Naming) → (c : ℕ) → x ≡ Cast_of a y c → kind_at ks a ≡ OpenParen → casts_at ks a ≡ true → HoldsType ks y (a + 1) c
+      → kind_at ks c ≡ CloseParen → b ≡ c + 1 → Prefixing ks x a b
+
+pub no_cast_operator : (ks : List Kind) → (a : ℕ) → kind_at ks a ≡ OpenParen → operator_at ks a ≡ false
+no_cast_operator ks a k = no_operator ks a (ap is_prefix k)
+
+pub prefix_view : (ks : List Kind) → (x : Front) → (a b : ℕ) → HoldsFront ks 15 x a b → Prefixing ks x a b
+prefix_view ks (Operator_of o) a b h = an_operator (ap Operator_of h.1) h.2 h.3
+prefix_view ks (Cast_of o y c) a b h = a_cast y c (ap (λ k. Cast_of k y c) h.1) h.2 h.3 h.4 h.5 h.6
+prefix_view ks (Choice_of t q e c) a b h = absurd (omega (arith, h.0))
+prefix_view ks (Left_of t o) a b h = absurd (omega (arith, h.0))
 
 pub choice_view : (ks : List Kind) → (x : Front) → (a b : ℕ) → HoldsFront ks 3 x a b → Choosing ks x a b
 choice_view ks (Operator_of o) a b h = absurd (omega (arith, h.0))
+choice_view ks (Cast_of o y c) a b h = absurd (omega (arith, h.0))
 choice_view ks (Choice_of t q e c) a b h =
     record {
       test = t;
@@ -439,6 +640,7 @@ choice_view ks (Left_of t o) a b h = absurd (omega (arith, h.0))
 
 pub left_view : (ks : List Kind) → (x : Front) → (a b : ℕ) → HoldsFront ks 2 x a b → Placing ks x a b
 left_view ks (Operator_of o) a b h = absurd (omega (arith, h.0))
+left_view ks (Cast_of o y c) a b h = absurd (omega (arith, h.0))
 left_view ks (Choice_of t q e c) a b h = absurd (omega (arith, h.0))
 left_view ks (Left_of t o) a b h =
     record { place = t; operator = o; is = refl; reads = (h.1, h.2); assigns = h.3; ends = h.4 }

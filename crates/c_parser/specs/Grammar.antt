@@ -1,13 +1,14 @@
--- The grammar of expressions (ISO C11 6.5) without type names: what a tree spells, and which trees are proper. A case a
+-- The grammar of expressions (ISO C11 6.5) without `_Generic` and compound literals: what a tree spells, and which trees are proper. A case a
 -- production; productions that go on to the left or to the right by themselves are lists, of one part at least.
-use Rattle.std.specs.Prelude.{◌≡◌, ℕ, zero, suc, ◌+◌, ◌≤◌, List, [], ◌∷◌, ◌++◌, length, Some, None, true}
-use Rattle.tree_data.specs.Trees.{Tree, Name_of, Constant_of, Text_of, Paren_of, Postfix_of, Unary_of, Binary_of, Conditional_of, Assign_of, Behind, Operand_of, Index_of, Call_of, Call_with_of, Member_of, Step_of, Behinds, None_behind, Behind_then, Front, Operator_of, Choice_of, Left_of, Fronts, None_before, Front_then}
+use Rattle.std.specs.Prelude.{◌≡◌, Bool, false, ℕ, zero, suc, ◌+◌, ◌≤◌, List, [], ◌∷◌, ◌++◌, length, Some, None, true}
+use Rattle.tree_data.specs.Trees.{Tree, Name_of, Constant_of, Text_of, Paren_of, Postfix_of, Unary_of, Binary_of, Conditional_of, Assign_of, Of_type, Behind, Operand_of, Index_of, Call_of, Call_with_of, Member_of, Step_of, Behinds, None_behind, Behind_then, Front, Operator_of, Cast_of, Choice_of, Left_of, Fronts, None_before, Front_then}
 use Rattle.c_parser.specs.declared.answers.ParseError.{ParseError}
 use Rattle.c_parser.specs.declared.answers.ParseError.TheVariants.{Syntax, TooDeep, NoMemory}
 use Rattle.c_parser.specs.declared.kinds.Kind.{Kind}
 use Rattle.c_parser.specs.declared.kinds.Kind.TheVariants.{Identifier, Constant, Text, OpenParen, CloseParen, OpenBracket, CloseBracket, Member, Step, Question, Colon, Assignment}
 use Rattle.c_parser.specs.Brackets.{too_deep}
-use Rattle.c_parser.specs.Kinds.{kind_at, level_at, is_prefix, is_word}
+use Rattle.c_parser.specs.Kinds.{kind_at, level_at, operator_at, casts_at, is_size, is_word}
+use Rattle.c_parser.specs.TypeNames.{spell_type, IsType}
 use Rattle.c_parser.specs.Levels.{expression, assignment_expression, conditional_expression, logical_OR_expression, unary_expression, postfix_expression, primary_expression, IsBinary, behinds_level, rank}
 
 -- the numbers of a tree's tokens, in order
@@ -22,6 +23,7 @@ abbrev mutual
   spell (Binary_of f bs) = spell f ++ spell_behinds bs
   spell (Conditional_of fs t) = spell_fronts fs ++ spell t
   spell (Assign_of fs t) = spell_fronts fs ++ spell t
+  spell (Of_type k o t c) = k ∷ o ∷ (spell_type t ++ c ∷ [])
 
   pub spell_behind : Behind → List ℕ
   spell_behind (Operand_of o t) = o ∷ spell t
@@ -37,6 +39,7 @@ abbrev mutual
 
   pub spell_front : Front → List ℕ
   spell_front (Operator_of o) = o ∷ []
+  spell_front (Cast_of o t c) = o ∷ (spell_type t ++ c ∷ [])
   spell_front (Choice_of t q e c) = spell t ++ (q ∷ (spell e ++ c ∷ []))
   spell_front (Left_of t o) = spell t ++ o ∷ []
 
@@ -61,6 +64,11 @@ abbrev pub AreTexts : List Kind → List ℕ → Type 0
 AreTexts kinds [] = ⊥
 AreTexts kinds (n ∷ ns) = (kind_at kinds n ≡ Text) × GoOn kinds n ns
 
+-- postfix operators may stand behind the tree
+abbrev pub goes_on : Tree → Bool
+goes_on (Of_type k o t c) = false
+goes_on _ = true
+
 -- each part of the tree is what the tree's production has there; `l ≤ rank kinds t` says that t is of the nonterminal l
 abbrev mutual
   pub IsFormed : List Kind → Tree → Type 0
@@ -75,9 +83,10 @@ abbrev mutual
   -- 6.5.2 postfix-expression : primary-expression with postfix operators behind it
   IsFormed kinds (Postfix_of f bs) =
       IsMore bs
+      × (goes_on f ≡ true)
       × (primary_expression ≤ rank kinds f) × IsFormed kinds f
       × AreBehind kinds postfix_expression bs
-  -- 6.5.3 unary-expression : unary operators in front of a postfix-expression
+  -- 6.5.3 unary-expression, 6.5.4 cast-expression : unary operators and casts in front of a postfix-expression
   IsFormed kinds (Unary_of fs t) =
       IsBefore fs
       × AreInFront kinds unary_expression fs
@@ -98,6 +107,12 @@ abbrev mutual
       IsBefore fs
       × AreInFront kinds assignment_expression fs
       × (conditional_expression ≤ rank kinds t) × IsFormed kinds t
+  -- 6.5.3 sizeof ( type-name ) | _Alignof ( type-name )
+  IsFormed kinds (Of_type k o t c) =
+      (is_size (kind_at kinds k) ≡ true)
+      × (kind_at kinds o ≡ OpenParen)
+      × IsType kinds t
+      × (kind_at kinds c ≡ CloseParen)
 
   -- what an expression of the nonterminal l goes on with
   pub IsBehind : List Kind → ℕ → Behind → Type 0
@@ -141,7 +156,14 @@ abbrev mutual
   -- 6.5.3 ++ | -- | unary-operator | sizeof
   IsInFront kinds l (Operator_of o) =
       (l ≡ unary_expression)
-      × (is_prefix (kind_at kinds o) ≡ true)
+      × (operator_at kinds o ≡ true)
+  -- 6.5.4 ( type-name ), but not behind ++, -- and sizeof, whose operands are unary-expressions (6.5.3)
+  IsInFront kinds l (Cast_of o t c) =
+      (l ≡ unary_expression)
+      × (kind_at kinds o ≡ OpenParen)
+      × (casts_at kinds o ≡ true)
+      × IsType kinds t
+      × (kind_at kinds c ≡ CloseParen)
   -- 6.5.15 logical-OR-expression ? expression :
   IsInFront kinds l (Choice_of t q e c) =
       (l ≡ conditional_expression)

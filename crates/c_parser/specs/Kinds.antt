@@ -1,7 +1,7 @@
 -- The kinds of tokens by their numbers, and what those of operators begin or go on with (ISO C11 6.5).
-use Rattle.std.specs.Prelude.{ℕ, ◌<◌, List, length, slice_index_or, Bool, true, false}
+use Rattle.std.specs.Prelude.{ℕ, ◌+◌, ◌-◌, ◌<◌, ◌&&◌, not, List, length, slice_index_or, Bool, true, false}
 use Rattle.c_parser.specs.declared.kinds.Kind.{Kind}
-use Rattle.c_parser.specs.declared.kinds.Kind.TheVariants.{Identifier, TypeName, OpenParen, OpenBracket, Member, Step, SizeOf, Complement, Question, Assignment, Comma, Or, And, Bar, Caret, Ampersand, Equality, Relation, Shift, Sign, Star, Quotient, End}
+use Rattle.c_parser.specs.declared.kinds.Kind.TheVariants.{Identifier, TypeName, OpenParen, OpenBracket, Member, Step, SizeOf, AlignOf, TypeWord, Qualifier, Tag, Complement, Question, Assignment, Comma, Or, And, Bar, Caret, Ampersand, Equality, Relation, Shift, Sign, Star, Quotient, End}
 
 -- the level of precedence at which an expression goes on with such a token behind it, 0 where it doesn't: 1 for `,`,
 -- 2 for assignment, 3 for `?`, from `||` at 4 to `*` at 13, 16 for postfix operators
@@ -36,11 +36,49 @@ is_prefix Complement = true
 is_prefix SizeOf = true
 is_prefix _ = false
 
+-- what a postfix operator begins with (6.5.2)
+abbrev pub is_suffix : Kind → Bool
+is_suffix OpenBracket = true
+is_suffix OpenParen = true
+is_suffix Member = true
+is_suffix Step = true
+is_suffix _ = false
+
+-- `sizeof` and `_Alignof`, which may stand in front of a type name in parentheses (6.5.3)
+abbrev pub is_size : Kind → Bool
+is_size SizeOf = true
+is_size AlignOf = true
+is_size _ = false
+
+-- `++`, `--` and `sizeof`, whose operand is a unary-expression and so no cast (6.5.3)
+abbrev pub is_tight : Kind → Bool
+is_tight Step = true
+is_tight SizeOf = true
+is_tight _ = false
+
 -- an identifier, whether or not it is a typedef name
 abbrev pub is_word : Kind → Bool
 is_word Identifier = true
 is_word TypeName = true
 is_word _ = false
+
+-- keywords for types and qualifiers, each of which stands for itself in a list of specifiers (6.7.2, 6.7.3)
+abbrev pub is_specifying : Kind → Bool
+is_specifying TypeWord = true
+is_specifying Qualifier = true
+is_specifying _ = false
+
+abbrev pub is_type_word : Kind → Bool
+is_type_word TypeWord = true
+is_type_word _ = false
+
+-- what the name of a type begins with (6.7.7)
+abbrev pub starts_type : Kind → Bool
+starts_type TypeWord = true
+starts_type Qualifier = true
+starts_type Tag = true
+starts_type TypeName = true
+starts_type _ = false
 
 -- of the token with this number, `End` behind the last
 abbrev pub kind_at : List Kind → ℕ → Kind
@@ -48,6 +86,22 @@ kind_at kinds at = slice_index_or kinds at End
 
 abbrev pub level_at : List Kind → ℕ → ℕ
 level_at kinds at = level_of (kind_at kinds at)
+
+abbrev pub is_opening : Kind → Bool
+is_opening OpenParen = true
+is_opening _ = false
+
+-- a type name in parentheses begins here
+unfoldable pub type_at : List Kind → ℕ → Bool
+type_at kinds at = is_opening (kind_at kinds at) && starts_type (kind_at kinds (at + 1))
+
+-- a unary operator stands here, in front of an operand
+unfoldable pub operator_at : List Kind → ℕ → Bool
+operator_at kinds at = is_prefix (kind_at kinds at) && not (is_size (kind_at kinds at) && type_at kinds (at + 1))
+
+-- no operator stands in front of this token that takes a unary-expression
+unfoldable pub casts_at : List Kind → ℕ → Bool
+casts_at kinds at = not (is_tight (kind_at kinds (at - 1)))
 
 -- a kind but `End` is that of a token
 abbrev pub IsInside : List Kind → ℕ → Kind → Type 0

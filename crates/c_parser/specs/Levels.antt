@@ -1,7 +1,7 @@
 -- The nonterminals of expressions (ISO C11 6.5.1 to 6.5.17) as levels of precedence: a tree of one is a tree of each lower
 -- one, as the productions `logical-AND-expression : inclusive-OR-expression` and their like say.
 use Rattle.std.specs.Prelude.{◌≡◌, ℕ, ◌≤◌, List}
-use Rattle.tree_data.specs.Trees.{Tree, Name_of, Constant_of, Text_of, Paren_of, Postfix_of, Unary_of, Binary_of, Conditional_of, Assign_of, Operand_of, Index_of, Call_of, Call_with_of, Member_of, Step_of, Behinds, None_behind, Behind_then}
+use Rattle.tree_data.specs.Trees.{Tree, Name_of, Constant_of, Text_of, Paren_of, Postfix_of, Unary_of, Binary_of, Conditional_of, Assign_of, Operand_of, Index_of, Call_of, Call_with_of, Member_of, Step_of, Behinds, None_behind, Behind_then, Fronts, None_before, Front_then, Operator_of, Cast_of, Choice_of, Left_of, Of_type}
 use Rattle.c_parser.specs.declared.kinds.Kind.{Kind}
 use Rattle.c_parser.specs.Kinds.{level_at}
 
@@ -21,7 +21,6 @@ logical_OR_expression = 4
 abbrev pub multiplicative_expression : ℕ
 multiplicative_expression = 13
 
--- the same as a unary-expression, since the grammar has no casts yet
 abbrev pub cast_expression : ℕ
 cast_expression = 14
 
@@ -31,6 +30,7 @@ unary_expression = 15
 abbrev pub postfix_expression : ℕ
 postfix_expression = 16
 
+-- `sizeof ( type-name )` counts here too; but for postfix operators behind it, it may stand where these may
 abbrev pub primary_expression : ℕ
 primary_expression = 17
 
@@ -50,6 +50,14 @@ behinds_level kinds (Behind_then (Call_with_of o t more c) bs) = postfix_express
 behinds_level kinds (Behind_then (Member_of o n) bs) = postfix_expression
 behinds_level kinds (Behind_then (Step_of o) bs) = postfix_expression
 
+-- with a cast in front an expression is a cast-expression (6.5.4), with an operator a unary-expression
+abbrev pub fronts_level : Fronts → ℕ
+fronts_level None_before = unary_expression
+fronts_level (Front_then (Operator_of o) fs) = unary_expression
+fronts_level (Front_then (Cast_of o t c) fs) = cast_expression
+fronts_level (Front_then (Choice_of t q e c) fs) = unary_expression
+fronts_level (Front_then (Left_of t o) fs) = unary_expression
+
 -- of the nonterminal whose production has the tree
 abbrev pub rank : List Kind → Tree → ℕ
 rank kinds (Name_of n) = primary_expression
@@ -57,7 +65,8 @@ rank kinds (Constant_of n) = primary_expression
 rank kinds (Text_of ns) = primary_expression
 rank kinds (Paren_of o t c) = primary_expression
 rank kinds (Postfix_of f bs) = postfix_expression
-rank kinds (Unary_of fs t) = unary_expression
+rank kinds (Unary_of fs t) = fronts_level fs
 rank kinds (Binary_of f bs) = behinds_level kinds bs
 rank kinds (Conditional_of fs t) = conditional_expression
 rank kinds (Assign_of fs t) = assignment_expression
+rank kinds (Of_type k o t c) = primary_expression

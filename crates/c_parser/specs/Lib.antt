@@ -5,3 +5,4 @@ pub mod Kinds
 pub mod Levels
 pub mod Reading
 pub mod Tokens
+pub mod TypeNames

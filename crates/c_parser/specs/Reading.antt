@@ -1,14 +1,16 @@
 -- A proper tree by the place at which its tokens begin and the place behind them, which is what the parser reads.
 use Rattle.std.specs.Prelude.{◌≡◌, ℕ, ◌+◌, ◌<◌, ◌≤◌, List, [], ◌∷◌, length, Result, Ok, Err, true, false}
-use Rattle.tree_data.specs.Trees.{Tree, Name_of, Constant_of, Text_of, Paren_of, Postfix_of, Unary_of, Binary_of, Conditional_of, Assign_of, Behind, Operand_of, Index_of, Call_of, Call_with_of, Member_of, Step_of, Behinds, None_behind, Behind_then, Front, Operator_of, Choice_of, Left_of, Fronts, None_before, Front_then}
+use Rattle.tree_data.specs.Trees.{Tree, Name_of, Constant_of, Text_of, Paren_of, Postfix_of, Unary_of, Binary_of, Conditional_of, Assign_of, Of_type, Behind, Operand_of, Index_of, Call_of, Call_with_of, Member_of, Step_of, Behinds, None_behind, Behind_then, Front, Operator_of, Cast_of, Choice_of, Left_of, Fronts, None_before, Front_then}
 use Rattle.c_parser.specs.declared.answers.ParseError.{ParseError}
 use Rattle.c_parser.specs.declared.answers.ParseError.TheVariants as told
 use Rattle.c_parser.specs.declared.answers.Stop.{Stop}
 use Rattle.c_parser.specs.declared.answers.Stop.TheVariants.{Syntax, NoMemory}
 use Rattle.c_parser.specs.declared.kinds.Kind.{Kind}
 use Rattle.c_parser.specs.declared.kinds.Kind.TheVariants.{Identifier, Constant, Text, OpenParen, CloseParen, OpenBracket, CloseBracket, Member, Step, Question, Colon, Assignment}
-use Rattle.c_parser.specs.Grammar.{IsMore, IsBefore}
-use Rattle.c_parser.specs.Kinds.{kind_at, level_at, is_prefix, is_word}
+use Rattle.c_parser.specs.Grammar.{IsMore, IsBefore, goes_on}
+use Rattle.c_parser.specs.Kinds.{kind_at, level_at, operator_at, casts_at, type_at, is_size, is_word}
+use Rattle.c_parser.specs.TypeNames.{HoldsType}
+use Rattle.tree_data.specs.Names.{Naming}
 use Rattle.c_parser.specs.Levels.{IsBinary, behinds_level, rank}
 
 abbrev pub HoldTexts : List Kind → List ℕ → ℕ → ℕ → Type 0
@@ -25,7 +27,7 @@ abbrev mutual
       × (1 ≤ rank ks t) × Holds ks t (a + 1) c
       × (kind_at ks c ≡ CloseParen) × (b ≡ c + 1)
   Holds ks (Postfix_of f bs) a b =
-      (m : ℕ) × IsMore bs × (17 ≤ rank ks f) × Holds ks f a m × HoldBehinds ks 16 bs m b
+      (m : ℕ) × IsMore bs × (17 ≤ rank ks f) × Holds ks f a m × HoldBehinds ks 16 bs m b × (goes_on f ≡ true)
   Holds ks (Unary_of fs t) a b =
       (m : ℕ) × IsBefore fs × HoldFronts ks 15 fs a m × (16 ≤ rank ks t) × Holds ks t m b
   Holds ks (Binary_of f bs) a b =
@@ -36,6 +38,11 @@ abbrev mutual
       (m : ℕ) × IsBefore fs × HoldFronts ks 3 fs a m × (4 ≤ rank ks t) × Holds ks t m b
   Holds ks (Assign_of fs t) a b =
       (m : ℕ) × IsBefore fs × HoldFronts ks 2 fs a m × (3 ≤ rank ks t) × Holds ks t m b
+  Holds ks (Of_type k o t c) a b =
+      (k ≡ a) × (is_size (kind_at ks a) ≡ true)
+      × (o ≡ a + 1) × (kind_at ks o ≡ OpenParen)
+      × HoldsType ks t (o + 1) c
+      × (kind_at ks c ≡ CloseParen) × (b ≡ c + 1)
 
   pub HoldsBehind : List Kind → ℕ → Behind → ℕ → ℕ → Type 0
   HoldsBehind ks l (Operand_of o t) a b =
@@ -61,7 +68,11 @@ abbrev mutual
 
   pub HoldsFront : List Kind → ℕ → Front → ℕ → ℕ → Type 0
   HoldsFront ks l (Operator_of o) a b =
-      (l ≡ 15) × (o ≡ a) × (is_prefix (kind_at ks a) ≡ true) × (b ≡ a + 1)
+      (l ≡ 15) × (o ≡ a) × (operator_at ks a ≡ true) × (b ≡ a + 1)
+  HoldsFront ks l (Cast_of o t c) a b =
+      (l ≡ 15) × (o ≡ a) × (kind_at ks a ≡ OpenParen) × (casts_at ks a ≡ true)
+      × HoldsType ks t (a + 1) c
+      × (kind_at ks c ≡ CloseParen) × (b ≡ c + 1)
   HoldsFront ks l (Choice_of t q e c) a b =
       (l ≡ 3) × (4 ≤ rank ks t) × Holds ks t a q × (kind_at ks q ≡ Question)
       × (1 ≤ rank ks e) × Holds ks e (q + 1) c
@@ -105,11 +116,23 @@ pub record FoundBehinds (ks : List Kind) (l a : ℕ) (xs : Behinds) (b : ℕ) : 
   pub forth : a ≤ b
   pub inside : b ≤ length ks
 
--- all unary operators that stand here
-pub record FoundOperators (ks : List Kind) (a : ℕ) (xs : Fronts) (b : ℕ) : Type 0 where
+pub record FoundFront (ks : List Kind) (l a : ℕ) (x : Front) (b : ℕ) : Type 0 where
+  pub reads : HoldsFront ks l x a b
+  pub forth : a < b
+  pub inside : b ≤ length ks
+
+-- all unary operators and casts that stand here
+pub record FoundPrefixes (ks : List Kind) (a : ℕ) (xs : Fronts) (b : ℕ) : Type 0 where
   pub reads : HoldFronts ks 15 xs a b
-  pub stops : is_prefix (kind_at ks b) ≡ false
+  pub no_operator : operator_at ks b ≡ false
+  pub no_cast : type_at ks b ≡ false
   pub forth : a ≤ b
+  pub inside : b ≤ length ks
+
+-- the name of a type, of which nothing more stands here
+pub record FoundType (ks : List Kind) (a : ℕ) (t : Naming) (b : ℕ) : Type 0 where
+  pub reads : HoldsType ks t a b
+  pub forth : a < b
   pub inside : b ≤ length ks
 
 -- the result is what it has to be, or memory is wanting

@@ -8,7 +8,7 @@ use Rattle.tok_data.specs.declared.tokens.PpKind.{PpKind}
 use Rattle.tok_data.specs.declared.tokens.PpKind.TheVariants as pp
 use Rattle.tok_data.specs.Keywords.{is_keyword}
 use Rattle.c_parser.specs.declared.kinds.Kind.{Kind}
-use Rattle.c_parser.specs.declared.kinds.Kind.TheVariants.{Identifier, TypeName, SizeOf, Constant, Text, OpenParen, CloseParen, OpenBracket, CloseBracket, OpenBrace, CloseBrace, Member, Step, Ampersand, Star, Sign, Complement, Quotient, Shift, Relation, Equality, Caret, Bar, And, Or, Question, Colon, Assignment, Comma, Other}
+use Rattle.c_parser.specs.declared.kinds.Kind.TheVariants.{Identifier, TypeName, TypeWord, Qualifier, Tag, SizeOf, AlignOf, Constant, Text, OpenParen, CloseParen, OpenBracket, CloseBracket, OpenBrace, CloseBrace, Member, Step, Ampersand, Star, Sign, Complement, Quotient, Shift, Relation, Equality, Caret, Bar, And, Or, Question, Colon, Assignment, Comma, Other}
 
 -- punctuators, digraphs as what they stand for
 unfoldable pub marks : List (List ℕ × Kind)
@@ -33,12 +33,24 @@ lookup (e ∷ es) text = if bytes_eq e.0 text then e.1 else lookup es text
 unfoldable pub mark_of : List ℕ → Kind
 mark_of = lookup marks
 
--- of the keywords `sizeof` alone stands in an expression; an identifier that is a typedef name is no primary expression
+-- the keywords that the grammar has so far
+unfoldable pub words : List (List ℕ × Kind)
+words =
+    (codes "sizeof", SizeOf) ∷ (codes "_Alignof", AlignOf) ∷ (codes "const", Qualifier) ∷ (codes "restrict", Qualifier)
+    ∷ (codes "volatile", Qualifier) ∷ (codes "void", TypeWord) ∷ (codes "char", TypeWord) ∷ (codes "short", TypeWord)
+    ∷ (codes "int", TypeWord) ∷ (codes "long", TypeWord) ∷ (codes "float", TypeWord) ∷ (codes "double", TypeWord)
+    ∷ (codes "signed", TypeWord) ∷ (codes "unsigned", TypeWord) ∷ (codes "_Bool", TypeWord)
+    ∷ (codes "_Complex", TypeWord) ∷ (codes "_Imaginary", TypeWord) ∷ (codes "struct", Tag) ∷ (codes "union", Tag)
+    ∷ (codes "enum", Tag) ∷ []
+
+unfoldable pub keyword_of : List ℕ → Kind
+keyword_of = lookup words
+
+-- an identifier that is a typedef name is no primary expression
 unfoldable pub word_of : Bool → List ℕ → Kind
 word_of is_typedef text =
-    if bytes_eq text (codes "sizeof") then SizeOf
-    else (if is_keyword text then Other
-    else (if is_typedef then TypeName else Identifier))
+    if is_keyword text then keyword_of text
+    else (if is_typedef then TypeName else Identifier)
 
 -- `is_typedef` says which identifiers are typedef names
 abbrev pub pp_kind_of : (List ℕ → Bool) → PpKind → List ℕ → Kind

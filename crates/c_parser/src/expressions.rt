@@ -1,18 +1,21 @@
 // Expressions, from the comma down to primary expressions: a function a level of precedence, and loops where a production
 // goes on by itself. Each reads from left to right and says at which token it stopped.
-ghost use Rattle.std.specs.Prelude.{◌≡◌, ℕ, ◌+◌, ◌<◌, ◌≤◌, length, false, IfOk, IfErr};
-ghost use Rattle.tree_data.specs.Trees.{Tree, Behind, Behinds, tree_of, behind_of, None_behind, None_before, behinds, fronts, operands_of, suffixes_of, operators_of};
+ghost use Rattle.std.specs.Prelude.{◌≡◌, ℕ, ◌+◌, ◌<◌, ◌≤◌, ◌&&◌, ◌||◌, length, true, IfOk, IfErr};
+ghost use Rattle.tree_data.specs.Seen.{tree_of, behind_of, operands_of, suffixes_of, prefixes_of};
+ghost use Rattle.tree_data.specs.Trees.{Tree, Behind, Behinds, Front, Fronts, None_behind, None_before, behinds, fronts};
+ghost use Rattle.tree_data.specs.Types.{prefix_of};
 ghost use Rattle.c_parser.specs.declared.kinds.Kind.TheVariants.{Text, OpenParen, OpenBracket, Member};
 ghost use Rattle.c_parser.specs.Kinds as spec;
 ghost use Rattle.c_parser.specs.Joining as joining;
 ghost use Rattle.c_parser.specs.Levels.{IsBinary};
-ghost use Rattle.c_parser.specs.Reading.{Reads, HoldsBehind, HoldBehinds, Stops, Found, FoundTexts, FoundBehind, FoundBehinds, FoundOperators, MustGive};
+ghost use Rattle.c_parser.specs.Reading.{Reads, HoldsBehind, HoldBehinds, HoldsFront, HoldFronts, Stops, Found, FoundTexts, FoundBehind, FoundBehinds, FoundFront, FoundPrefixes, MustGive};
 
 use crate::answers::Stop;
 use crate::joining;
-use crate::kinds::{Kind, kind_at, level_at};
+use crate::kinds::{Kind, casts_at, kind_at, level_at, operator_at, prefix_at};
+use crate::type_names::type_name;
 use std::alloc::Global;
-use tree_data::{Choice, Expr, Suffix};
+use tree_data::{Choice, Expr, Prefix, Suffix};
 
 // The levels of 6.5.17, 6.5.16, 6.5.15, 6.5.14 and 6.5.4.
 pub(crate) const EXPRESSION: u8 = 1;
@@ -62,6 +65,28 @@ fn text(alloc: Global, kinds: &[Kind], at: u32) -> Result<(Expr, u32), Stop>
     }
 }
 
+// `sizeof ( type-name )` or `_Alignof ( type-name )`.
+fn of_type(alloc: Global, kinds: &[Kind], at: u32) -> Result<(Expr, u32), Stop>
+    requires size { length kinds.now ≤ 2000000 }
+    requires inside { at < length kinds.now }
+    requires kind { spec.is_size (spec.kind_at kinds.now at) ≡ true }
+    ensures found { IfOk result (λ r. Found kinds.now 17 at (tree_of r.0) r.1) }
+    ensures only { (t : Tree) → (end : ℕ) → Reads kinds.now 17 t at end → Stops kinds.now 17 end
+        → MustGive result (λ r. (tree_of r.0 ≡ t) × (r.1 ≡ end)) }
+{
+    let Kind::OpenParen = kind_at(kinds, at + 1) else {
+        return Err(Stop::Syntax(at + 1));
+    };
+    let (name, closing) = match type_name(alloc, kinds, at + 2) {
+        Ok(found) => found,
+        Err(stop) => return Err(stop),
+    };
+    let Kind::CloseParen = kind_at(kinds, closing) else {
+        return Err(Stop::Syntax(closing));
+    };
+    Ok((Expr::of_type(at, at + 1, name, closing), closing + 1))
+}
+
 // `( expression )`.
 #[cycle(parser)]
 fn paren(alloc: Global, kinds: &[Kind], at: u32) -> Result<(Expr, u32), Stop>
@@ -85,7 +110,7 @@ fn paren(alloc: Global, kinds: &[Kind], at: u32) -> Result<(Expr, u32), Stop>
     }
 }
 
-// A primary expression (6.5.1).
+// A primary expression (6.5.1), or the size or alignment of a type (6.5.3).
 #[cycle(parser)]
 fn primary(alloc: Global, kinds: &[Kind], at: u32) -> Result<(Expr, u32), Stop>
     requires size { length kinds.now ≤ 2000000 }
@@ -99,6 +124,8 @@ fn primary(alloc: Global, kinds: &[Kind], at: u32) -> Result<(Expr, u32), Stop>
         Kind::Constant => Ok((Expr::constant(at), at + 1)),
         Kind::Text => text(alloc, kinds, at),
         Kind::OpenParen => paren(alloc, kinds, at),
+        Kind::SizeOf => of_type(alloc, kinds, at),
+        Kind::AlignOf => of_type(alloc, kinds, at),
         _ => Err(Stop::Syntax(at)),
     }
 }
@@ -215,6 +242,13 @@ fn suffixes(alloc: Global, kinds: &[Kind], at: u32) -> Result<(Vec<Suffix>, u32)
     }
 }
 
+// Whether a postfix operator stands behind the size of a type, where none may.
+fn is_closed(first: Kind, next: Kind) -> bool
+    ensures { result ≡ (spec.is_size first && spec.is_suffix next) }
+{
+    first.is_size() && next.is_suffix()
+}
+
 // A primary expression with the postfix operators behind it (6.5.2).
 #[cycle(parser)]
 fn postfix(alloc: Global, kinds: &[Kind], at: u32) -> Result<(Expr, u32), Stop>
@@ -228,6 +262,9 @@ fn postfix(alloc: Global, kinds: &[Kind], at: u32) -> Result<(Expr, u32), Stop>
         Ok(found) => found,
         Err(stop) => return Err(stop),
     };
+    if is_closed(kind_at(kinds, at), kind_at(kinds, behind)) {
+        return Err(Stop::Syntax(behind));
+    }
     let (more, end) = match suffixes(alloc, kinds, behind) {
         Ok(found) => found,
         Err(stop) => return Err(stop),
@@ -238,27 +275,70 @@ fn postfix(alloc: Global, kinds: &[Kind], at: u32) -> Result<(Expr, u32), Stop>
     }
 }
 
-// The unary operators that stand here.
-fn operators(alloc: Global, kinds: &[Kind], at: u32) -> Result<(Vec<u32>, u32), Stop>
+// A cast in front of an operand (6.5.4).
+fn cast(alloc: Global, kinds: &[Kind], at: u32) -> Result<(Prefix, u32), Stop>
     requires size { length kinds.now ≤ 2000000 }
     requires inside { at ≤ length kinds.now }
-    ensures found { IfOk result (λ r. FoundOperators kinds.now at (fronts (operators_of r.0.items) None_before) r.1) }
-    ensures memory { IfErr result (λ e. e ≡ Stop.NoMemory) }
+    requires kind { spec.type_at kinds.now at ≡ true }
+    ensures found { IfOk result (λ r. FoundFront kinds.now 15 at (prefix_of r.0) r.1) }
+    ensures only { (x : Front) → (end : ℕ) → HoldsFront kinds.now 15 x at end
+        → MustGive result (λ r. (prefix_of r.0 ≡ x) × (r.1 ≡ end)) }
 {
-    let mut operators = Vec::new(alloc);
+    if !casts_at(kinds, at) {
+        return Err(Stop::Syntax(at));
+    }
+    let (name, closing) = match type_name(alloc, kinds, at + 1) {
+        Ok(found) => found,
+        Err(stop) => return Err(stop),
+    };
+    let Kind::CloseParen = kind_at(kinds, closing) else {
+        return Err(Stop::Syntax(closing));
+    };
+    Ok((Prefix::cast(at, name, closing), closing + 1))
+}
+
+// What stands in front of an operand.
+fn prefix(alloc: Global, kinds: &[Kind], at: u32) -> Result<(Prefix, u32), Stop>
+    requires size { length kinds.now ≤ 2000000 }
+    requires inside { at ≤ length kinds.now }
+    requires kind { (spec.operator_at kinds.now at || spec.type_at kinds.now at) ≡ true }
+    ensures found { IfOk result (λ r. FoundFront kinds.now 15 at (prefix_of r.0) r.1) }
+    ensures only { (x : Front) → (end : ℕ) → HoldsFront kinds.now 15 x at end
+        → MustGive result (λ r. (prefix_of r.0 ≡ x) × (r.1 ≡ end)) }
+{
+    if operator_at(kinds, at) {
+        return Ok((Prefix::operator(at), at + 1));
+    }
+    cast(alloc, kinds, at)
+}
+
+// The unary operators and casts that stand here.
+fn prefixes(alloc: Global, kinds: &[Kind], at: u32) -> Result<(Vec<Prefix>, u32), Stop>
+    requires size { length kinds.now ≤ 2000000 }
+    requires inside { at ≤ length kinds.now }
+    ensures found { IfOk result (λ r. FoundPrefixes kinds.now at (fronts (prefixes_of r.0.items) None_before) r.1) }
+    ensures only { (xs : Fronts) → (m : ℕ) → (t : Tree) → (end : ℕ) → HoldFronts kinds.now 15 xs at m
+        → Reads kinds.now 16 t m end → Stops kinds.now 15 end
+        → MustGive result (λ r. (fronts (prefixes_of r.0.items) None_before ≡ xs) × (r.1 ≡ m)) }
+{
+    let mut prefixes = Vec::new(alloc);
     let mut end = at;
-    'operators: loop {
-        if !kind_at(kinds, end).is_prefix() {
-            return Ok((operators, end));
+    'prefixes: loop {
+        if !prefix_at(kinds, end) {
+            return Ok((prefixes, end));
         }
-        let Ok(()) = operators.push(end) else {
+        let (one, next) = match prefix(alloc, kinds, end) {
+            Ok(found) => found,
+            Err(stop) => return Err(stop),
+        };
+        let Ok(()) = prefixes.push(one) else {
             return Err(Stop::NoMemory);
         };
-        end += 1;
+        end = next;
     }
 }
 
-// A postfix expression with the unary operators in front of it (6.5.3).
+// A postfix expression with the unary operators and casts in front of it (6.5.3, 6.5.4).
 #[cycle(parser)]
 fn unary(alloc: Global, kinds: &[Kind], at: u32) -> Result<(Expr, u32), Stop>
     requires size { length kinds.now ≤ 2000000 }
@@ -267,7 +347,7 @@ fn unary(alloc: Global, kinds: &[Kind], at: u32) -> Result<(Expr, u32), Stop>
     ensures only { (t : Tree) → (end : ℕ) → Reads kinds.now 14 t at end → Stops kinds.now 14 end
         → MustGive result (λ r. (tree_of r.0 ≡ t) × (r.1 ≡ end)) }
 {
-    let (operators, behind) = match operators(alloc, kinds, at) {
+    let (prefixes, behind) = match prefixes(alloc, kinds, at) {
         Ok(found) => found,
         Err(stop) => return Err(stop),
     };
@@ -275,7 +355,7 @@ fn unary(alloc: Global, kinds: &[Kind], at: u32) -> Result<(Expr, u32), Stop>
         Ok(found) => found,
         Err(stop) => return Err(stop),
     };
-    match joining::unary(alloc, operators, operand) {
+    match joining::unary(alloc, prefixes, operand) {
         Ok(expr) => Ok((expr, end)),
         Err(stop) => Err(stop),
     }

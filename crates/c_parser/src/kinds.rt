@@ -1,5 +1,5 @@
 // The kinds of tokens that the grammar of expressions tells apart (ISO C11 6.5).
-ghost use Rattle.std.specs.Prelude.{◌≡◌, ◌<◌, length};
+ghost use Rattle.std.specs.Prelude.{◌≡◌, ◌<◌, ◌≤◌, ◌||◌, length};
 ghost use Rattle.c_parser.specs.Kinds as spec;
 
 #[derive(Clone, Copy, Debug, PartialEq, Eq, Hash, Drop)]
@@ -7,6 +7,11 @@ pub(crate) enum Kind {
     // An identifier that is neither a keyword nor a typedef name.
     Identifier,
     TypeName,
+    // A keyword that is a type specifier by itself, as `int`.
+    TypeWord,
+    Qualifier,
+    // `struct`, `union` and `enum`.
+    Tag,
     Constant,
     Text,
     OpenParen,
@@ -26,6 +31,7 @@ pub(crate) enum Kind {
     // `~` and `!`.
     Complement,
     SizeOf,
+    AlignOf,
     // `/` and `%`.
     Quotient,
     Shift,
@@ -79,6 +85,46 @@ impl Kind {
         )
     }
 
+    // Whether a postfix operator begins with it (6.5.2).
+    pub fn is_suffix(self) -> bool
+        ensures { result ≡ spec.is_suffix self }
+    {
+        matches!(
+            self,
+            Kind::OpenBracket | Kind::OpenParen | Kind::Member | Kind::Step
+        )
+    }
+
+    // Whether it stands in front of a type name in parentheses (6.5.3).
+    pub fn is_size(self) -> bool
+        ensures { result ≡ spec.is_size self }
+    {
+        matches!(self, Kind::SizeOf | Kind::AlignOf)
+    }
+
+    // Whether its operand is a unary-expression, and so no cast (6.5.3).
+    pub fn is_tight(self) -> bool
+        ensures { result ≡ spec.is_tight self }
+    {
+        matches!(self, Kind::Step | Kind::SizeOf)
+    }
+
+    // Whether the name of a type begins with it (6.7.7).
+    pub fn starts_type(self) -> bool
+        ensures { result ≡ spec.starts_type self }
+    {
+        matches!(
+            self,
+            Kind::TypeWord | Kind::Qualifier | Kind::Tag | Kind::TypeName
+        )
+    }
+
+    pub fn is_opening(self) -> bool
+        ensures { result ≡ spec.is_opening self }
+    {
+        matches!(self, Kind::OpenParen)
+    }
+
     // Whether it is an identifier, a typedef name or not.
     pub fn is_word(self) -> bool
         ensures { result ≡ spec.is_word self }
@@ -104,4 +150,39 @@ pub(crate) fn level_at(kinds: &[Kind], at: u32) -> u8
     ensures inside { 0 < result → at < length kinds.now }
 {
     kind_at(kinds, at).level()
+}
+
+// Whether a type name in parentheses begins at this token.
+#[tactic(auto, unfolding(crate::specs::Kinds::type_at))]
+pub(crate) fn type_at(kinds: &[Kind], at: u32) -> bool
+    requires { at ≤ 2000002 }
+    ensures { result ≡ spec.type_at kinds.now at }
+{
+    kind_at(kinds, at).is_opening() && kind_at(kinds, at + 1).starts_type()
+}
+
+// Whether this token is a unary operator in front of an operand.
+#[tactic(auto, unfolding(crate::specs::Kinds::operator_at))]
+pub(crate) fn operator_at(kinds: &[Kind], at: u32) -> bool
+    requires { at ≤ 2000000 }
+    ensures { result ≡ spec.operator_at kinds.now at }
+{
+    let kind = kind_at(kinds, at);
+    kind.is_prefix() && !(kind.is_size() && type_at(kinds, at + 1))
+}
+
+// Whether no operator stands in front of this token that takes a unary-expression.
+#[tactic(auto, unfolding(crate::specs::Kinds::casts_at))]
+pub(crate) fn casts_at(kinds: &[Kind], at: u32) -> bool
+    ensures { result ≡ spec.casts_at kinds.now at }
+{
+    !kind_at(kinds, at.saturating_sub(1)).is_tight()
+}
+
+// Whether a unary operator or a cast stands here in front of an operand.
+pub(crate) fn prefix_at(kinds: &[Kind], at: u32) -> bool
+    requires { at ≤ 2000000 }
+    ensures { result ≡ (spec.operator_at kinds.now at || spec.type_at kinds.now at) }
+{
+    operator_at(kinds, at) || type_at(kinds, at)
 }

@@ -1,4 +1,4 @@
-// Expressions of C read from the tokens of a unit (ISO C11 6.5), without type names.
+// Expressions of C read from the tokens of a unit (ISO C11 6.5), without `_Generic` and compound literals.
 #![tactic(auto)]
 
 mod answers;
@@ -8,6 +8,7 @@ mod joining;
 mod kinds;
 mod names;
 mod tokens;
+mod type_names;
 mod whole;
 
 pub use answers::ParseError;

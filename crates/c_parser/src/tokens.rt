@@ -61,6 +61,29 @@ static MARKS: [(&str, Kind); 48] = [
     ("%>", Kind::CloseBrace),
 ];
 
+static WORDS: [(&str, Kind); 20] = [
+    ("sizeof", Kind::SizeOf),
+    ("_Alignof", Kind::AlignOf),
+    ("const", Kind::Qualifier),
+    ("restrict", Kind::Qualifier),
+    ("volatile", Kind::Qualifier),
+    ("void", Kind::TypeWord),
+    ("char", Kind::TypeWord),
+    ("short", Kind::TypeWord),
+    ("int", Kind::TypeWord),
+    ("long", Kind::TypeWord),
+    ("float", Kind::TypeWord),
+    ("double", Kind::TypeWord),
+    ("signed", Kind::TypeWord),
+    ("unsigned", Kind::TypeWord),
+    ("_Bool", Kind::TypeWord),
+    ("_Complex", Kind::TypeWord),
+    ("_Imaginary", Kind::TypeWord),
+    ("struct", Kind::Tag),
+    ("union", Kind::Tag),
+    ("enum", Kind::Tag),
+];
+
 fn look_up(text: &str, table: &[(&str, Kind)]) -> Option<Kind>
     ensures { result ≡ option_map (λ e. e.1) (find (λ e. bytes_eq e.0.now text.now) table.now) }
 {
@@ -71,6 +94,15 @@ fn mark_of(text: &str) -> Kind
     ensures { result ≡ spec.mark_of text.now }
 {
     match look_up(text, MARKS.as_slice()) {
+        Some(kind) => kind,
+        None => Kind::Other,
+    }
+}
+
+fn keyword_of(text: &str) -> Kind
+    ensures { result ≡ spec.keyword_of text.now }
+{
+    match look_up(text, WORDS.as_slice()) {
         Some(kind) => kind,
         None => Kind::Other,
     }
@@ -91,11 +123,8 @@ fn typedefs_of<'a>(alloc: Global, names: &'a [Name]) -> Result<HashSet<&'a str>,
 fn word_of(typedefs: &HashSet<&str>, text: &str) -> Kind
     ensures { result ≡ spec.word_of (spec.is_kept typedefs.now text.now) text.now }
 {
-    if text == "sizeof" {
-        return Kind::SizeOf;
-    }
     if is_keyword(text) {
-        return Kind::Other;
+        return keyword_of(text);
     }
     if typedefs.contains(text) {
         return Kind::TypeName;

@@ -1,6 +1,7 @@
 // An expression that takes all tokens.
 ghost use Rattle.std.specs.Prelude.{◌≡◌, ◌≤◌, length, IfOk, IfErr};
-ghost use Rattle.tree_data.specs.Trees.{Tree, tree_of};
+ghost use Rattle.tree_data.specs.Seen.{tree_of};
+ghost use Rattle.tree_data.specs.Trees.{Tree};
 ghost use Rattle.c_parser.specs.Grammar.{IsMeaning, IsCause, ReadingIsUnique};
 ghost use Rattle.c_parser.specs.Reading.{Reads, at_front, IsAtFront, IsRefused};
 ghost use Rattle.c_parser.specs.Tokens as spec;
@@ -41,9 +42,10 @@ fn whole(alloc: Global, kinds: &[Kind]) -> Result<Expr, ParseError>
     Ok(expr)
 }
 
-/// The one expression that the tokens spell, all of them (ISO C11 6.5). What has a type name in it (a cast, a compound
-/// literal, `sizeof` and `_Alignof` of a type, `_Generic`, `__offsetof`) is not in its grammar yet. An identifier among
-/// `names` or a keyword is no expression, but one among `names` may be a member's name. The tokens are at most 2,000,000.
+/// The one expression that the tokens spell, all of them (ISO C11 6.5). Compound literals, `_Generic` and `__offsetof` are
+/// not in its grammar yet; of type names (6.7.7) those are whose specifiers are keywords, qualifiers, a tag or a typedef
+/// name, and whose declarator is pointers. An identifier among `names` is a typedef name, and `( name )` the front of a
+/// cast; it or a keyword is no expression, but it may be the name of a member or a tag. The tokens are at most 2,000,000.
 ///
 /// Errors: TooDeep with the bracket that opens the 257th level, which is looked for first; Syntax(0) exactly where
 /// no tree of the grammar spells the tokens and no bracket is too deep; NoMemory.

@@ -1,7 +1,7 @@
 // Trees as S-expressions.
 use std::alloc::{AllocError, Global};
 use tok_data::OutToken;
-use tree_data::{Choice, Expr, Suffix};
+use tree_data::{Choice, Expr, Prefix, Specifier, Suffix, TypeName};
 
 fn spelling(tokens: &[OutToken], at: u32) -> &str {
     match tokens.get(at as usize) {
@@ -78,6 +78,69 @@ fn show_text(out: &mut String, tokens: &[OutToken], pieces: &[u32]) -> Result<()
         out.push_str(" ")?;
         spell(out, tokens, *piece)?;
     }
+    out.push_str(")")
+}
+
+fn show_specifier(
+    out: &mut String,
+    tokens: &[OutToken],
+    specifier: &Specifier,
+) -> Result<(), AllocError> {
+    match specifier {
+        Specifier::Word(at) => spell(out, tokens, *at),
+        Specifier::TypedefName(at) => spell(out, tokens, *at),
+        Specifier::Tag(keyword, tag) => {
+            out.push_str("(")?;
+            spell(out, tokens, *keyword)?;
+            out.push_str(" ")?;
+            spell(out, tokens, *tag)?;
+            out.push_str(")")
+        }
+    }
+}
+
+fn show_type(out: &mut String, tokens: &[OutToken], name: &TypeName) -> Result<(), AllocError> {
+    out.push_str("(type (specs")?;
+    for specifier in &name.specifiers {
+        out.push_str(" ")?;
+        show_specifier(out, tokens, specifier)?;
+    }
+    out.push_str(") ")?;
+    for pointer in &name.pointers {
+        out.push_str("(ptr ")?;
+        for qualifier in &pointer.qualifiers {
+            spell(out, tokens, *qualifier)?;
+            out.push_str(" ")?;
+        }
+    }
+    out.push_str("_")?;
+    close(out, name.pointers.len())?;
+    out.push_str(")")
+}
+
+fn open_prefix(out: &mut String, tokens: &[OutToken], prefix: &Prefix) -> Result<(), AllocError> {
+    match prefix {
+        Prefix::Operator(at) => open_unary(out, tokens, *at),
+        Prefix::Cast(_, name, _) => {
+            out.push_str("(cast ")?;
+            show_type(out, tokens, name)?;
+            out.push_str(" ")
+        }
+    }
+}
+
+// `sizeof` or `_Alignof` with a type.
+fn show_of_type(
+    out: &mut String,
+    tokens: &[OutToken],
+    keyword: u32,
+    name: &TypeName,
+) -> Result<(), AllocError> {
+    match spelling(tokens, keyword) == "sizeof" {
+        true => out.push_str("(sizeof ")?,
+        false => out.push_str("(alignof ")?,
+    }
+    show_type(out, tokens, name)?;
     out.push_str(")")
 }
 
@@ -174,13 +237,14 @@ fn show(out: &mut String, tokens: &[OutToken], expr: &Expr) -> Result<(), AllocE
             out.push_str(")")
         }
         Expr::Postfix(_, _) => show_postfix(out, tokens, expr),
-        Expr::Unary(operators, operand) => {
-            for operator in operators {
-                open_unary(out, tokens, *operator)?;
+        Expr::Unary(prefixes, operand) => {
+            for prefix in prefixes {
+                open_prefix(out, tokens, prefix)?;
             }
             show(out, tokens, operand)?;
-            close(out, operators.len())
+            close(out, prefixes.len())
         }
+        Expr::OfType(keyword, _, name, _) => show_of_type(out, tokens, *keyword, name),
         Expr::Binary(_, _) => show_binary(out, tokens, expr),
         Expr::Conditional(choices, last) => {
             for choice in choices {

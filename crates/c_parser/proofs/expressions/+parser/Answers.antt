@@ -1,9 +1,9 @@
-use Rattle.std.proofs.Common.{ap, sym, ◌∙◌, subst, arith, ◌+◌, ◌≤◌}
-use Rattle.c_parser.specs.Kinds.{level_of}
+use Rattle.std.proofs.Common.{ap, sym, ◌∙◌, subst, arith, ◌+◌, ◌≤◌, ◌&&◌}
+use Rattle.c_parser.specs.Kinds.{kind_at, level_of, is_size, is_suffix}
 use Rattle.c_parser.specs.Reading.{Found, FoundBehind}
-use Rattle.c_parser.proofs.Fronts.{value_fails, no_place, places_end, test_fails, middle_fails, no_colon, tests_end, operand_of_fails, unary_found}
+use Rattle.c_parser.proofs.Fronts.{value_fails, no_place, places_end, test_fails, middle_fails, no_colon, tests_end, unary_fails, operand_of_fails, unary_found}
 use Rattle.c_parser.proofs.Marks.{is_step}
-use Rattle.c_parser.proofs.Parsing.{found_only, found_behind_only, found_behinds_only, first_fails, more_fails, binary_found, postfix_found, loop_ends, loop_fails, operand_fails, index_found, index_fails, index_left_open, empty_found, call_found, call_first_fails, call_more_fails, call_left_open, step_found}
+use Rattle.c_parser.proofs.Parsing.{found_only, found_behind_only, found_behinds_only, first_fails, more_fails, binary_found, postfix_found, loop_ends, loop_fails, operand_fails, index_found, index_fails, index_left_open, empty_found, call_found, call_first_fails, call_more_fails, call_left_open, step_found, closed_fails}
 use Rattle.c_parser.proofs.Pushes.{operands_push, suffixes_push, choices_push, places_push}
 use Rattle.c_parser.proofs.Views.{binary_view, postfix_view}
 use Rattle.c_parser.proofs.expressions.+parser.Goals as goal
@@ -357,19 +357,41 @@ pub postfix-returns-in-Err-suffixes-clause-only : goal.postfix-returns-in-Err-su
 postfix-returns-in-Err-suffixes-clause-only t c =
     more_fails _ _ _ _ _ (λ t b h. postfix_view _ t _ b h) _ _ c.in-Ok.ensures.found c.in-Err-suffixes.ensures.only
 
-pub postfix-returns-in-Ok-postfix-clause-only : goal.postfix-returns-in-Ok-postfix-clause-only
-postfix-returns-in-Ok-postfix-clause-only t c =
-    found_only
+pub postfix-returns-then-is_closed-clause-only : goal.postfix-returns-then-is_closed-clause-only
+postfix-returns-then-is_closed-clause-only t c =
+    closed_fails
     _
     _
     _
     _
-    _
-    (omega arith)
-    (subst
+    c.in-Ok.ensures.found
+    (ap (λ k. is_size k && is_suffix (kind_at c.args.kinds.now c.in-Ok.found.1)) (sym c.kind_at.ensures.kind)
+    ∙ ap (λ k. is_size c.kind_at.result && is_suffix k) (sym c.kind_at-2.ensures.kind)
+    ∙ sym c.is_closed.ensures
+    ∙ c.if-is_closed.true)
+
+pub postfix-returns-in-Ok-postfix-clause-found : goal.postfix-returns-in-Ok-postfix-clause-found
+postfix-returns-in-Ok-postfix-clause-found t c =
+    subst
     (λ x. Found c.args.kinds.now 16 c.args.at x c.in-Ok-suffixes.found.1)
     (sym c.in-Ok-postfix.ensures.tree)
-    (postfix_found _ _ _ _ _ _ c.in-Ok.ensures.found c.in-Ok-suffixes.ensures.found))
+    (postfix_found
+    _
+    _
+    _
+    _
+    _
+    _
+    (ap (λ k. is_size k && is_suffix (kind_at c.args.kinds.now c.in-Ok.found.1)) (sym c.kind_at.ensures.kind)
+    ∙ ap (λ k. is_size c.kind_at.result && is_suffix k) (sym c.kind_at-2.ensures.kind)
+    ∙ sym c.is_closed.ensures
+    ∙ c.if-is_closed.false)
+    c.in-Ok.ensures.found
+    c.in-Ok-suffixes.ensures.found)
+
+pub postfix-returns-in-Ok-postfix-clause-only : goal.postfix-returns-in-Ok-postfix-clause-only
+postfix-returns-in-Ok-postfix-clause-only t c =
+    found_only _ _ _ _ _ (omega arith) (postfix-returns-in-Ok-postfix-clause-found t c)
 
 pub suffix-returns-in_default : goal.suffix-returns-in_default
 suffix-returns-in_default t c =
@@ -426,9 +448,12 @@ suffixes-suffixes-preserved t c =
     c.in-Ok.ensures.found
     c.in-Ok-push.ensures.items
 
+pub unary-returns-in-Err-clause-only : goal.unary-returns-in-Err-clause-only
+unary-returns-in-Err-clause-only t c = unary_fails _ _ _ c.in-Err.ensures.only
+
 pub unary-returns-in-Err-postfix-clause-only : goal.unary-returns-in-Err-postfix-clause-only
 unary-returns-in-Err-postfix-clause-only t c =
-    operand_of_fails _ _ _ _ c.in-Ok.ensures.found _ c.in-Err-postfix.ensures.only
+    operand_of_fails _ _ _ _ c.in-Ok.ensures.only _ c.in-Err-postfix.ensures.only
 
 pub unary-returns-in-Ok-unary-clause-only : goal.unary-returns-in-Ok-unary-clause-only
 unary-returns-in-Ok-unary-clause-only t c =

@@ -1,5 +1,5 @@
 use Rattle.std.proofs.Common.{◌+◌, ◌-◌, ◌*◌, length}
-use Rattle.tree_data.specs.Trees.{operands_of, suffixes_of, choices_of, lefts_of}
+use Rattle.tree_data.specs.Seen.{operands_of, suffixes_of, choices_of, lefts_of}
 use Rattle.c_parser.proofs.Fronts.{Fore}
 use Rattle.c_parser.proofs.Parsing.{Loop}
 use Rattle.c_parser.proofs.expressions.+parser.Given as goal

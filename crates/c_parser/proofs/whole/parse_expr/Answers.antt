@@ -1,5 +1,5 @@
 use Rattle.std.proofs.Common.{ap, sym, ◌∙◌, subst}
-use Rattle.tree_data.specs.Trees.{tree_of}
+use Rattle.tree_data.specs.Seen.{tree_of}
 use Rattle.c_parser.specs.Brackets.{too_deep}
 use Rattle.c_parser.specs.Grammar.{IsMeaning, IsCause}
 use Rattle.c_parser.proofs.Wholes.{is_meaning, is_cause}
