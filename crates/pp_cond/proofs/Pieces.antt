@@ -1,10 +1,11 @@
 -- A list that is read piece by piece.
-use Rattle.std.proofs.Common.{◌≡◌, refl, ap, sym, ◌∙◌, append_assoc, ℕ, zero, suc, Bool, List, [], ◌∷◌, ◌++◌, map, flat_map, drop, Option}
+use Rattle.std.proofs.Common.{◌≡◌, refl, ap, sym, ◌∙◌, append_assoc, ℕ, zero, suc, Bool, true, false, ◌||◌, List, [], ◌∷◌, ◌++◌, map, flat_map, drop, Option, None, codes, if◌then◌else◌}
+use Rattle.std.specs.List.{list_any}
 use Rattle.tok_data.specs.declared.tokens.OutToken.{OutToken}
 use Rattle.tok_data.specs.declared.macros.MacroOcc.{MacroOcc}
 use Rattle.macro_expand.specs.Expansion.{Definitions}
 use Rattle.pp_cond.specs.declared.reader.Reader.{Reader}
-use Rattle.pp_cond.specs.Defined.{pieces, pieces_behind, piece, tested, width, name_in, written, prepared, occurrences_of, occurrences, symbol, symbols}
+use Rattle.pp_cond.specs.Defined.{pieces, pieces_behind, piece, tested, width, name_in, is_word, operand, written, prepared, occurrences_of, occurrences, symbol, symbols}
 use Rattle.pp_cond.specs.Machine.{run, step}
 
 -- those of a list of which the first tokens are left out are those of the list behind them
@@ -36,6 +37,19 @@ prepared_turns table made all rest t ts operand after w f e h =
     ∙ ap (λ x. made ++ x ∷ prepared table after) e
     ∙ ap (λ ps. made ++ map (written table) ps) (sym (pieces_turn rest t ts operand after f))
     ∙ h
+
+-- where no token is `defined` the tokens stay
+none_is : (b r : Bool) → b || r ≡ false → (b ≡ false) × (r ≡ false)
+none_is true r e = cc e
+none_is false r e = (refl, e)
+
+pub prepared_same : (table : Definitions) → (ts : List OutToken) → list_any (is_word (codes "defined")) ts ≡ false → prepared table ts ≡ ts
+prepared_same table [] none = refl
+prepared_same table (t ∷ ts) none =
+    let split = none_is (is_word (codes "defined") t) (list_any (is_word (codes "defined")) ts) none in
+    let untested : tested t ts ≡ None = ap (λ b. if b then operand ts else None) split.0 in
+    ap (λ o. map (written table) (piece t (name_in o) ∷ pieces_behind (width o) ts)) untested
+    ∙ ap (λ xs. t ∷ xs) (prepared_same table ts split.1)
 
 pub symbols_turn : (table : Definitions) → (r : Reader) → (rest : List OutToken) → (t : OutToken) → (ts : List OutToken)
     → (operand : Option OutToken) → (after : List OutToken) → Front rest t ts operand after

@@ -6,7 +6,7 @@ ghost use Rattle.pp_cond.specs.Conditions as spec;
 ghost use Rattle.pp_cond.specs.Defined as reading;
 ghost use Rattle.pp_cond.specs.Machine as machine;
 
-use crate::defined::{is_defined, prepared, read};
+use crate::defined::{is_defined, mentions_defined, prepared, read};
 use crate::numbers::Number;
 use crate::occurrences::occurrences;
 use crate::reader::Reader;
@@ -141,6 +141,24 @@ fn told(
     })
 }
 
+// What is left of the tokens; they are copied only where one is `defined`.
+#[tactic(auto, using(crate::proofs::Pieces::prepared_same))]
+fn expansion(
+    alloc: Global,
+    tokens: &[OutToken],
+    table: &MacroTable,
+    lines: &[(TokId, u32)],
+    budget: u32,
+) -> Result<Expanded, AllocError>
+    ensures { IfOk result (λ e. e ≡ spec.expansion (map.get table.now) lines.now budget tokens.now) }
+{
+    if !mentions_defined(tokens) {
+        return expand(alloc, tokens, table, lines, budget);
+    }
+    let written = prepared(alloc, table, tokens)?;
+    expand(alloc, written.as_slice(), table, lines, budget)
+}
+
 /// Whether the group behind an `#if` or `#elif` with these tokens is taken (ISO C11 6.10.1), with the macros of `table`.
 /// `lines` gives the lines of sites, from 1, for `__LINE__`, and `budget` is the number of replacements that may be made.
 ///
@@ -161,8 +179,7 @@ pub fn condition(
     ensures used { IfOk result (λ c. c.used ≡ (spec.expansion (map.get table.now) lines.now budget tokens.now).used) }
     ensures macros { IfOk result (λ c. let e = spec.expansion (map.get table.now) lines.now budget tokens.now in c.macros ≡ spec.macros (map.get table.now) tokens.now e e.asked) }
 {
-    let written = prepared(alloc, table, tokens)?;
-    let expanded = expand(alloc, written.as_slice(), table, lines, budget)?;
+    let expanded = expansion(alloc, tokens, table, lines, budget)?;
     let cond = told(alloc, table, tokens, expanded)?;
     Ok(cond)
 }

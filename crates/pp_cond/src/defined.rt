@@ -1,5 +1,6 @@
 // The operator `defined` (ISO C11 6.10.1p1, p4).
-ghost use Rattle.std.specs.Prelude.{◌≡◌, ◌≤◌, ◌+◌, length, drop, option_map, IfSome, IfOk};
+ghost use Rattle.std.specs.Prelude.{◌≡◌, ◌≤◌, ◌+◌, length, drop, codes, option_map, IfSome, IfOk};
+ghost use Rattle.std.specs.List.{list_any};
 ghost use Rattle.std.specs.FinMap as map;
 ghost use Rattle.pp_cond.specs.Defined as spec;
 
@@ -160,6 +161,12 @@ fn written(
         Some(name) => answer(alloc, token, is_defined(table, name.spelling.as_str())),
         None => token.copy(),
     }
+}
+
+pub(crate) fn mentions_defined(tokens: &[OutToken]) -> bool
+    ensures { result ≡ list_any (spec.is_word (codes "defined")) tokens.now }
+{
+    tokens.iter().any(|token| is_word("defined", token))
 }
 
 // The tokens of a condition as they are expanded: `defined` with its operand is 1 or 0.
