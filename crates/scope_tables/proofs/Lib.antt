@@ -1,1 +1,4 @@
-pub mod PlaceLemmas
+pub mod IndexLemmas
+pub mod MarkLemmas
+pub mod NewestLemmas
+pub mod TableLemmas

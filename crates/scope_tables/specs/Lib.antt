@@ -1,3 +1,5 @@
 pub mod Levels
+pub mod Indexed
+pub mod Marks
 pub mod Places
 pub mod Scopes

@@ -6,7 +6,7 @@ use Rattle.type_data.specs.contracts.members.SpacePartialEq.TheImpl as spaces
 use Rattle.scope_tables.specs.Levels.{Scope}
 use Rattle.scope_tables.specs.declared.entities.Entity.{Entity}
 use Rattle.scope_tables.specs.declared.entities.ScopeKind.{ScopeKind}
-use Rattle.scope_tables.specs.declared.levels.Binding.{Binding}
+use Rattle.scope_tables.specs.declared.bindings.Binding.{Binding}
 
 -- the same name space and the same name
 unfoldable pub binds : Space → List ℕ → Binding → Bool

@@ -1,15 +1,24 @@
 // The scopes at a place of a unit (ISO C11 6.2.1).
-use crate::levels::Level;
+use crate::entities::ScopeKind;
+use crate::table::Table;
 use std::alloc::Global;
 use std::marker::Model;
 
 mod calls;
 
-/// The scopes that are entered. Contracts see them as a list, innermost first.
+// Where the bindings of a scope begin.
+#[derive(Clone, Copy, Drop)]
+struct Mark {
+    kind: ScopeKind,
+    start: usize,
+}
+
+/// The scopes that are entered: one table of bindings, with a mark for each scope. Contracts see a list of scopes, innermost
+/// first, in each of which a name is bound once in each name space.
 #[derive(Drop)]
 pub struct Scopes {
-    alloc: Global,
-    levels: Vec<Level>,
+    table: Table,
+    marks: Vec<Mark>,
 }
 
 impl Model for Scopes {
@@ -22,5 +31,9 @@ impl Model for Scopes {
 
     ghost coded = { Prim.hlevel (codes, types.the_row.coded) };
 
-    ghost view = { λ s. reverse s.levels.items };
+    ghost use Rattle.scope_tables.specs.Marks.{cut_at, AreMarks};
+
+    ghost view = { λ s. cut_at (reverse s.marks.items) s.table };
+
+    ghost invariant = { λ s. AreMarks (reverse s.marks.items) s.table };
 }

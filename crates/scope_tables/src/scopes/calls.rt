@@ -2,9 +2,10 @@
 ghost use Rattle.std.specs.Prelude.{◌≡◌, ◌<◌, [], length, option_map, IfOk, OnOk, OnErr};
 ghost use Rattle.scope_tables.specs.Scopes as spec;
 
-use super::Scopes;
+use super::{Mark, Scopes};
+use crate::bindings::Binding;
 use crate::entities::{Entity, ScopeKind};
-use crate::levels::{Binding, Level};
+use crate::table::Table;
 use shared_text::Name;
 use std::alloc::{AllocError, Global};
 use type_data::Space;
@@ -15,43 +16,51 @@ impl Scopes {
         ensures { result ≡ [] }
     {
         Scopes {
-            alloc,
-            levels: Vec::new(alloc),
+            table: Table::new(alloc),
+            marks: Vec::new(alloc),
         }
     }
 
-    /// A scope within the others.
+    /// How many scopes are entered.
+    pub fn depth(&self) -> usize
+        ensures { result ≡ length self.now }
+    {
+        self.marks.len()
+    }
+
+    /// A scope within the others. Where memory is refused the scopes are as before.
     pub fn enter(&mut self, kind: ScopeKind) -> Result<(), AllocError>
         ensures entered { OnOk result (self.new ≡ spec.entered kind self.old) }
         ensures unchanged { OnErr result (self.new ≡ self.old) }
     {
-        self.levels.push(Level::new(self.alloc, kind))?;
+        let start = self.table.len();
+        self.marks.push(Mark { kind, start })?;
         Ok(())
     }
 
-    /// The innermost scope ends: its names denote what they denoted outside.
+    /// The innermost scope ends: its names denote what they denoted outside. It takes no memory, and a time that is linear in
+    /// the number of names that the scope declares.
     pub fn leave(&mut self)
         requires { 0 < length self.old }
         ensures { self.new ≡ spec.left self.old }
     {
-        self.levels.pop();
+        if let Some(mark) = self.marks.pop() {
+            self.table.cut(mark.start);
+        }
     }
 
-    /// What a name denotes (6.2.1p4).
+    /// What a name denotes (6.2.1p4), by one look-up, however many scopes there are. It takes no memory.
     pub fn find(&self, space: &Space, name: &str) -> Option<&Entity>
         ensures { option_map (λ e. e.now) result ≡ spec.found space.now name.now self.now }
     {
-        let mut rest = self.levels.as_slice();
-        while let Some((level, outside)) = rest.split_last() {
-            rest = outside;
-            if let Some(entity) = level.find(space, name) {
-                return Some(entity);
-            }
+        match self.table.newest(space, name) {
+            Some(place) => Some(self.table.entity(place)),
+            None => None,
         }
-        None
     }
 
-    /// Binds a name in the innermost scope, and gives what it denoted there before.
+    /// Binds a name in the innermost scope, and gives what it denoted there before. Where memory is refused the scopes are as
+    /// before.
     pub fn declare(
         &mut self,
         space: Space,
@@ -63,15 +72,19 @@ impl Scopes {
         ensures declared { OnOk result (self.new ≡ spec.declared_in (record { space = space; name = name; entity = entity }) self.old) }
         ensures unchanged { OnErr result (self.new ≡ self.old) }
     {
-        let Some(mut level) = self.levels.pop() else {
+        let Some(mark) = self.marks.last() else {
             return Ok(None);
         };
-        let declared = level.declare(Binding {
+        let here = self.table.newest_from(mark.start, &space, name.as_str());
+        if let Some(place) = here {
+            return Ok(Some(self.table.replace(place, entity)));
+        }
+        let binding = Binding {
             space,
             name,
             entity,
-        });
-        self.levels.push_reserved(level);
-        declared
+        };
+        self.table.push(binding)?;
+        Ok(None)
     }
 }
