@@ -1,4 +1,5 @@
 pub mod IndexLemmas
+pub mod LinkedLemmas
 pub mod MarkLemmas
 pub mod NewestLemmas
 pub mod TableLemmas

@@ -5,7 +5,7 @@ use Rattle.std.proofs.lemmas.List.{take-append-drop, take_all, take_at, drop_all
 use Rattle.type_data.specs.declared.members.Space.{Space}
 use Rattle.scope_tables.specs.Marks.{cut_at, IsOnce, AreMarks}
 use Rattle.scope_tables.specs.Places.{newest, or_here, entity_in, with_entity}
-use Rattle.scope_tables.specs.Scopes.{binds, bound, put, or_outside, found, declared_in, before, entered}
+use Rattle.scope_tables.specs.Scopes.{binds, bound, put, or_outside, found, here, declared_in, before, entered}
 use Rattle.scope_tables.specs.declared.bindings.Binding.{Binding}
 use Rattle.scope_tables.specs.declared.entities.Entity.{Entity}
 use Rattle.scope_tables.specs.declared.entities.ScopeKind.{ScopeKind}
@@ -204,54 +204,87 @@ declared b m ms xs ys zs old new hidden was is change size had are =
       before = had ∙ sym (ap (bound b.space b.name) below);
     }
 
+-- the newest binding of all, where it stands in the innermost scope
+pub newest_inside : (s : Space) (q : List ℕ) (start : ℕ) (old : List Binding) (i : ℕ) → start ≤ length old → newest s q old ≡ Some i → start ≤ i
+    → newest s q (drop start old) ≡ Some (i - start)
+newest_inside s q start old i most at inside =
+    let xs = take start old in
+    let ys = drop start old in
+    let size : length xs ≡ start = length-take-le start old most in
+    let both : newer (newest s q xs) (length xs) (newest s q ys) ≡ Some i =
+    sym (newest_append s q xs ys) ∙ ap (newest s q) (take-append-drop start old) ∙ at in
+    step xs ys (newest s q ys) (newest s q xs) refl refl both size
+  where
+    step : (xs ys : List Binding) (p o : Option ℕ) → newest s q ys ≡ p → newest s q xs ≡ o
+        → newer (newest s q xs) (length xs) (newest s q ys) ≡ Some i → length xs ≡ start → newest s q ys ≡ Some (i - start)
+    step xs ys (Some k) o e f h size =
+        let same : Some (length xs + k) ≡ Some i = sym (ap (newer (newest s q xs) (length xs)) e) ∙ h in
+        let sum : length xs + k ≡ i = cc same in
+        let is : k ≡ i - start = omega (arith, sum, size) in
+        e ∙ ap Some is
+    step xs ys None (Some k) e f h size =
+        let same : Some k ≡ Some i = sym (ap (newer (newest s q xs) (length xs)) e ∙ f) ∙ h in
+        let is : k ≡ i = cc same in
+        let below = newest_below s q xs k f in
+        let bad : ⊥ = omega (arith, below, is, inside, size) in absurd bad
+    step xs ys None None e f h size =
+        let bad : None ≡ Some i = sym (ap (newer (newest s q xs) (length xs)) e ∙ f) ∙ h in cc bad
+
+-- where it doesn't
+pub newest_outside : (s : Space) (q : List ℕ) (start : ℕ) (old : List Binding) → start ≤ length old → ((i : ℕ) → newest s q old ≡ Some i → i < start)
+    → newest s q (drop start old) ≡ None
+newest_outside s q start old most outside =
+    let xs = take start old in
+    let ys = drop start old in
+    step xs ys (newest s q ys) refl
+    (λ i h. outside (length xs + i) (ap (newest s q) (sym (take-append-drop start old)) ∙ newest_append s q xs ys ∙ ap (newer (newest s q xs) (length xs)) h))
+    (length-take-le start old most)
+  where
+    step : (xs ys : List Binding) (o : Option ℕ) → newest s q ys ≡ o → ((i : ℕ) → newest s q ys ≡ Some i → length xs + i < start) → length xs ≡ start
+        → newest s q ys ≡ None
+    step xs ys (Some i) e far size = let past = far i e in let bad : ⊥ = omega (arith, past, size) in absurd bad
+    step xs ys None e far size = e
+
+-- what a name denotes in the innermost scope
+pub bound_inside : (s : Space) (q : List ℕ) (start : ℕ) (old : List Binding) (i : ℕ) → start ≤ length old → IsOnce (drop start old) → newest s q old ≡ Some i
+    → start ≤ i → bound s q (drop start old) ≡ entity_in old i
+bound_inside s q start old i most once at inside =
+    let xs = take start old in
+    let ys = drop start old in
+    let size : length xs ≡ start = length-take-le start old most in
+    let place : length xs + (i - start) ≡ i = omega (arith, size, inside) in
+    bound_newest s q ys once ∙ ap (entity_if ys) (newest_inside s q start old i most at inside)
+    ∙ sym (entity_behind xs ys (i - start)) ∙ ap (entity_in (xs ++ ys)) place ∙ ap (λ zs. entity_in zs i) (take-append-drop start old)
+
+pub bound_outside : (s : Space) (q : List ℕ) (start : ℕ) (old : List Binding) → start ≤ length old → IsOnce (drop start old)
+    → ((i : ℕ) → newest s q old ≡ Some i → i < start) → bound s q (drop start old) ≡ None
+bound_outside s q start old most once outside =
+    bound_newest s q (drop start old) once ∙ ap (entity_if (drop start old)) (newest_outside s q start old most outside)
+
 pub declared_new : (b : Binding) (m : Mark) (ms : List Mark) (old : List Binding) → AreMarks (m ∷ ms) old
     → ((i : ℕ) → newest b.space b.name old ≡ Some i → i < m.start) → IsDeclared b (m ∷ ms) old (old ++ b ∷ []) None
 declared_new b m ms old are outside =
     let xs = take m.start old in
     let ys = drop m.start old in
     let whole : xs ++ ys ≡ old = take-append-drop m.start old in
-    let size : length xs ≡ m.start = length-take-le m.start old are.0 in
-    let none : newest b.space b.name ys ≡ None = step xs ys (newest b.space b.name ys) refl (λ i h. outside (length xs + i) (ap (newest b.space b.name) (sym whole) ∙ newest_append b.space b.name xs ys ∙ ap (newer (newest b.space b.name xs) (length xs)) h)) size in
-    let unbound : bound b.space b.name ys ≡ None = bound_newest b.space b.name ys are.1 ∙ ap (entity_if ys) none in
-    declared b m ms xs ys (ys ++ b ∷ []) old (old ++ b ∷ []) None (sym whole) (ap (λ zs. zs ++ b ∷ []) (sym whole) ∙ append_assoc xs ys (b ∷ [])) (sym (put_new b ys unbound)) size (sym unbound) are
-  where
-    step : (xs ys : List Binding) (o : Option ℕ) → newest b.space b.name ys ≡ o → ((i : ℕ) → newest b.space b.name ys ≡ Some i → length xs + i < m.start) → length xs ≡ m.start
-        → newest b.space b.name ys ≡ None
-    step xs ys (Some i) e far size = let past = far i e in let bad : ⊥ = omega (arith, past, size) in absurd bad
-    step xs ys None e far size = e
+    let unbound : bound b.space b.name ys ≡ None = bound_outside b.space b.name m.start old are.0 are.1 outside in
+    declared b m ms xs ys (ys ++ b ∷ []) old (old ++ b ∷ []) None (sym whole) (ap (λ zs. zs ++ b ∷ []) (sym whole) ∙ append_assoc xs ys (b ∷ []))
+    (sym (put_new b ys unbound)) (length-take-le m.start old are.0) (sym unbound) are
 
 pub declared_old : (b : Binding) (m : Mark) (ms : List Mark) (old : List Binding) (i : ℕ) → AreMarks (m ∷ ms) old
     → newest b.space b.name old ≡ Some i → m.start ≤ i → IsDeclared b (m ∷ ms) old (with_entity old i b.entity) (entity_in old i)
 declared_old b m ms old i are at inside =
     let xs = take m.start old in
     let ys = drop m.start old in
-    let whole : xs ++ ys ≡ old = take-append-drop m.start old in
+    let is : old ≡ xs ++ ys = sym (take-append-drop m.start old) in
     let size : length xs ≡ m.start = length-take-le m.start old are.0 in
     let j = i - m.start in
     let place : length xs + j ≡ i = omega (arith, size, inside) in
-    let both : newer (newest b.space b.name xs) (length xs) (newest b.space b.name ys) ≡ Some i = sym (newest_append b.space b.name xs ys) ∙ ap (newest b.space b.name) whole ∙ at in
-    let here : newest b.space b.name ys ≡ Some j = step xs ys (newest b.space b.name ys) (newest b.space b.name xs) refl refl both size in
-    let is : old ≡ xs ++ ys = sym whole in
+    let here : newest b.space b.name ys ≡ Some j = newest_inside b.space b.name m.start old i are.0 at inside in
     declared b m ms xs ys (with_entity ys j b.entity) old (with_entity old i b.entity) (entity_in old i) is
     (ap (λ zs. with_entity zs i b.entity) is ∙ ap (λ k. with_entity (xs ++ ys) k b.entity) (sym place) ∙ with_behind xs ys j b.entity)
     (sym (put_old b ys j are.1 here)) size
-    (ap (λ zs. entity_in zs i) is ∙ ap (entity_in (xs ++ ys)) (sym place) ∙ entity_behind xs ys j
-    ∙ sym (bound_newest b.space b.name ys are.1 ∙ ap (entity_if ys) here)) are
-  where
-    step : (xs ys : List Binding) (p o : Option ℕ) → newest b.space b.name ys ≡ p → newest b.space b.name xs ≡ o
-        → newer (newest b.space b.name xs) (length xs) (newest b.space b.name ys) ≡ Some i → length xs ≡ m.start → newest b.space b.name ys ≡ Some (i - m.start)
-    step xs ys (Some k) o e f h size =
-        let same : Some (length xs + k) ≡ Some i = sym (ap (newer (newest b.space b.name xs) (length xs)) e) ∙ h in
-        let sum : length xs + k ≡ i = cc same in
-        let is : k ≡ i - m.start = omega (arith, sum, size) in
-        e ∙ ap Some is
-    step xs ys None (Some k) e f h size =
-        let same : Some k ≡ Some i = sym (ap (newer (newest b.space b.name xs) (length xs)) e ∙ f) ∙ h in
-        let is : k ≡ i = cc same in
-        let below = newest_below b.space b.name xs k f in
-        let bad : ⊥ = omega (arith, below, is, inside, size) in absurd bad
-    step xs ys None None e f h size =
-        let bad : None ≡ Some i = sym (ap (newer (newest b.space b.name xs) (length xs)) e ∙ f) ∙ h in cc bad
+    (sym (bound_inside b.space b.name m.start old i are.0 are.1 at inside)) are
 
 -- the innermost mark is the last one
 pub innermost : (ms : List Mark) (m : Mark) → length ms - 1 < length ms → m ≡ get_or ms (length ms - 1) m → reverse ms ≡ m ∷ reverse (take (length ms - 1) ms)
@@ -279,3 +312,23 @@ declares_new b marks m old some last are outside =
 pub length_cut : (ms : List Mark) (bs : List Binding) → length (cut_at ms bs) ≡ length ms
 length_cut [] bs = refl
 length_cut (m ∷ ms) bs = let n = length_cut ms (take m.start bs) in omega (arith, n)
+
+pub here_old : (s : Space) (q : List ℕ) (marks : List Mark) (m : Mark) (old : List Binding) (i : ℕ) → length marks - 1 < length marks
+    → m ≡ get_or marks (length marks - 1) m → AreMarks (reverse marks) old → newest s q old ≡ Some i → m.start ≤ i
+    → entity_in old i ≡ here s q (cut_at (reverse marks) old)
+here_old s q marks m old i some last are at inside =
+    let is = innermost marks m some last in
+    let those = subst (λ ms. AreMarks ms old) is are in
+    sym (ap (λ ms. here s q (cut_at ms old)) is ∙ bound_inside s q m.start old i those.0 those.1 at inside)
+
+pub here_new : (s : Space) (q : List ℕ) (marks : List Mark) (m : Mark) (old : List Binding) → length marks - 1 < length marks
+    → m ≡ get_or marks (length marks - 1) m → AreMarks (reverse marks) old → ((i : ℕ) → newest s q old ≡ Some i → i < m.start)
+    → None ≡ here s q (cut_at (reverse marks) old)
+here_new s q marks m old some last are outside =
+    let is = innermost marks m some last in
+    let those = subst (λ ms. AreMarks ms old) is are in
+    sym (ap (λ ms. here s q (cut_at ms old)) is ∙ bound_outside s q m.start old those.0 those.1 outside)
+
+pub here_none : (s : Space) (q : List ℕ) (marks : List Mark) (old : List Binding) → length marks ≡ 0 → None ≡ here s q (cut_at (reverse marks) old)
+here_none s q [] old none = refl
+here_none s q (m ∷ marks) old none = let bad : ⊥ = omega (arith, none) in absurd bad

@@ -3,8 +3,9 @@ use Rattle.std.specs.Prelude.{ℕ, zero, suc, ◌+◌, Bool, ◌&&◌, List, [],
 use Rattle.std.specs.HashMap.{get, get_by_text}
 use Rattle.std.specs.Str.{bytes_eq}
 use Rattle.type_data.specs.declared.members.Space.{Space}
+use Rattle.type_data.specs.declared.members.Space.TheVariants.{Ordinary}
 use Rattle.type_data.specs.contracts.members.SpacePartialEq.TheImpl as spaces
-use Rattle.scope_tables.specs.Scopes.{binds}
+use Rattle.scope_tables.specs.Scopes.{binds, if_linked, or_outside}
 use Rattle.scope_tables.specs.declared.bindings.Binding.{Binding}
 use Rattle.scope_tables.specs.declared.entities.Entity.{Entity}
 use Rattle.scope_tables.specs.declared.index.Index.{Index}
@@ -21,6 +22,14 @@ or_here None here = if here then Some 0 else None
 abbrev pub newest : Space → List ℕ → List Binding → Option ℕ
 newest space name [] = None
 newest space name (b ∷ bs) = or_here (newest space name bs) (binds space name b)
+
+-- the entity of the last binding of an ordinary name whose entity has linkage
+abbrev pub linked_by : List ℕ → Binding → Option Entity
+linked_by name b = if binds Ordinary name b then if_linked (Some b.entity) else None
+
+abbrev pub last_linked : List ℕ → List Binding → Option Entity
+last_linked name [] = None
+last_linked name (b ∷ bs) = or_outside (last_linked name bs) (linked_by name b)
 
 -- the entity of the binding at a place
 abbrev pub entity_in : List Binding → ℕ → Option Entity

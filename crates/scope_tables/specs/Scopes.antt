@@ -1,10 +1,13 @@
 -- Scopes (ISO C11 6.2.1, 6.2.3): a list, innermost first. In each a name denotes one entity for each name space.
-use Rattle.std.specs.Prelude.{ℕ, Bool, ◌&&◌, nat_eq, List, [], ◌∷◌, Option, Some, None, if◌then◌else◌}
+use Rattle.std.specs.Prelude.{ℕ, Bool, true, false, ◌&&◌, nat_eq, List, [], ◌∷◌, Option, Some, None, if◌then◌else◌}
 use Rattle.std.specs.Cmp.Lexicographic.{pointwise}
 use Rattle.type_data.specs.declared.members.Space.{Space}
+use Rattle.type_data.specs.declared.members.Space.TheVariants.{Ordinary}
 use Rattle.type_data.specs.contracts.members.SpacePartialEq.TheImpl as spaces
 use Rattle.scope_tables.specs.Levels.{Scope}
 use Rattle.scope_tables.specs.declared.entities.Entity.{Entity}
+use Rattle.scope_tables.specs.declared.entities.Linkage.{Linkage}
+use Rattle.scope_tables.specs.declared.entities.Linkage.TheVariants as linkage
 use Rattle.scope_tables.specs.declared.entities.ScopeKind.{ScopeKind}
 use Rattle.scope_tables.specs.declared.bindings.Binding.{Binding}
 
@@ -30,6 +33,26 @@ or_outside None outside = outside
 abbrev pub found : Space → List ℕ → List Scope → Option Entity
 found space name [] = None
 found space name (s ∷ outside) = or_outside (bound space name s.bindings) (found space name outside)
+
+-- what it denotes in the innermost scope alone
+abbrev pub here : Space → List ℕ → List Scope → Option Entity
+here space name [] = None
+here space name (s ∷ outside) = bound space name s.bindings
+
+-- 6.2.2p4: the entity, where it has linkage
+abbrev pub is_linked : Linkage → Bool
+is_linked linkage.None = false
+is_linked linkage.Internal = true
+is_linked linkage.External = true
+
+abbrev pub if_linked : Option Entity → Option Entity
+if_linked None = None
+if_linked (Some entity) = if is_linked entity.linkage then Some entity else None
+
+-- what an ordinary name denotes in the innermost scope in which it denotes what has linkage
+abbrev pub linked : List ℕ → List Scope → Option Entity
+linked name [] = None
+linked name (s ∷ outside) = or_outside (if_linked (bound Ordinary name s.bindings)) (linked name outside)
 
 abbrev pub entered : ScopeKind → List Scope → List Scope
 entered kind scopes = record { kind = kind; bindings = [] } ∷ scopes

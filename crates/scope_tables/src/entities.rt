@@ -1,4 +1,7 @@
 // Entities and their occurrences (ISO C11 6.2.1 to 6.2.4).
+ghost use Rattle.std.specs.Prelude.{◌≡◌};
+ghost use Rattle.scope_tables.specs.Scopes.{is_linked};
+
 use shared_text::Name;
 use tok_data::TokId;
 use type_data::{CType, Qual, TagId, TagInfo, Value};
@@ -89,4 +92,17 @@ pub struct Entity {
     /// The value of an enumerator.
     pub value: Option<Value>,
     pub anchor: Anchor,
+}
+
+impl Entity {
+    /// Whether it has internal or external linkage (6.2.2).
+    pub fn has_linkage(&self) -> bool
+        ensures { result ≡ is_linked self.now.linkage }
+    {
+        match self.linkage {
+            Linkage::None => false,
+            Linkage::Internal => true,
+            Linkage::External => true,
+        }
+    }
 }

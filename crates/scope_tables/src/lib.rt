@@ -5,6 +5,7 @@ mod bindings;
 mod entities;
 mod index;
 mod scopes;
+mod sharing;
 mod table;
 
 pub use bindings::Binding;

@@ -1,6 +1,6 @@
 // All bindings that stand, in the order in which they were made.
-ghost use Rattle.std.specs.Prelude.{◌≡◌, ℕ, ◌<◌, ◌≤◌, ◌-◌, ◌++◌, [], ◌∷◌, length, take, Some, IfSome, IfNone, OnOk, OnErr};
-ghost use Rattle.scope_tables.specs.Places.{newest, entity_in, with_entity};
+ghost use Rattle.std.specs.Prelude.{◌≡◌, ℕ, ◌<◌, ◌≤◌, ◌-◌, ◌++◌, [], ◌∷◌, length, take, option_map, Some, IfSome, IfNone, OnOk, OnErr};
+ghost use Rattle.scope_tables.specs.Places.{newest, entity_in, last_linked, with_entity};
 
 use crate::bindings::Binding;
 use crate::entities::Entity;
@@ -81,6 +81,21 @@ impl Table {
         ensures { Some result.now ≡ entity_in self.now place }
     {
         &self.entries[place].binding.entity
+    }
+
+    /// The entity of the newest binding of an ordinary name that has linkage. It goes through the bindings of that name.
+    pub(crate) fn linked(&self, name: &str) -> Option<&Entity>
+        ensures { option_map (λ e. e.now) result ≡ last_linked name.now self.now }
+    {
+        let mut place = self.index.get(&Space::Ordinary, name);
+        while let Some(i) = place {
+            let entry = &self.entries[i];
+            if entry.binding.entity.has_linkage() {
+                return Some(&entry.binding.entity);
+            }
+            place = entry.hidden;
+        }
+        None
     }
 
     /// A binding more.

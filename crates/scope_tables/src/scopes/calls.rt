@@ -59,6 +59,25 @@ impl Scopes {
         }
     }
 
+    /// What a name denotes in the innermost scope; nothing where no scope is entered. It takes no memory.
+    pub fn find_here(&self, space: &Space, name: &str) -> Option<&Entity>
+        ensures { option_map (λ e. e.now) result ≡ spec.here space.now name.now self.now }
+    {
+        let mark = self.marks.last()?;
+        match self.table.newest_from(mark.start, space, name) {
+            Some(place) => Some(self.table.entity(place)),
+            None => None,
+        }
+    }
+
+    /// What an ordinary name denotes in the innermost scope in which it denotes what has internal or external linkage
+    /// (6.2.2p4), whatever hides it. It takes no memory, and a time that is linear in the number of scopes that bind the name.
+    pub fn find_linked(&self, name: &str) -> Option<&Entity>
+        ensures { option_map (λ e. e.now) result ≡ spec.linked name.now self.now }
+    {
+        self.table.linked(name)
+    }
+
     /// Binds a name in the innermost scope, and gives what it denoted there before. Where memory is refused the scopes are as
     /// before.
     pub fn declare(
