@@ -5,7 +5,7 @@ use Rattle.c_parser.specs.declared.answers.Stop.{Stop}
 use Rattle.c_parser.specs.declared.kinds.Kind.{Kind}
 use Rattle.c_parser.specs.declared.kinds.Kind.TheVariants.{Question, Colon, Assignment, OpenParen, CloseParen}
 use Rattle.c_parser.specs.Joining.{preceded}
-use Rattle.c_parser.specs.Kinds.{kind_at, level_at, is_prefix, operator_at, type_at, casts_at, is_opening, starts_type}
+use Rattle.c_parser.specs.Kinds.{kind_at, level_at, is_prefix, operator_at, type_at, casts_at, is_opening, starts_type, ends_type}
 use Rattle.c_parser.specs.Levels.{behinds_level, rank}
 use Rattle.c_parser.specs.Reading.{HoldsFront, HoldFronts, Reads, Stops, Found, IsWant, FoundFront, FoundPrefixes, FoundType}
 use Rattle.c_parser.proofs.Uniqueness.{front_only}
@@ -221,13 +221,13 @@ pub cast_fails : (ks : List Kind) → (at : ℕ) → type_at ks at ≡ true → 
     → (x : Front) → (m : ℕ) → HoldsFront ks 15 x at m → IsWant e
 cast_fails ks at t e fails x m h =
     let v = casting ks x at m t (prefix_view ks x at m h) in
-    fails v.name v.closing v.holds v.closes
+    fails v.name v.closing v.holds (ap ends_type v.closes)
 
 pub cast_left_open : (ks : List Kind) → (at : ℕ) → type_at ks at ≡ true → (y : Naming) → (c : ℕ) → (last : Kind) → OnlyType ks (at + 1) y c
     → last ≡ kind_at ks c → (last ≡ CloseParen → ⊥) → (x : Front) → (m : ℕ) → HoldsFront ks 15 x at m → ⊥
 cast_left_open ks at t y c last only e not x m h =
     let v = casting ks x at m t (prefix_view ks x at m h) in
-    let one = only v.name v.closing v.holds v.closes in
+    let one = only v.name v.closing v.holds (ap ends_type v.closes) in
     not (e ∙ ap (λ k. kind_at ks k) one.1 ∙ v.closes)
 
 -- tests

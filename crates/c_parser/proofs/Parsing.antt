@@ -5,7 +5,7 @@ use Rattle.c_parser.specs.declared.answers.Stop.{Stop}
 use Rattle.c_parser.specs.declared.kinds.Kind.{Kind}
 use Rattle.c_parser.specs.declared.kinds.Kind.TheVariants.{Identifier, Constant, Text, OpenParen, CloseParen, OpenBracket, CloseBracket, Member, Step, SizeOf, AlignOf}
 use Rattle.c_parser.specs.Joining.{followed}
-use Rattle.c_parser.specs.Kinds.{kind_at, level_at, is_word, is_size, is_suffix}
+use Rattle.c_parser.specs.Kinds.{kind_at, level_at, is_word, is_size, is_suffix, ends_type}
 use Rattle.c_parser.specs.Levels.{IsBinary, behinds_level, rank}
 use Rattle.c_parser.specs.Reading.{HoldTexts, HoldsBehind, HoldBehinds, Reads, Stops, Found, FoundTexts, FoundBehind, FoundBehinds, IsWant, FoundType}
 use Rattle.tree_data.specs.Names.{Naming}
@@ -481,12 +481,12 @@ sized ks t a b h (a_text ns e k f) = absurd (true≢false (sym h ∙ ap is_size 
 sized ks t a b h (a_paren u c e k r l f) = absurd (true≢false (sym h ∙ ap is_size k))
 sized ks t a b h (a_size y c e k o i l f) = record { name = y; closing = c; opens = o; holds = i; closes = l }
 
--- what a call that reads the name of a type answers where none ends at a `)`
+-- what a call that reads the name of a type answers where there is none
 abbrev pub FailsType : List Kind → ℕ → Stop → Type 0
-FailsType ks a e = (y : Naming) → (c : ℕ) → HoldsType ks y a c → kind_at ks c ≡ CloseParen → IsWant e
+FailsType ks a e = (y : Naming) → (c : ℕ) → HoldsType ks y a c → ends_type (kind_at ks c) ≡ true → IsWant e
 
 abbrev pub OnlyType : List Kind → ℕ → Naming → ℕ → Type 0
-OnlyType ks a y c = (y' : Naming) → (c' : ℕ) → HoldsType ks y' a c' → kind_at ks c' ≡ CloseParen → (y ≡ y') × (c ≡ c')
+OnlyType ks a y c = (y' : Naming) → (c' : ℕ) → HoldsType ks y' a c' → ends_type (kind_at ks c') ≡ true → (y ≡ y') × (c ≡ c')
 
 pub size_unopened : (ks : List Kind) → (at : ℕ) → is_size (kind_at ks at) ≡ true → (k : Kind) → k ≡ kind_at ks (at + 1)
     → (k ≡ OpenParen → ⊥) → (t : Tree) → (b : ℕ) → Reads ks 17 t at b → Stops ks 17 b → ⊥
@@ -497,14 +497,14 @@ size_unopened ks at h k e not t b r s =
 pub size_fails : (ks : List Kind) → (at : ℕ) → is_size (kind_at ks at) ≡ true → (e : Stop) → FailsType ks (at + 2) e → Fails ks 17 at e
 size_fails ks at h e fails t b r s =
     let v = sized ks t at b h (primary_view ks t at b r) in
-    fails v.name v.closing v.holds v.closes
+    fails v.name v.closing v.holds (ap ends_type v.closes)
 
 pub size_left_open : (ks : List Kind) → (at : ℕ) → is_size (kind_at ks at) ≡ true → (y : Naming) → (c : ℕ) → (last : Kind)
     → OnlyType ks (at + 2) y c → last ≡ kind_at ks c → (last ≡ CloseParen → ⊥)
     → (t : Tree) → (b : ℕ) → Reads ks 17 t at b → Stops ks 17 b → ⊥
 size_left_open ks at h y c last only e not t b r s =
     let v = sized ks t at b h (primary_view ks t at b r) in
-    let one = only v.name v.closing v.holds v.closes in
+    let one = only v.name v.closing v.holds (ap ends_type v.closes) in
     not (e ∙ ap (λ x. kind_at ks x) one.1 ∙ v.closes)
 
 pub size_found : (ks : List Kind) → (at : ℕ) → is_size (kind_at ks at) ≡ true → kind_at ks (at + 1) ≡ OpenParen → (y : Naming) → (c : ℕ)

@@ -1,9 +1,9 @@
--- Names of types: what holds between two places is formed and spells the numbers, and no other ends at a `)`.
+-- Names of types: what holds between two places is formed and spells the numbers, and no other ends at a `)` or behind all tokens.
 use Rattle.std.proofs.Common.{◌≡◌, refl, ap, sym, ◌∙◌, subst, ℕ, ◌+◌, ◌<◌, ◌≤◌, List, [], ◌∷◌, ◌++◌, arith, Bool, true, false, true≢false, ◌||◌, length, append_assoc, append-nil}
 use Rattle.tree_data.specs.Names.{Specifying, Word_of, Typedef_of, Tag_of, Naming, Type_of}
 use Rattle.c_parser.specs.declared.kinds.Kind.{Kind}
-use Rattle.c_parser.specs.declared.kinds.Kind.TheVariants.{TypeName, Qualifier, Tag, Star, CloseParen}
-use Rattle.c_parser.specs.Kinds.{kind_at, is_word, is_specifying, starts_type}
+use Rattle.c_parser.specs.declared.kinds.Kind.TheVariants.{TypeName, Qualifier, Tag, Star, CloseParen, End}
+use Rattle.c_parser.specs.Kinds.{kind_at, is_word, is_specifying, starts_type, ends_type}
 use Rattle.c_parser.specs.TypeNames.{spell_specifying, spell_specifyings, spell_pointers, spell_type, has_type, IsSpecifying, AreSpecifying, AreQualifiers, ArePointers, AreSome, IsType, HoldSpecifying, HoldSpecifyings, HoldQualifiers, HoldPointers, HoldsType, typed_behind, NoMore, FoundSpecifiers, FoundQualifiers, FoundPointers}
 use Rattle.c_parser.specs.Reading.{FoundType}
 use Rattle.c_parser.proofs.Marks.{clash, word_starts}
@@ -124,14 +124,23 @@ pub type_starts : (ks : List Kind) → (t : Naming) → (a b : ℕ) → HoldsTyp
 type_starts ks (Type_of [] ps) a b h = absurd h.1
 type_starts ks (Type_of (s ∷ ss) ps) a b h = starting ks false s a h.2.0 h.2.1
 
+-- no type begins where one may end, nor does one go on
+starts_none : (k : Kind) → ends_type k ≡ true → starts_type k ≡ false
+starts_none CloseParen h = refl
+starts_none End h = refl
+starts_none _ h = absurd (true≢false (sym h))
+
+ends_before : (k a : Kind) → ends_type k ≡ true → k ≡ a → ends_type a ≡ false → ⊥
+ends_before k a h e n = true≢false (sym h ∙ ap ends_type e ∙ n)
+
 -- the tokens that a type name goes on with, but for specifiers
 pub data Ending (ks : List Kind) (at : ℕ) : Type 0 where
   at_star : kind_at ks at ≡ Star → Ending ks at
-  at_close : kind_at ks at ≡ CloseParen → Ending ks at
+  at_end : ends_type (kind_at ks at) ≡ true → Ending ks at
 
 pub no_more : (ks : List Kind) → (y : Bool) → (at : ℕ) → Ending ks at → NoMore ks y at
 no_more ks y at (at_star e) s b h = true≢false (sym (starting ks y s at b h) ∙ ap starts_type e)
-no_more ks y at (at_close e) s b h = true≢false (sym (starting ks y s at b h) ∙ ap starts_type e)
+no_more ks y at (at_end e) s b h = true≢false (sym (starting ks y s at b h) ∙ starts_none (kind_at ks at) e)
 
 specifying_only : (ks : List Kind) → (y : Bool) → (s : Specifying) → (a b : ℕ) → HoldSpecifying ks y s a b
     → (s' : Specifying) → (b' : ℕ) → HoldSpecifying ks y s' a b' → (s ≡ s') × (b ≡ b')
@@ -205,13 +214,13 @@ pointers_only ks (p ∷ ps) a b h n q (p' ∷ ps') b' h' n' q' =
       more.1,
     )
 
--- what stands behind the specifiers of a type name that ends at a `)`
-pub behind_specifiers : (ks : List Kind) → (ps : List (ℕ × List ℕ)) → (m c : ℕ) → HoldPointers ks ps m c → kind_at ks c ≡ CloseParen → Ending ks m
-behind_specifiers ks [] m c h e = at_close (ap (λ k. kind_at ks k) (sym h) ∙ e)
+-- what stands behind the specifiers of a type name that ends
+pub behind_specifiers : (ks : List Kind) → (ps : List (ℕ × List ℕ)) → (m c : ℕ) → HoldPointers ks ps m c → ends_type (kind_at ks c) ≡ true → Ending ks m
+behind_specifiers ks [] m c h e = at_end (ap (λ k. ends_type (kind_at ks k)) (sym h) ∙ e)
 behind_specifiers ks (p ∷ ps) m c h e = at_star h.2
 
-pub type_only : (ks : List Kind) → (t : Naming) → (a c : ℕ) → HoldsType ks t a c → kind_at ks c ≡ CloseParen
-    → (t' : Naming) → (c' : ℕ) → HoldsType ks t' a c' → kind_at ks c' ≡ CloseParen → (t ≡ t') × (c ≡ c')
+pub type_only : (ks : List Kind) → (t : Naming) → (a c : ℕ) → HoldsType ks t a c → ends_type (kind_at ks c) ≡ true
+    → (t' : Naming) → (c' : ℕ) → HoldsType ks t' a c' → ends_type (kind_at ks c') ≡ true → (t ≡ t') × (c ≡ c')
 type_only ks (Type_of ss ps) a c h e (Type_of ss' ps') c' h' e' =
     let one =
     specifyings_only
@@ -233,13 +242,13 @@ type_only ks (Type_of ss ps) a c h e (Type_of ss' ps') c' h' e' =
     h.0
     c
     h.3
-    (λ x. clash (kind_at ks c) CloseParen Star e x (λ y. omega (arith, y)))
-    (λ x. clash (kind_at ks c) CloseParen Qualifier e x (λ y. omega (arith, y)))
+    (λ x. ends_before (kind_at ks c) Star e x refl)
+    (λ x. ends_before (kind_at ks c) Qualifier e x refl)
     ps'
     c'
     (subst (λ x. HoldPointers ks ps' x c') (sym one.1) h'.3)
-    (λ x. clash (kind_at ks c') CloseParen Star e' x (λ y. omega (arith, y)))
-    (λ x. clash (kind_at ks c') CloseParen Qualifier e' x (λ y. omega (arith, y))) in
+    (λ x. ends_before (kind_at ks c') Star e' x refl)
+    (λ x. ends_before (kind_at ks c') Qualifier e' x refl) in
     (ap (λ x. Type_of x ps) one.0 ∙ ap (λ x. Type_of ss' x) two.0, two.1)
 
 -- what the loops keep
@@ -375,7 +384,7 @@ not_qualified ks y m n e = n (Word_of m) (m + 1) (refl, ap is_specifying e, refl
 
 pub found_type_only : (ks : List Kind) → (a : ℕ) → (ss : List Specifying) → (m : ℕ) → (ps : List (ℕ × List ℕ)) → (b : ℕ)
     → FoundSpecifiers ks a ss m → FoundPointers ks m ps b
-    → (t : Naming) → (c : ℕ) → HoldsType ks t a c → kind_at ks c ≡ CloseParen → (Type_of ss ps ≡ t) × (b ≡ c)
+    → (t : Naming) → (c : ℕ) → HoldsType ks t a c → ends_type (kind_at ks c) ≡ true → (Type_of ss ps ≡ t) × (b ≡ c)
 found_type_only ks a ss m ps b x y (Type_of ss' ps') c h e =
     let one =
     specifyings_only
@@ -402,13 +411,13 @@ found_type_only ks a ss m ps b x y (Type_of ss' ps') c h e =
     ps'
     c
     (subst (λ k. HoldPointers ks ps' k c) (sym one.1) h.3)
-    (λ k. clash (kind_at ks c) CloseParen Star e k (λ z. omega (arith, z)))
-    (λ k. clash (kind_at ks c) CloseParen Qualifier e k (λ z. omega (arith, z))) in
+    (λ k. ends_before (kind_at ks c) Star e k refl)
+    (λ k. ends_before (kind_at ks c) Qualifier e k refl) in
     (ap (λ k. Type_of k ps) one.0 ∙ ap (λ k. Type_of ss' k) two.0, two.1)
 
 -- without a specifier there is no name
 pub no_specifiers : (ks : List Kind) → (a m : ℕ) → FoundSpecifiers ks a [] m
-    → (t : Naming) → (c : ℕ) → HoldsType ks t a c → kind_at ks c ≡ CloseParen → ⊥
+    → (t : Naming) → (c : ℕ) → HoldsType ks t a c → ends_type (kind_at ks c) ≡ true → ⊥
 no_specifiers ks a m x (Type_of [] ps) c h e = h.1
 no_specifiers ks a m x (Type_of (s ∷ ss) ps) c h e =
     x.no_more s h.2.0 (subst (λ k. HoldSpecifying ks false s k h.2.0) (sym x.reads) h.2.1)

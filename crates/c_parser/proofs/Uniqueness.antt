@@ -5,7 +5,7 @@ use Rattle.c_parser.specs.declared.kinds.Kind.{Kind}
 use Rattle.c_parser.specs.declared.kinds.Kind.TheVariants.{Identifier, Constant, Text, OpenParen, CloseParen, OpenBracket, CloseBracket, Member, Step, Question, Colon, Assignment, End}
 use Rattle.c_parser.specs.Grammar.{IsExpression}
 use Rattle.c_parser.specs.Joining.{followed, preceded}
-use Rattle.c_parser.specs.Kinds.{kind_at, level_at, is_size, operator_at}
+use Rattle.c_parser.specs.Kinds.{kind_at, level_at, is_size, operator_at, ends_type}
 use Rattle.c_parser.specs.Levels.{IsBinary, behinds_level, fronts_level, rank}
 use Rattle.c_parser.specs.Reading.{HoldTexts, Holds, HoldsBehind, HoldBehinds, HoldsFront, HoldFronts, Reads, Stops}
 use Rattle.c_parser.proofs.Marks.{clash, leveled, level_most, stops_at, is_start}
@@ -91,7 +91,7 @@ same_size ks t a b y c e k h l f t' b' (a_constant e' k' f') = absurd (true≢fa
 same_size ks t a b y c e k h l f t' b' (a_text ns e' k' f') = absurd (true≢false (sym k ∙ ap is_size k'))
 same_size ks t a b y c e k h l f t' b' (a_paren u d e' k' r l' f') = absurd (true≢false (sym k ∙ ap is_size k'))
 same_size ks t a b y c e k h l f t' b' (a_size y' c' e' k' o h' l' f') =
-    let same = type_only ks y (a + 2) c h l y' c' h' l' in (
+    let same = type_only ks y (a + 2) c h (ap ends_type l) y' c' h' (ap ends_type l') in (
       e ∙ ap (λ x. Of_type a (a + 1) x c) same.0 ∙ ap (λ x. Of_type a (a + 1) y' x) same.1 ∙ sym e',
       f ∙ ap (λ x. x + 1) same.1 ∙ sym f',
     )
@@ -385,7 +385,7 @@ same_cast : (ks : List Kind) → (o : ℕ) → (y : Naming) → (c a m : ℕ) �
     → (x' : Front) → (m' : ℕ) → Prefixing ks x' a m' → (Cast_of o y c ≡ x') × (m ≡ m')
 same_cast ks o y c a m e k h l f x' m' (an_operator e' k' f') = absurd (true≢false (sym k' ∙ no_cast_operator ks a k))
 same_cast ks o y c a m e k h l f x' m' (a_cast y' c' e' k' z h' l' f') =
-    let same = type_only ks y (a + 1) c h l y' c' h' l' in (
+    let same = type_only ks y (a + 1) c h (ap ends_type l) y' c' h' (ap ends_type l') in (
       ap (λ x. Cast_of x y c) e ∙ ap (λ x. Cast_of a x c) same.0 ∙ ap (λ x. Cast_of a y' x) same.1 ∙ sym e',
       f ∙ ap (λ x. x + 1) same.1 ∙ sym f',
     )
@@ -817,7 +817,7 @@ mutual
 pub reads_only : (ks : List Kind) → (n : ℕ) → (t : Tree) → (a b : ℕ) → 1 ≤ n → Reads ks n t a b → Stops ks n b → Only ks n a t b
 reads_only ks n t a b low h s = placed ks n t a b low h s (own_only ks t a b h.1 (looser ks n (rank ks t) b h.0 s))
 
-past_end : (ks : List Kind) → kind_at ks (length ks) ≡ End
+pub past_end : (ks : List Kind) → kind_at ks (length ks) ≡ End
 past_end [] = refl
 past_end (k ∷ ks) = past_end ks
 

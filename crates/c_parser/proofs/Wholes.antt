@@ -1,17 +1,25 @@
 -- From a reading of the front to one of all tokens.
-use Rattle.std.proofs.Common.{◌≡◌, refl, sym, subst, ℕ, ◌<◌, List, length, arith, None}
+use Rattle.std.proofs.Common.{◌≡◌, refl, ap, sym, subst, ℕ, ◌+◌, ◌<◌, List, length, arith, true, None}
 use Rattle.tree_data.specs.Trees.{Tree}
 use Rattle.c_parser.specs.declared.answers.ParseError.{ParseError}
 use Rattle.c_parser.specs.declared.answers.ParseError.TheVariants as told
 use Rattle.c_parser.specs.declared.answers.Stop.{Stop}
 use Rattle.c_parser.specs.declared.answers.Stop.TheVariants.{Syntax, NoMemory}
 use Rattle.c_parser.specs.declared.kinds.Kind.{Kind}
-use Rattle.c_parser.specs.Reading.{Reads, Found, IsWant, at_front, IsAtFront, IsRefused}
+use Rattle.c_parser.specs.Reading.{Reads, Found, FoundType, IsWant, at_front, IsAtFront, IsRefused, IsDeep}
 use Rattle.c_parser.specs.Brackets.{too_deep}
 use Rattle.c_parser.specs.Grammar.{IsMeaning, IsCause}
 use Rattle.c_parser.proofs.Parsing.{Fails, found_only}
 use Rattle.c_parser.proofs.Spans.{expression_reads, reads_expression}
-use Rattle.c_parser.proofs.Uniqueness.{stops_at_end, reads_only}
+use Rattle.c_parser.proofs.Uniqueness.{past_end, stops_at_end, reads_only}
+use Rattle.tree_data.specs.Names.{Naming}
+use Rattle.c_parser.specs.Grammar.{numbers}
+use Rattle.c_parser.specs.Kinds.{kind_at, ends_type}
+use Rattle.c_parser.specs.TypeMeaning.{IsTypeName, IsTypeMeaning, IsTypeCause}
+use Rattle.c_parser.specs.TypeNames.{spell_type, HoldsType}
+use Rattle.c_parser.proofs.Numbers.{Spans, numbers_span, span_numbers}
+use Rattle.c_parser.proofs.Parsing.{FailsType, OnlyType}
+use Rattle.c_parser.proofs.Types.{type_formed, type_spanned, type_held, type_only}
 
 pub front_is : (e : Stop) → IsAtFront (at_front e)
 front_is (Syntax at) = refl
@@ -45,3 +53,71 @@ pub is_cause : (ks : List Kind) → (e : ParseError) → too_deep ks ≡ None �
 is_cause ks (told.Syntax at) d f h = (f, d, λ u e. h u (expression_reads ks u e))
 is_cause ks (told.TooDeep at) d f h = absurd f
 is_cause ks told.NoMemory d f h = tt
+
+pub deep_cause : (ks : List Kind) → (e : ParseError) → IsDeep ks e → IsCause ks e
+deep_cause ks (told.Syntax at) h = absurd h
+deep_cause ks (told.TooDeep at) h = h
+deep_cause ks told.NoMemory h = tt
+
+-- the same for the name of a type
+ends_at_end : (ks : List Kind) → ends_type (kind_at ks (length ks)) ≡ true
+ends_at_end ks = ap ends_type (past_end ks)
+
+pub type_fails : (ks : List Kind) → (e : Stop) → (r : ParseError) → r ≡ at_front e → FailsType ks 0 e
+    → (t : Naming) → HoldsType ks t 0 (length ks) → IsRefused r
+type_fails ks e r is fails t h =
+    subst IsRefused (sym is) (want_is e (fails t (length ks) h (ends_at_end ks)))
+
+pub more_than_a_type : (ks : List Kind) → (t : Naming) → (b : ℕ) → OnlyType ks 0 t b → b < length ks
+    → (u : Naming) → HoldsType ks u 0 (length ks) → ⊥
+more_than_a_type ks t b only lt u h =
+    let end : b ≡ length ks = (only u (length ks) h (ends_at_end ks)).1 in
+    omega arith
+
+pub type_to_end : (ks : List Kind) → (t : Naming) → (b : ℕ) → FoundType ks 0 t b → (b < length ks → ⊥) → HoldsType ks t 0 (length ks)
+type_to_end ks t b found not =
+    let inside = found.inside in
+    let end : b ≡ length ks = omega arith in
+    subst (λ k. HoldsType ks t 0 k) end found.reads
+
+type_reads : (ks : List Kind) → (t : Naming) → IsTypeName ks t → HoldsType ks t 0 (length ks)
+type_reads ks t e =
+    let all : 0 + length ks ≡ length ks = omega arith in
+    type_held
+    ks
+    t
+    0
+    (length ks)
+    e.proper
+    (subst
+    (λ xs. Spans xs 0 (length ks))
+    (sym e.spells)
+    (subst (λ b. Spans (numbers 0 (length ks)) 0 b) all (numbers_span (length ks) 0)))
+
+reads_type : (ks : List Kind) → (t : Naming) → HoldsType ks t 0 (length ks) → IsTypeName ks t
+reads_type ks t h =
+    let all : length ks ≡ 0 + length ks = omega arith in
+    record {
+      proper = type_formed ks t 0 (length ks) h;
+      spells = span_numbers (spell_type t) 0 (length ks) (length ks) (type_spanned ks t 0 (length ks) h) all;
+    }
+
+only_to_end : (ks : List Kind) → (t u : Naming) → HoldsType ks t 0 (length ks) → IsTypeName ks u → t ≡ u
+only_to_end ks t u h e = (type_only ks t 0 (length ks) h (ends_at_end ks) u (length ks) (type_reads ks u e) (ends_at_end ks)).0
+
+pub type_unique : (ks : List Kind) → (t u : Naming) → IsTypeName ks t → IsTypeName ks u → t ≡ u
+type_unique ks t u x y = only_to_end ks t u (type_reads ks t x) y
+
+pub is_type_meaning : (ks : List Kind) → (t : Naming) → too_deep ks ≡ None → HoldsType ks t 0 (length ks) → IsTypeMeaning ks t
+is_type_meaning ks t d h = record { shallow = d; proper = reads_type ks t h; only = λ u e. only_to_end ks t u h e }
+
+pub is_type_cause : (ks : List Kind) → (e : ParseError) → too_deep ks ≡ None → IsAtFront e
+    → ((u : Naming) → HoldsType ks u 0 (length ks) → IsRefused e) → IsTypeCause ks e
+is_type_cause ks (told.Syntax at) d f h = (f, d, λ u e. h u (type_reads ks u e))
+is_type_cause ks (told.TooDeep at) d f h = absurd f
+is_type_cause ks told.NoMemory d f h = tt
+
+pub deep_type_cause : (ks : List Kind) → (e : ParseError) → IsDeep ks e → IsTypeCause ks e
+deep_type_cause ks (told.Syntax at) h = absurd h
+deep_type_cause ks (told.TooDeep at) h = h
+deep_type_cause ks told.NoMemory h = tt

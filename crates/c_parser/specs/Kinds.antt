@@ -1,7 +1,7 @@
 -- The kinds of tokens by their numbers, and what those of operators begin or go on with (ISO C11 6.5).
 use Rattle.std.specs.Prelude.{ℕ, ◌+◌, ◌-◌, ◌<◌, ◌&&◌, not, List, length, slice_index_or, Bool, true, false}
 use Rattle.c_parser.specs.declared.kinds.Kind.{Kind}
-use Rattle.c_parser.specs.declared.kinds.Kind.TheVariants.{Identifier, TypeName, OpenParen, OpenBracket, Member, Step, SizeOf, AlignOf, TypeWord, Qualifier, Tag, Complement, Question, Assignment, Comma, Or, And, Bar, Caret, Ampersand, Equality, Relation, Shift, Sign, Star, Quotient, End}
+use Rattle.c_parser.specs.declared.kinds.Kind.TheVariants.{Identifier, TypeName, OpenParen, CloseParen, OpenBracket, Member, Step, SizeOf, AlignOf, TypeWord, Qualifier, Tag, Complement, Question, Assignment, Comma, Or, And, Bar, Caret, Ampersand, Equality, Relation, Shift, Sign, Star, Quotient, End}
 
 -- the level of precedence at which an expression goes on with such a token behind it, 0 where it doesn't: 1 for `,`,
 -- 2 for assignment, 3 for `?`, from `||` at 4 to `*` at 13, 16 for postfix operators
@@ -79,6 +79,12 @@ starts_type Qualifier = true
 starts_type Tag = true
 starts_type TypeName = true
 starts_type _ = false
+
+-- in front of such a token the name of a type may end: `)`, and behind all tokens
+abbrev pub ends_type : Kind → Bool
+ends_type CloseParen = true
+ends_type End = true
+ends_type _ = false
 
 -- of the token with this number, `End` behind the last
 abbrev pub kind_at : List Kind → ℕ → Kind

@@ -5,4 +5,5 @@ pub mod Kinds
 pub mod Levels
 pub mod Reading
 pub mod Tokens
+pub mod TypeMeaning
 pub mod TypeNames

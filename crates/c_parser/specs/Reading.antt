@@ -1,5 +1,5 @@
 -- A proper tree by the place at which its tokens begin and the place behind them, which is what the parser reads.
-use Rattle.std.specs.Prelude.{◌≡◌, ℕ, ◌+◌, ◌<◌, ◌≤◌, List, [], ◌∷◌, length, Result, Ok, Err, true, false}
+use Rattle.std.specs.Prelude.{◌≡◌, ℕ, ◌+◌, ◌<◌, ◌≤◌, List, [], ◌∷◌, length, Result, Ok, Err, Some, true, false}
 use Rattle.tree_data.specs.Trees.{Tree, Name_of, Constant_of, Text_of, Paren_of, Postfix_of, Unary_of, Binary_of, Conditional_of, Assign_of, Of_type, Behind, Operand_of, Index_of, Call_of, Call_with_of, Member_of, Step_of, Behinds, None_behind, Behind_then, Front, Operator_of, Cast_of, Choice_of, Left_of, Fronts, None_before, Front_then}
 use Rattle.c_parser.specs.declared.answers.ParseError.{ParseError}
 use Rattle.c_parser.specs.declared.answers.ParseError.TheVariants as told
@@ -7,6 +7,7 @@ use Rattle.c_parser.specs.declared.answers.Stop.{Stop}
 use Rattle.c_parser.specs.declared.answers.Stop.TheVariants.{Syntax, NoMemory}
 use Rattle.c_parser.specs.declared.kinds.Kind.{Kind}
 use Rattle.c_parser.specs.declared.kinds.Kind.TheVariants.{Identifier, Constant, Text, OpenParen, CloseParen, OpenBracket, CloseBracket, Member, Step, Question, Colon, Assignment}
+use Rattle.c_parser.specs.Brackets.{too_deep}
 use Rattle.c_parser.specs.Grammar.{IsMore, IsBefore, goes_on}
 use Rattle.c_parser.specs.Kinds.{kind_at, level_at, operator_at, casts_at, type_at, is_size, is_word}
 use Rattle.c_parser.specs.TypeNames.{HoldsType}
@@ -159,3 +160,9 @@ abbrev pub IsRefused : ParseError → Type 0
 IsRefused (told.Syntax at) = ⊥
 IsRefused (told.TooDeep at) = ⊥
 IsRefused told.NoMemory = Unit {0}
+
+-- this error is for brackets that nest too deep, or for want of memory
+abbrev pub IsDeep : List Kind → ParseError → Type 0
+IsDeep ks (told.Syntax at) = ⊥
+IsDeep ks (told.TooDeep at) = too_deep ks ≡ Some at
+IsDeep ks told.NoMemory = Unit {0}

@@ -13,4 +13,4 @@ mod whole;
 
 pub use answers::ParseError;
 pub use names::NameSet;
-pub use whole::{parse_expr, reading_is_unique};
+pub use whole::{parse_expr, parse_type_name, reading_is_unique, type_reading_is_unique};

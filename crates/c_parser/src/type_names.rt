@@ -1,8 +1,7 @@
 // Names of types (ISO C11 6.7.7): specifiers and qualifiers, and pointers.
-ghost use Rattle.std.specs.Prelude.{◌≡◌, ◌||◌, ℕ, ◌+◌, ◌<◌, ◌≤◌, length, map, IfOk, IfErr, IfSome, IfNone};
+ghost use Rattle.std.specs.Prelude.{◌≡◌, ◌||◌, true, ℕ, ◌+◌, ◌<◌, ◌≤◌, length, map, IfOk, IfErr, IfSome, IfNone};
 ghost use Rattle.tree_data.specs.Names.{Naming};
 ghost use Rattle.tree_data.specs.Types.{specifying, pointing, type_of};
-ghost use Rattle.c_parser.specs.declared.kinds.Kind.TheVariants.{CloseParen};
 ghost use Rattle.c_parser.specs.Kinds as spec;
 ghost use Rattle.c_parser.specs.Reading.{FoundType, MustGive};
 ghost use Rattle.c_parser.specs.TypeNames.{HoldSpecifying, HoldsType, NoMore, FoundSpecifiers, FoundQualifiers, FoundPointers, has_type};
@@ -10,7 +9,7 @@ ghost use Rattle.c_parser.specs.TypeNames.{HoldSpecifying, HoldsType, NoMore, Fo
 use crate::answers::Stop;
 use crate::kinds::{Kind, kind_at};
 use std::alloc::Global;
-use tree_data::{Pointer, Specifier, TypeName};
+use tree_data::{Declarator, Pointer, Specifier, Specs, TypeName};
 
 // The specifier that stands here, the place behind it, and whether a type specifier has stood by then.
 fn specifier(kinds: &[Kind], at: u32, typed: bool) -> Option<(Specifier, u32, bool)>
@@ -110,12 +109,12 @@ fn pointers(alloc: Global, kinds: &[Kind], at: u32) -> Result<(Vec<Pointer>, u32
     }
 }
 
-// The name of a type, of which a `)` has to be the end.
+// The name of a type, behind which a `)` or nothing has to stand.
 pub(crate) fn type_name(alloc: Global, kinds: &[Kind], at: u32) -> Result<(TypeName, u32), Stop>
     requires size { length kinds.now ≤ 2000000 }
     requires inside { at ≤ length kinds.now }
     ensures found { IfOk result (λ r. FoundType kinds.now at (type_of r.0) r.1) }
-    ensures only { (t : Naming) → (end : ℕ) → HoldsType kinds.now t at end → spec.kind_at kinds.now end ≡ CloseParen
+    ensures only { (t : Naming) → (end : ℕ) → HoldsType kinds.now t at end → spec.ends_type (spec.kind_at kinds.now end) ≡ true
         → MustGive result (λ r. (type_of r.0 ≡ t) × (r.1 ≡ end)) }
 {
     let (specifiers, behind) = match specifiers(alloc, kinds, at) {
@@ -130,8 +129,8 @@ pub(crate) fn type_name(alloc: Global, kinds: &[Kind], at: u32) -> Result<(TypeN
         Err(stop) => return Err(stop),
     };
     let name = TypeName {
-        specifiers,
-        pointers,
+        specs: Specs { specifiers },
+        declarator: Declarator { pointers },
     };
     Ok((name, end))
 }

@@ -1,9 +1,14 @@
-// An expression that takes all tokens.
-ghost use Rattle.std.specs.Prelude.{◌≡◌, ◌≤◌, length, IfOk, IfErr};
+// An expression, or the name of a type, that takes all tokens.
+ghost use Rattle.std.specs.Prelude.{◌≡◌, ◌≤◌, length, IfOk, IfErr, None};
+ghost use Rattle.tree_data.specs.Names.{Naming};
 ghost use Rattle.tree_data.specs.Seen.{tree_of};
 ghost use Rattle.tree_data.specs.Trees.{Tree};
+ghost use Rattle.tree_data.specs.Types.{naming, type_of};
+ghost use Rattle.c_parser.specs.Brackets.{too_deep};
 ghost use Rattle.c_parser.specs.Grammar.{IsMeaning, IsCause, ReadingIsUnique};
-ghost use Rattle.c_parser.specs.Reading.{Reads, at_front, IsAtFront, IsRefused};
+ghost use Rattle.c_parser.specs.Reading.{Reads, at_front, IsAtFront, IsRefused, IsDeep};
+ghost use Rattle.c_parser.specs.TypeMeaning.{IsTypeMeaning, IsTypeCause, TypeReadingIsUnique};
+ghost use Rattle.c_parser.specs.TypeNames.{HoldsType};
 ghost use Rattle.c_parser.specs.Tokens as spec;
 
 use crate::answers::{ParseError, Stop};
@@ -12,9 +17,10 @@ use crate::expressions::{EXPRESSION, level};
 use crate::kinds::Kind;
 use crate::names::NameSet;
 use crate::tokens::kinds_of;
+use crate::type_names::type_name;
 use std::alloc::Global;
 use tok_data::OutToken;
-use tree_data::Expr;
+use tree_data::{Declarator, Expr, Specs, TypeName};
 
 // Where the parser stopped is not told: a fault falls on the first token.
 fn at_front(stop: Stop) -> ParseError
@@ -42,6 +48,26 @@ fn whole(alloc: Global, kinds: &[Kind]) -> Result<Expr, ParseError>
     Ok(expr)
 }
 
+// The kinds of the tokens, whose brackets nest no deeper than they may.
+fn shallow_kinds(
+    alloc: Global,
+    tokens: &[OutToken],
+    names: &NameSet,
+) -> Result<Vec<Kind>, ParseError>
+    requires { length tokens.now ≤ 2000000 }
+    ensures kinds { IfOk result (λ v. v.items ≡ spec.kinds_of names.now tokens.now) }
+    ensures shallow { IfOk result (λ v. too_deep v.items ≡ None) }
+    ensures deep { IfErr result (λ e. IsDeep (spec.kinds_of names.now tokens.now) e) }
+{
+    let Ok(kinds) = kinds_of(alloc, tokens, names) else {
+        return Err(ParseError::NoMemory);
+    };
+    if let Some(at) = too_deep(kinds.as_slice()) {
+        return Err(ParseError::TooDeep(at));
+    }
+    Ok(kinds)
+}
+
 /// The one expression that the tokens spell, all of them (ISO C11 6.5). Compound literals, `_Generic` and `__offsetof` are
 /// not in its grammar yet; of type names (6.7.7) those are whose specifiers are keywords, qualifiers, a tag or a typedef
 /// name, and whose declarator is pointers. An identifier among `names` is a typedef name, and `( name )` the front of a
@@ -54,17 +80,62 @@ pub fn parse_expr(alloc: Global, tokens: &[OutToken], names: &NameSet) -> Result
     ensures meaning { IfOk result (λ e. IsMeaning (spec.kinds_of names.now tokens.now) (tree_of e)) }
     ensures cause { IfErr result (λ e. IsCause (spec.kinds_of names.now tokens.now) e) }
 {
-    let Ok(kinds) = kinds_of(alloc, tokens, names) else {
-        return Err(ParseError::NoMemory);
+    let kinds = match shallow_kinds(alloc, tokens, names) {
+        Ok(kinds) => kinds,
+        Err(error) => return Err(error),
     };
-    if let Some(at) = too_deep(kinds.as_slice()) {
-        return Err(ParseError::TooDeep(at));
-    }
     match whole(alloc, kinds.as_slice()) {
         Ok(expr) => Ok(expr),
         Err(error) => Err(error),
     }
 }
+
+fn whole_type(alloc: Global, kinds: &[Kind]) -> Result<TypeName, ParseError>
+    requires { length kinds.now ≤ 2000000 }
+    ensures found { IfOk result (λ t. HoldsType kinds.now (type_of t) 0 (length kinds.now)) }
+    ensures only { IfErr result (λ e. (t : Naming) → HoldsType kinds.now t 0 (length kinds.now) → IsRefused e) }
+    ensures place { IfErr result IsAtFront }
+{
+    let (name, end) = match type_name(alloc, kinds, 0) {
+        Ok(found) => found,
+        Err(stop) => return Err(at_front(stop)),
+    };
+    if (end as usize) < kinds.len() {
+        return Err(ParseError::Syntax(0));
+    }
+    Ok(name)
+}
+
+/// The one name of a type that the tokens spell, all of them (ISO C11 6.7.7): specifiers and qualifiers, and an abstract
+/// declarator. Of specifiers its grammar has keywords, qualifiers, tags without braces and, where no type specifier stands
+/// before it, a typedef name, which is an identifier among `names`; of declarators it has pointers. Arrays, functions,
+/// braces and `_Atomic` are not in it yet. The tokens are at most 2,000,000.
+///
+/// Errors: TooDeep with the bracket that opens the 257th level, which is looked for first; Syntax(0) exactly where
+/// no name of the grammar spells the tokens and no bracket is too deep; NoMemory.
+pub fn parse_type_name(
+    alloc: Global,
+    tokens: &[OutToken],
+    names: &NameSet,
+) -> Result<(Specs, Declarator), ParseError>
+    requires { length tokens.now ≤ 2000000 }
+    ensures meaning { IfOk result (λ r. IsTypeMeaning (spec.kinds_of names.now tokens.now) (naming r.0 r.1)) }
+    ensures cause { IfErr result (λ e. IsTypeCause (spec.kinds_of names.now tokens.now) e) }
+{
+    let kinds = match shallow_kinds(alloc, tokens, names) {
+        Ok(kinds) => kinds,
+        Err(error) => return Err(error),
+    };
+    match whole_type(alloc, kinds.as_slice()) {
+        Ok(name) => Ok((name.specs, name.declarator)),
+        Err(error) => Err(error),
+    }
+}
+
+/// Unique reading of the names of types: no two spell the same tokens. It has nothing to run; its contract is the law.
+pub fn type_reading_is_unique()
+    ensures { TypeReadingIsUnique }
+{}
 
 /// Unique reading: no two trees of the grammar spell the same tokens. It has nothing to run; its contract is the law.
 pub fn reading_is_unique()

@@ -1,17 +1,18 @@
-// Expressions, line by line: a line `names` with typedef names, then texts of one line each. Behind each stands its tree
-// as an S-expression, or why there is none.
+// Expressions and names of types, line by line: a line `names` with typedef names, then texts of one line each, those of
+// names behind the word `type-name`. Behind each stands its tree as an S-expression, or why there is none.
 #![tactic(auto)]
 
 mod reading;
 mod shown;
 
-use c_parser::{NameSet, ParseError, parse_expr};
+use c_parser::{NameSet, ParseError, parse_expr, parse_type_name};
 use reading::tokens_of;
 use shared_text::Name;
-use shown::shown;
+use shown::{shown, shown_name};
 use std::alloc::{AllocError, Global};
 use std::io;
 use std::io::Read;
+use tok_data::OutToken;
 
 // More tokens are no expression.
 const MOST_TOKENS: usize = 2_000_000;
@@ -24,10 +25,15 @@ fn names_of(alloc: Global, line: &str) -> Result<NameSet, AllocError> {
     Ok(NameSet::from_vec(names))
 }
 
-fn show(rt: &HostRuntime, names: &NameSet, line: &str) -> io::Result<()> {
-    println!(rt; "> {line}")?;
-    let tokens = tokens_of(rt.alloc(), line)?;
-    let tokens = tokens.as_slice();
+fn show_error(rt: &HostRuntime, error: ParseError) -> io::Result<()> {
+    match error {
+        ParseError::Syntax(at) => println!(rt; "syntax {at}"),
+        ParseError::TooDeep(at) => println!(rt; "too deep {at}"),
+        ParseError::NoMemory => println!(rt; "no memory"),
+    }
+}
+
+fn show_expr(rt: &HostRuntime, names: &NameSet, tokens: &[OutToken]) -> io::Result<()> {
     if MOST_TOKENS < tokens.len() {
         return Ok(());
     }
@@ -37,9 +43,35 @@ fn show(rt: &HostRuntime, names: &NameSet, line: &str) -> io::Result<()> {
             let text = text.as_str();
             println!(rt; "{text}")
         }
-        Err(ParseError::Syntax(at)) => println!(rt; "syntax {at}"),
-        Err(ParseError::TooDeep(at)) => println!(rt; "too deep {at}"),
-        Err(ParseError::NoMemory) => println!(rt; "no memory"),
+        Err(error) => show_error(rt, error),
+    }
+}
+
+fn show_type_name(rt: &HostRuntime, names: &NameSet, tokens: &[OutToken]) -> io::Result<()> {
+    if MOST_TOKENS < tokens.len() {
+        return Ok(());
+    }
+    match parse_type_name(rt.alloc(), tokens, names) {
+        Ok((specs, declarator)) => {
+            let text = shown_name(rt.alloc(), tokens, &specs, &declarator)?;
+            let text = text.as_str();
+            println!(rt; "{text}")
+        }
+        Err(error) => show_error(rt, error),
+    }
+}
+
+fn show(rt: &HostRuntime, names: &NameSet, line: &str) -> io::Result<()> {
+    println!(rt; "> {line}")?;
+    match line.strip_prefix("type-name") {
+        Some(text) => {
+            let tokens = tokens_of(rt.alloc(), text)?;
+            show_type_name(rt, names, tokens.as_slice())
+        }
+        None => {
+            let tokens = tokens_of(rt.alloc(), line)?;
+            show_expr(rt, names, tokens.as_slice())
+        }
     }
 }
 

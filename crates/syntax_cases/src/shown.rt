@@ -1,7 +1,7 @@
 // Trees as S-expressions.
 use std::alloc::{AllocError, Global};
 use tok_data::OutToken;
-use tree_data::{Choice, Expr, Prefix, Specifier, Suffix, TypeName};
+use tree_data::{Choice, Declarator, Expr, Prefix, Specifier, Specs, Suffix, TypeName};
 
 fn spelling(tokens: &[OutToken], at: u32) -> &str {
     match tokens.get(at as usize) {
@@ -99,14 +99,19 @@ fn show_specifier(
     }
 }
 
-fn show_type(out: &mut String, tokens: &[OutToken], name: &TypeName) -> Result<(), AllocError> {
+fn show_name(
+    out: &mut String,
+    tokens: &[OutToken],
+    specs: &Specs,
+    declarator: &Declarator,
+) -> Result<(), AllocError> {
     out.push_str("(type (specs")?;
-    for specifier in &name.specifiers {
+    for specifier in &specs.specifiers {
         out.push_str(" ")?;
         show_specifier(out, tokens, specifier)?;
     }
     out.push_str(") ")?;
-    for pointer in &name.pointers {
+    for pointer in &declarator.pointers {
         out.push_str("(ptr ")?;
         for qualifier in &pointer.qualifiers {
             spell(out, tokens, *qualifier)?;
@@ -114,7 +119,7 @@ fn show_type(out: &mut String, tokens: &[OutToken], name: &TypeName) -> Result<(
         }
     }
     out.push_str("_")?;
-    close(out, name.pointers.len())?;
+    close(out, declarator.pointers.len())?;
     out.push_str(")")
 }
 
@@ -123,7 +128,7 @@ fn open_prefix(out: &mut String, tokens: &[OutToken], prefix: &Prefix) -> Result
         Prefix::Operator(at) => open_unary(out, tokens, *at),
         Prefix::Cast(_, name, _) => {
             out.push_str("(cast ")?;
-            show_type(out, tokens, name)?;
+            show_name(out, tokens, &name.specs, &name.declarator)?;
             out.push_str(" ")
         }
     }
@@ -140,7 +145,7 @@ fn show_of_type(
         true => out.push_str("(sizeof ")?,
         false => out.push_str("(alignof ")?,
     }
-    show_type(out, tokens, name)?;
+    show_name(out, tokens, &name.specs, &name.declarator)?;
     out.push_str(")")
 }
 
@@ -261,5 +266,17 @@ fn show(out: &mut String, tokens: &[OutToken], expr: &Expr) -> Result<(), AllocE
 pub fn shown(alloc: Global, tokens: &[OutToken], expr: &Expr) -> Result<String, AllocError> {
     let mut out = String::new(alloc);
     show(&mut out, tokens, expr)?;
+    Ok(out)
+}
+
+/// The name of a type of these tokens.
+pub fn shown_name(
+    alloc: Global,
+    tokens: &[OutToken],
+    specs: &Specs,
+    declarator: &Declarator,
+) -> Result<String, AllocError> {
+    let mut out = String::new(alloc);
+    show_name(&mut out, tokens, specs, declarator)?;
     Ok(out)
 }

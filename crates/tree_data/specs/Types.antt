@@ -3,6 +3,8 @@ use Rattle.std.specs.Prelude.{ℕ, Bool, true, false, List, [], ◌∷◌, map}
 use Rattle.tree_data.specs.declared.types.Specifier.{Specifier}
 use Rattle.tree_data.specs.declared.types.Specifier.TheVariants as word
 use Rattle.tree_data.specs.declared.types.Pointer.{Pointer}
+use Rattle.tree_data.specs.declared.types.Specs.{Specs}
+use Rattle.tree_data.specs.declared.types.Declarator.{Declarator}
 use Rattle.tree_data.specs.declared.types.TypeName.{TypeName}
 use Rattle.tree_data.specs.declared.types.Prefix.{Prefix}
 use Rattle.tree_data.specs.declared.types.Prefix.TheVariants.{Operator, Cast}
@@ -17,8 +19,11 @@ specifying (word.Tag k n) = Tag_of k n
 abbrev pub pointing : Pointer → ℕ × List ℕ
 pointing p = (p.star, p.qualifiers.items)
 
+abbrev pub naming : Specs → Declarator → Naming
+naming specs declarator = Type_of (map specifying specs.specifiers.items) (map pointing declarator.pointers.items)
+
 abbrev pub type_of : TypeName → Naming
-type_of t = Type_of (map specifying t.specifiers.items) (map pointing t.pointers.items)
+type_of t = naming t.specs t.declarator
 
 abbrev pub prefix_of : Prefix → Front
 prefix_of (Operator n) = Operator_of n

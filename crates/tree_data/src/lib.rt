@@ -7,4 +7,4 @@ mod types;
 
 pub use expr::Expr;
 pub use parts::{Choice, Suffix};
-pub use types::{Pointer, Prefix, Specifier, TypeName};
+pub use types::{Declarator, Pointer, Prefix, Specifier, Specs, TypeName};

@@ -21,11 +21,23 @@ pub struct Pointer {
     pub qualifiers: Vec<u32>,
 }
 
-/// The name of a type (6.7.7): specifiers and qualifiers, at least one, and the pointers of an abstract declarator.
+/// Specifiers and qualifiers as they stand, at least one (6.7, 6.7.2.1).
+#[derive(Drop)]
+pub struct Specs {
+    pub specifiers: Vec<Specifier>,
+}
+
+/// A declarator (6.7.6, 6.7.7), so far one without a name: its pointers, of which the first is outermost.
+#[derive(Drop)]
+pub struct Declarator {
+    pub pointers: Vec<Pointer>,
+}
+
+/// The name of a type (6.7.7).
 #[derive(Drop)]
 pub struct TypeName {
-    pub specifiers: Vec<Specifier>,
-    pub pointers: Vec<Pointer>,
+    pub specs: Specs,
+    pub declarator: Declarator,
 }
 
 /// What stands in front of an operand (6.5.3, 6.5.4).
