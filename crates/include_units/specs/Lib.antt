@@ -1,0 +1,11 @@
+pub mod Files
+pub mod Texts
+pub mod Made
+pub mod Literals
+pub mod Runs
+pub mod Coming
+pub mod Conditionals
+pub mod Definitions
+pub mod Inclusion
+pub mod Units
+pub mod Going

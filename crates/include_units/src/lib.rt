@@ -1,0 +1,24 @@
+// The tokens of a unit (ISO C11 6.10): directives, conditionals, inclusion and macro expansion.
+#![tactic(auto)]
+
+mod conditionals;
+mod definitions;
+mod grown;
+mod heads;
+mod inclusion;
+mod laws;
+mod literals;
+mod made;
+mod runs;
+mod texts;
+mod tokens;
+mod told;
+mod types;
+mod unit;
+mod units;
+
+pub use laws::{
+    FileQuestions, UnitResults, files_are_lawful, units_are_right, units_ask_in_order, units_end,
+};
+pub use types::{Entered, Entry, FileAnswer, Go, Paths, PpTokens, UnitTokens, Want, Wants};
+pub use unit::{Unit, are_short, are_usable};

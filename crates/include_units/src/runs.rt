@@ -1,0 +1,295 @@
+// Text lines (ISO C11 6.10p4 to p7): a run of them is one list that is expanded.
+ghost use Rattle.std.specs.Prelude.{◌≡◌, ◌≤◌, ◌++◌, ◌∷◌, [], IfOk, OnOk, IfSome, length, drop};
+ghost use Rattle.std.specs.FinMap as map;
+ghost use Rattle.macro_expand.specs.Expansion.{expanded};
+ghost use Rattle.include_units.specs.Coming.{Comes};
+ghost use Rattle.include_units.specs.Runs as spec;
+
+use crate::literals::all_open;
+use crate::made::Made;
+use crate::texts::{OwnText, Source, Text};
+use crate::tokens::{is_mark, is_word};
+use crate::told::{Stop, places_at};
+use crate::types::{FileAnswer, Want};
+use c_tokens::{Places, lex};
+use macro_expand::{Expanded, expand};
+use std::alloc::{AllocError, Global};
+use tok_data::{OutToken, OutTokens, PpKind, TokId};
+use uri_paths::Path;
+
+fn start_of(places: &[(u32, u32)], at: u32) -> u32
+    ensures { result ≡ spec.start_of places.now at }
+{
+    match places.get(at as usize) {
+        Some(place) => place.0,
+        None => 0,
+    }
+}
+
+fn from_one(line: u32) -> u32
+    ensures { result ≡ spec.from_one line }
+{
+    if line < u32::MAX {
+        return line + 1;
+    }
+    line
+}
+
+// The line, from 1, on which a token begins.
+fn line_of(places: &Places, at: u32) -> u32
+    ensures { result ≡ spec.line_of places.now at }
+{
+    let start = start_of(places.places.as_slice(), at);
+    from_one(places.lines.line(start))
+}
+
+fn lines_by(
+    alloc: Global,
+    places: &Places,
+    tokens: &[OutToken],
+) -> Result<Vec<(TokId, u32)>, AllocError>
+    ensures { IfOk result (λ lines. lines.items ≡ spec.lines_by places.now tokens.now) }
+{
+    let mut lines = Vec::new(alloc);
+    let mut rest = tokens;
+    while let Some((token, behind)) = rest.split_first() {
+        rest = behind;
+        let site = token.site.copy()?;
+        lines.push((site, line_of(places, token.site.at)))?;
+    }
+    Ok(lines)
+}
+
+fn own_places(alloc: Global, text: &OwnText) -> Result<Places, AllocError>
+    ensures { IfOk result (λ places. places ≡ spec.own_places text.now) }
+{
+    let text = text.as_str();
+    let lexed = lex(alloc, text)?;
+    let (_tokens, places) = lexed.split(alloc, text)?;
+    Ok(places)
+}
+
+// The lines of tokens of a text.
+pub(crate) fn lines_in(
+    alloc: Global,
+    files: &[(Path, FileAnswer)],
+    source: &Source,
+    tokens: &[OutToken],
+) -> Result<Vec<(TokId, u32)>, Stop>
+    ensures { Comes files.now (spec.lines_in source.now tokens.now) (λ lines. lines.items) result }
+{
+    match source {
+        Source::Own(text) => {
+            let places = own_places(alloc, text)?;
+            let lines = lines_by(alloc, &places, tokens)?;
+            Ok(lines)
+        }
+        Source::File(path) => match places_at(files, path) {
+            Some(places) => {
+                let lines = lines_by(alloc, places, tokens)?;
+                Ok(lines)
+            }
+            None => {
+                let path = path.share()?;
+                Err(Stop::Need(Want::Lines(path)))
+            }
+        },
+    }
+}
+
+fn expand_in(
+    alloc: Global,
+    files: &[(Path, FileAnswer)],
+    text: &Text,
+    tokens: &[OutToken],
+    made: &Made,
+) -> Result<Expanded, Stop>
+    ensures { Comes files.now (spec.expand_in text.now tokens.now made.now) (λ e. e) result }
+{
+    let first = expand(alloc, tokens, &made.table, &[], made.left)?;
+    let None = first.asked else {
+        return expand_with_lines(alloc, files, text, tokens, made);
+    };
+    Ok(first)
+}
+
+fn expand_with_lines(
+    alloc: Global,
+    files: &[(Path, FileAnswer)],
+    text: &Text,
+    tokens: &[OutToken],
+    made: &Made,
+) -> Result<Expanded, Stop>
+    ensures { Comes files.now (spec.expand_again text.now tokens.now made.now) (λ e. e) result }
+{
+    match lines_in(alloc, files, &text.source, tokens) {
+        Ok(lines) => {
+            let again = expand(alloc, tokens, &made.table, lines.as_slice(), made.left)?;
+            Ok(again)
+        }
+        Err(stop) => Err(stop),
+    }
+}
+
+fn with_expansion(expanded: Expanded, made: &mut Made) -> Result<OutTokens, AllocError>
+    ensures tokens { IfOk result (λ ts. ts ≡ expanded.tokens) }
+    ensures made { OnOk result (made.new ≡ spec.with_expansion expanded made.old) }
+{
+    let Expanded {
+        tokens,
+        used,
+        faults,
+        spelled,
+        macros,
+        asked: _,
+    } = expanded;
+    made.left = made.left.saturating_sub(used);
+    made.faults.extend(faults.into_vec())?;
+    made.spelled.extend(spelled.into_vec())?;
+    made.macros.extend(macros.into_vec())?;
+    Ok(tokens)
+}
+
+// Expands tokens of a text; they are given, and the rest is noted.
+pub(crate) fn expanded_run(
+    alloc: Global,
+    files: &[(Path, FileAnswer)],
+    text: &Text,
+    tokens: &[OutToken],
+    made: &mut Made,
+) -> Result<OutTokens, Stop>
+    ensures { Comes files.now (spec.expanded_run text.now tokens.now made.old) (λ ts. spec.run ts made.new) result }
+{
+    match expand_in(alloc, files, text, tokens, made) {
+        Ok(expanded) => {
+            let tokens = with_expansion(expanded, made)?;
+            Ok(tokens)
+        }
+        Err(stop) => Err(stop),
+    }
+}
+
+fn is_string(kind: PpKind) -> bool
+    ensures { result ≡ spec.is_string kind }
+{
+    match kind {
+        PpKind::Str => true,
+        _ => false,
+    }
+}
+
+fn closes_pragma(tokens: &[OutToken]) -> bool
+    ensures { result ≡ spec.closes_pragma tokens.now }
+{
+    match tokens.split_first() {
+        Some((token, _)) => is_mark(")", token),
+        None => false,
+    }
+}
+
+fn pragma_string(tokens: &[OutToken]) -> bool
+    ensures { result ≡ spec.pragma_string tokens.now }
+{
+    match tokens.split_first() {
+        Some((token, behind)) => is_string(token.kind) && closes_pragma(behind),
+        None => false,
+    }
+}
+
+fn opens_pragma(tokens: &[OutToken]) -> bool
+    ensures { result ≡ spec.opens_pragma tokens.now }
+{
+    match tokens.split_first() {
+        Some((token, behind)) => is_mark("(", token) && pragma_string(behind),
+        None => false,
+    }
+}
+
+// `_Pragma ( string-literal )` stands here.
+fn is_pragma(token: &OutToken, behind: &[OutToken]) -> bool
+    ensures { result ≡ spec.is_pragma token.now behind.now }
+{
+    is_word("_Pragma", token) && opens_pragma(behind)
+}
+
+fn is_stray(kind: PpKind) -> bool
+    ensures { result ≡ spec.is_stray kind }
+{
+    match kind {
+        PpKind::Stray => true,
+        _ => false,
+    }
+}
+
+fn drop_token(alloc: Global, token: &OutToken, made: &mut Made) -> Result<(), AllocError>
+    ensures { OnOk result (made.new ≡ spec.dropped token.now made.old) }
+{
+    if made.full {
+        return Ok(());
+    }
+    made.full = true;
+    made.add_fault(alloc, 228, &token.site, "")
+}
+
+fn keep_token(alloc: Global, token: &OutToken, made: &mut Made) -> Result<(), AllocError>
+    ensures { OnOk result (made.new ≡ spec.kept token.now made.old) }
+{
+    let copy = token.copy()?;
+    made.tokens.push(copy)?;
+    if is_stray(token.kind) {
+        return made.add_fault(alloc, 103, &token.site, "");
+    }
+    Ok(())
+}
+
+const MOST_TOKENS: usize = 2_000_000;
+
+fn put_token(alloc: Global, token: &OutToken, made: &mut Made) -> Result<(), AllocError>
+    ensures { OnOk result (made.new ≡ spec.with_token token.now made.old) }
+{
+    if made.tokens.as_slice().len() < MOST_TOKENS {
+        return keep_token(alloc, token, made);
+    }
+    drop_token(alloc, token, made)
+}
+
+// Adds what is left of an expansion to the output.
+fn put_output(alloc: Global, tokens: &[OutToken], made: &mut Made) -> Result<(), AllocError>
+    ensures { OnOk result (made.new ≡ spec.with_output (spec.without_pragmas 0 tokens.now) made.old) }
+{
+    let mut skip = 0usize;
+    let mut rest = tokens;
+    while let Some((token, behind)) = rest.split_first() {
+        rest = behind;
+        if 0 < skip {
+            skip -= 1;
+            continue;
+        }
+        if is_pragma(token, behind) {
+            skip = 3;
+            continue;
+        }
+        put_token(alloc, token, made)?;
+    }
+    Ok(())
+}
+
+// Reads a run of text lines in a group that is taken.
+pub(crate) fn run_of(
+    alloc: Global,
+    files: &[(Path, FileAnswer)],
+    text: &Text,
+    tokens: &[OutToken],
+    made: &mut Made,
+) -> Result<(), Stop>
+    ensures { Comes files.now (spec.run_of text.now tokens.now made.old) (λ _. made.new) result }
+{
+    all_open(alloc, tokens, made)?;
+    match expanded_run(alloc, files, text, tokens, made) {
+        Ok(output) => {
+            put_output(alloc, output.as_slice(), made)?;
+            Ok(())
+        }
+        Err(stop) => Err(stop),
+    }
+}

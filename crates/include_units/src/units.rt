@@ -1,0 +1,541 @@
+// The tokens of a unit (ISO C11 5.1.1.2p1, 6.10): its texts, part by part, with the conditionals that are open.
+ghost use Rattle.std.specs.Prelude.{◌≡◌, ◌≤◌, ◌∷◌, ◌++◌, [], IfOk, OnOk, IfSome, length, option_map, string_bytes};
+ghost use Rattle.include_units.specs.Coming.{Comes, AreShort};
+ghost use Rattle.include_units.specs.Conditionals.{stand};
+ghost use Rattle.include_units.specs.Inclusion.{led};
+ghost use Rattle.include_units.specs.Units as spec;
+
+use crate::conditionals::{
+    Opens, elif_group, else_group, endif_line, fault_where, if_group, ifdef_group, unclosed,
+};
+use crate::definitions::{define_line, undef_line};
+use crate::inclusion::{Lead, include_line, joined};
+use crate::literals::open_where;
+use crate::made::Made;
+use crate::runs::run_of;
+use crate::texts::{Front, OwnText, Part, Source, Text, next_part};
+use crate::tokens::{is_ident, is_word};
+use crate::told::{Stop, tokens_at};
+use crate::types::{Entered, FileAnswer, PpTokens, UnitTokens, Want};
+use c_tokens::lex;
+use project_conf::{Define, UnitConf};
+use shared_text::Name;
+use std::alloc::{AllocError, Global};
+use tok_data::{FileId, OutToken, PpToken, TokId};
+use uri_paths::Path;
+
+// `#error`.
+fn error_line(
+    alloc: Global,
+    name: &OutToken,
+    tokens: &[OutToken],
+    made: &mut Made,
+) -> Result<(), AllocError>
+    ensures { OnOk result (made.new ≡ spec.error_line name.now tokens.now made.old) }
+{
+    let text = joined(alloc, tokens)?;
+    made.add_fault(alloc, 227, &name.site, text.as_str())
+}
+
+fn begins_once(tokens: &[OutToken]) -> bool
+    ensures { result ≡ spec.begins_once tokens.now }
+{
+    match tokens.split_first() {
+        Some((token, _)) => is_word("once", token),
+        None => false,
+    }
+}
+
+fn once_in(source: &Source, made: &mut Made) -> Result<(), AllocError>
+    ensures { OnOk result (made.new ≡ spec.once_in source.now made.old) }
+{
+    match source {
+        Source::File(path) => {
+            let path = path.share()?;
+            made.once.push(path)
+        }
+        Source::Own(_) => Ok(()),
+    }
+}
+
+// `#pragma`.
+fn pragma_line(text: &Text, tokens: &[OutToken], made: &mut Made) -> Result<(), AllocError>
+    ensures { OnOk result (made.new ≡ spec.pragma_line text.now tokens.now made.old) }
+{
+    if begins_once(tokens) {
+        return once_in(&text.source, made);
+    }
+    Ok(())
+}
+
+// A directive that is no part of a conditional and no `#include`, in a group that is taken.
+#[tactic(auto, unfolding(crate::specs::Units::plain_line))]
+fn plain_line(
+    alloc: Global,
+    text: &Text,
+    name: &OutToken,
+    tokens: &[OutToken],
+    made: &mut Made,
+) -> Result<(), AllocError>
+    ensures { OnOk result (made.new ≡ spec.plain_line text.now name.now tokens.now made.old) }
+{
+    if is_word("define", name) {
+        return define_line(alloc, name, tokens, made);
+    }
+    if is_word("undef", name) {
+        return undef_line(alloc, name, tokens, made);
+    }
+    if is_word("error", name) {
+        return error_line(alloc, name, tokens, made);
+    }
+    if is_word("pragma", name) {
+        return pragma_line(text, tokens, made);
+    }
+    if is_word("line", name) {
+        return Ok(());
+    }
+    made.add_fault(alloc, 221, &name.site, "")
+}
+
+#[tactic(auto, unfolding(crate::specs::Units::control_line))]
+fn control_line(
+    alloc: Global,
+    folders: &[Path],
+    files: &[(Path, FileAnswer)],
+    deep: bool,
+    text: &Text,
+    name: &OutToken,
+    tokens: &[OutToken],
+    made: &mut Made,
+) -> Result<Lead, Stop>
+    ensures { Comes files.now (spec.control_line folders.now deep text.now name.now tokens.now made.old) (λ lead. led lead made.new) result }
+{
+    if is_word("include", name) {
+        return include_line(alloc, folders, files, deep, text, name, tokens, made);
+    }
+    plain_line(alloc, text, name, tokens, made)?;
+    Ok(Lead::On)
+}
+
+// A directive that is no part of a conditional.
+fn other_line(
+    alloc: Global,
+    folders: &[Path],
+    files: &[(Path, FileAnswer)],
+    deep: bool,
+    text: &Text,
+    name: &OutToken,
+    tokens: &[OutToken],
+    opens: &Opens,
+    made: &mut Made,
+) -> Result<Lead, Stop>
+    ensures { Comes files.now (spec.other_line folders.now deep text.now name.now tokens.now opens.now made.old) (λ lead. spec.walked lead opens.now made.new) result }
+{
+    if opens.is_taken() {
+        return match control_line(alloc, folders, files, deep, text, name, tokens, made) {
+            Ok(lead) => Ok(lead),
+            Err(stop) => Err(stop),
+        };
+    }
+    Ok(Lead::On)
+}
+
+// `#ifdef`, `#ifndef`, `#else` and `#endif`.
+#[tactic(auto, unfolding(crate::specs::Units::group_line))]
+fn group_line(
+    alloc: Global,
+    name: &OutToken,
+    tokens: &[OutToken],
+    opens: &mut Opens,
+    made: &mut Made,
+) -> Result<(), AllocError>
+    ensures { OnOk result (stand opens.new made.new ≡ spec.group_line name.now tokens.now opens.old made.old) }
+{
+    if is_word("ifdef", name) {
+        return ifdef_group(alloc, name, true, tokens, opens, made);
+    }
+    if is_word("ifndef", name) {
+        return ifdef_group(alloc, name, false, tokens, opens, made);
+    }
+    if is_word("else", name) {
+        return else_group(alloc, name, tokens, opens, made);
+    }
+    endif_line(alloc, name, tokens, opens, made)
+}
+
+#[tactic(auto, unfolding(crate::specs::Units::is_group))]
+fn is_group(name: &OutToken) -> bool
+    ensures { result ≡ spec.is_group name.now }
+{
+    if is_word("ifdef", name) {
+        return true;
+    }
+    if is_word("ifndef", name) {
+        return true;
+    }
+    if is_word("else", name) {
+        return true;
+    }
+    is_word("endif", name)
+}
+
+// A directive by its name.
+#[tactic(auto, unfolding(crate::specs::Units::named_line))]
+fn named_line(
+    alloc: Global,
+    folders: &[Path],
+    files: &[(Path, FileAnswer)],
+    deep: bool,
+    text: &Text,
+    name: &OutToken,
+    tokens: &[OutToken],
+    opens: &mut Opens,
+    made: &mut Made,
+) -> Result<Lead, Stop>
+    ensures { Comes files.now (spec.named_line folders.now deep text.now name.now tokens.now opens.old made.old) (λ lead. spec.walked lead opens.new made.new) result }
+{
+    if is_word("if", name) {
+        return match if_group(alloc, files, text, name, tokens, opens, made) {
+            Ok(()) => Ok(Lead::On),
+            Err(stop) => Err(stop),
+        };
+    }
+    if is_word("elif", name) {
+        return match elif_group(alloc, files, text, name, tokens, opens, made) {
+            Ok(()) => Ok(Lead::On),
+            Err(stop) => Err(stop),
+        };
+    }
+    if is_group(name) {
+        group_line(alloc, name, tokens, opens, made)?;
+        return Ok(Lead::On);
+    }
+    other_line(alloc, folders, files, deep, text, name, tokens, opens, made)
+}
+
+fn goes_on(name: &OutToken) -> bool
+    ensures { result ≡ spec.goes_on name.now }
+{
+    is_word("elif", name) || is_word("else", name) || is_word("endif", name)
+}
+
+// The group in which a directive stands is taken.
+fn stands_taken(name: &OutToken, opens: &Opens) -> bool
+    ensures { result ≡ spec.stands_taken name.now opens.now }
+{
+    if goes_on(name) {
+        return opens.is_outer_taken();
+    }
+    opens.is_taken()
+}
+
+fn directive(
+    alloc: Global,
+    folders: &[Path],
+    files: &[(Path, FileAnswer)],
+    deep: bool,
+    text: &Text,
+    hash: &OutToken,
+    tokens: &[OutToken],
+    opens: &mut Opens,
+    made: &mut Made,
+) -> Result<Lead, Stop>
+    ensures { Comes files.now (spec.directive folders.now deep text.now hash.now tokens.now opens.old made.old) (λ lead. spec.walked lead opens.new made.new) result }
+{
+    let Some((name, behind)) = tokens.split_first() else {
+        return Ok(Lead::On);
+    };
+    let taken = stands_taken(name, opens);
+    open_where(alloc, taken, tokens, made)?;
+    if is_ident(name.kind) {
+        return named_line(alloc, folders, files, deep, text, name, behind, opens, made);
+    }
+    fault_where(alloc, opens.is_taken(), 221, &hash.site, made)?;
+    Ok(Lead::On)
+}
+
+fn text_lines(
+    alloc: Global,
+    files: &[(Path, FileAnswer)],
+    text: &Text,
+    tokens: &[OutToken],
+    opens: &Opens,
+    made: &mut Made,
+) -> Result<Lead, Stop>
+    ensures { Comes files.now (spec.text_lines text.now tokens.now opens.now made.old) (λ lead. spec.walked lead opens.now made.new) result }
+{
+    if !opens.is_taken() {
+        return Ok(Lead::On);
+    }
+    match run_of(alloc, files, text, tokens, made) {
+        Ok(()) => Ok(Lead::On),
+        Err(stop) => Err(stop),
+    }
+}
+
+// Reads a part of a text, and says where it leads.
+fn read_part(
+    alloc: Global,
+    folders: &[Path],
+    files: &[(Path, FileAnswer)],
+    deep: bool,
+    text: &Text,
+    part: &Part,
+    opens: &mut Opens,
+    made: &mut Made,
+) -> Result<Lead, Stop>
+    ensures { Comes files.now (spec.part folders.now deep text.now part.now opens.old made.old) (λ lead. spec.walked lead opens.new made.new) result }
+{
+    match part {
+        Part::Run(tokens) => text_lines(alloc, files, text, tokens.as_slice(), opens, made),
+        Part::Directive(hash, tokens) => directive(
+            alloc,
+            folders,
+            files,
+            deep,
+            text,
+            hash,
+            tokens.as_slice(),
+            opens,
+            made,
+        ),
+    }
+}
+
+// The tokens of a text, as they are told or as they are lexed.
+#[derive(Debug, Drop)]
+enum Tokens<'a> {
+    Told(&'a [PpToken]),
+    Lexed(PpTokens),
+}
+
+impl Tokens<'_> {
+    fn as_slice(&self) -> &[PpToken]
+        ensures { result.now ≡ spec.listed self.now }
+    {
+        match self {
+            Tokens::Told(tokens) => tokens,
+            Tokens::Lexed(tokens) => tokens.as_slice(),
+        }
+    }
+}
+
+fn own_tokens(alloc: Global, text: &OwnText) -> Result<PpTokens, AllocError>
+    ensures value { IfOk result (λ ts. ts ≡ spec.own_tokens text.now) }
+    ensures short { IfOk result (λ ts. length ts ≤ 4290772992) }
+{
+    let lexed = lex(alloc, text.as_str())?;
+    Ok(lexed.tokens)
+}
+
+fn tokens_of<'a>(
+    alloc: Global,
+    files: &'a [(Path, FileAnswer)],
+    source: &Source,
+) -> Result<Tokens<'a>, Stop>
+    requires { AreShort files.now }
+    ensures value { Comes files.now (spec.tokens_of source.now) (λ tokens. spec.listed tokens) result }
+    ensures short { IfOk result (λ tokens. length (spec.listed tokens) ≤ 4290772992) }
+{
+    match source {
+        Source::Own(text) => {
+            let tokens = own_tokens(alloc, text)?;
+            Ok(Tokens::Lexed(tokens))
+        }
+        Source::File(path) => match tokens_at(files, path) {
+            Some(tokens) => Ok(Tokens::Told(tokens)),
+            None => {
+                let path = path.share()?;
+                Err(Stop::Need(Want::Text(path)))
+            }
+        },
+    }
+}
+
+fn read_in(source: &Source, made: &mut Made) -> Result<(), AllocError>
+    ensures { OnOk result (made.new ≡ spec.read_in source.now made.old) }
+{
+    match source {
+        Source::File(path) => made.add_read(path),
+        Source::Own(_) => Ok(()),
+    }
+}
+
+fn entering(text: &Text, by: TokId, tokens: &[PpToken], made: &mut Made) -> Result<(), AllocError>
+    ensures { OnOk result (made.new ≡ spec.entering text.now by tokens.now made.old) }
+{
+    read_in(&text.source, made)?;
+    made.inclusion = made.inclusion.saturating_sub(tokens.len());
+    let file = FileId::from_name(text.name.share()?);
+    made.entered.push(Entered { file, by })
+}
+
+// Texts may be entered at this depth.
+fn is_deep(depth: u8) -> bool
+    ensures { result ≡ spec.is_deep depth }
+{
+    0 < depth
+}
+
+// Reads the tokens of a text, in which texts are entered so deep at most.
+fn text_tokens(
+    alloc: Global,
+    folders: &[Path],
+    files: &[(Path, FileAnswer)],
+    depth: u8,
+    text: &Text,
+    tokens: &[PpToken],
+    made: &mut Made,
+) -> Result<(), Stop>
+    requires told { AreShort files.now }
+    requires short { length tokens.now ≤ 4290772992 }
+    ensures { Comes files.now (spec.text_tokens folders.now depth text.now tokens.now made.old) (λ _. made.new) result }
+{
+    let deep = is_deep(depth);
+    let mut opens = Opens::new(alloc);
+    let mut at = 0;
+    let mut rest = tokens;
+    while let Some(front) = next_part(alloc, &text.name, at, rest)? {
+        let Front {
+            part,
+            at: next,
+            behind,
+        } = front;
+        at = next;
+        rest = behind;
+        match read_part(alloc, folders, files, deep, text, &part, &mut opens, made) {
+            Ok(Lead::On) => continue,
+            Ok(Lead::Into(inner, by)) => {
+                if depth == 0 {
+                    continue;
+                }
+                match tokens_of(alloc, files, &inner.source) {
+                    Ok(found) => {
+                        entering(&inner, by, found.as_slice(), made)?;
+                        match text_tokens(
+                            alloc,
+                            folders,
+                            files,
+                            depth - 1,
+                            &inner,
+                            found.as_slice(),
+                            made,
+                        ) {
+                            Ok(()) => continue,
+                            Err(stop) => return Err(stop),
+                        }
+                    }
+                    Err(stop) => return Err(stop),
+                }
+            }
+            Err(stop) => return Err(stop),
+        }
+    }
+    unclosed(alloc, &opens, made)?;
+    Ok(())
+}
+
+fn read_text(
+    alloc: Global,
+    folders: &[Path],
+    files: &[(Path, FileAnswer)],
+    text: &Text,
+    made: &mut Made,
+) -> Result<(), Stop>
+    requires { AreShort files.now }
+    ensures { Comes files.now (spec.read_text folders.now text.now made.old) (λ _. made.new) result }
+{
+    match tokens_of(alloc, files, &text.source) {
+        Ok(tokens) => text_tokens(alloc, folders, files, 200, text, tokens.as_slice(), made),
+        Err(stop) => Err(stop),
+    }
+}
+
+fn push_define(out: &mut String, define: &Define) -> Result<(), AllocError>
+    ensures { OnOk result (string_bytes out.new ≡ string_bytes out.old ++ spec.line_of define.now) }
+{
+    match define {
+        Define::Set(name, text) => push_set(out, name.as_str(), text.as_str()),
+        Define::Unset(name) => push_unset(out, name.as_str()),
+    }
+}
+
+fn push_set(out: &mut String, name: &str, text: &str) -> Result<(), AllocError>
+    ensures { OnOk result (string_bytes out.new ≡ string_bytes out.old ++ spec.set_line name.now text.now) }
+{
+    out.push_str("#define ")?;
+    out.push_str(name)?;
+    out.push_str(" ")?;
+    out.push_str(text)?;
+    out.push_str("\n")
+}
+
+fn push_unset(out: &mut String, name: &str) -> Result<(), AllocError>
+    ensures { OnOk result (string_bytes out.new ≡ string_bytes out.old ++ spec.unset_line name.now) }
+{
+    out.push_str("#undef ")?;
+    out.push_str(name)?;
+    out.push_str("\n")
+}
+
+const GIVEN: &str =
+    "#define __STDC__ 1\n#define __STDC_VERSION__ 201112L\n#define __STDC_HOSTED__ 1\n#define __STDC_NO_ATOMICS__ 1\n#define __STDC_NO_COMPLEX__ 1\n#define __STDC_NO_THREADS__ 1\n#define __STDC_NO_VLA__ 1\n#define __DATE__ \"Jan  1 1970\"\n#define __TIME__ \"00:00:00\"\n";
+
+fn command_text(alloc: Global, defines: &[Define]) -> Result<String, AllocError>
+    ensures { IfOk result (λ text. string_bytes text ≡ spec.command_text defines.now) }
+{
+    let mut out = String::from_str(alloc, GIVEN)?;
+    let mut rest = defines;
+    while let Some((define, behind)) = rest.split_first() {
+        rest = behind;
+        push_define(&mut out, define)?;
+    }
+    Ok(out)
+}
+
+fn command_of(alloc: Global, defines: &[Define]) -> Result<Text, AllocError>
+    requires { length (spec.command_text defines.now) ≤ 4290772992 }
+    ensures { IfOk result (λ text. text ≡ spec.command_of defines.now) }
+{
+    let text = command_text(alloc, defines)?;
+    let own = OwnText::from_str(alloc, text.as_str())?;
+    let name = Name::from_str(alloc, "<command>")?;
+    Ok(Text {
+        name,
+        source: Source::Own(own),
+    })
+}
+
+fn file_of(alloc: Global, path: &Path) -> Result<Text, AllocError>
+    ensures { IfOk result (λ text. text ≡ spec.file_of path.now) }
+{
+    let name = Name::from_str(alloc, path.as_str())?;
+    let path = path.share()?;
+    Ok(Text {
+        name,
+        source: Source::File(path),
+    })
+}
+
+// The tokens of a unit, as far as what it asks is told.
+pub(crate) fn unit_tokens(
+    alloc: Global,
+    conf: &UnitConf,
+    files: &[(Path, FileAnswer)],
+) -> Result<UnitTokens, Stop>
+    requires told { AreShort files.now }
+    requires short { length (spec.command_text conf.now.defines) ≤ 4290772992 }
+    ensures { Comes files.now (spec.unit_tokens conf.now) (λ unit. unit) result }
+{
+    let command = command_of(alloc, conf.defines.as_slice())?;
+    let file = file_of(alloc, &conf.file)?;
+    let folders = conf.includes.as_slice();
+    let mut made = Made::at_first(alloc, &conf.file)?;
+    match read_text(alloc, folders, files, &command, &mut made) {
+        Ok(()) => match read_text(alloc, folders, files, &file, &mut made) {
+            Ok(()) => Ok(made.told()),
+            Err(stop) => Err(stop),
+        },
+        Err(stop) => Err(stop),
+    }
+}
