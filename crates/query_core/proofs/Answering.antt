@@ -7,7 +7,7 @@ use Rattle.std.specs.Option.{option_map}
 use Rattle.query_core.specs.Lists.{Has}
 use Rattle.query_core.specs.Stored.{Stored, node_at}
 use Rattle.query_core.specs.Answering.{pairs_at, IsNumbered}
-use Rattle.query_core.specs.declared.store.Node.{Node}
+use Rattle.query_core.specs.Node.{Node}
 
 pub any_from : (i : ℕ) (js : List ℕ) → Has js i → list_any (nat_eq i) js ≡ true
 any_from i [] h = absurd h

@@ -6,11 +6,11 @@ use Rattle.std.specs.Option.{option_map_or}
 use Rattle.query_core.specs.Lists.{Has}
 use Rattle.query_core.specs.Queries.{Queries, AreLawful}
 use Rattle.query_core.specs.Graph.{Held, at, node_of, record_of, inputs}
-use Rattle.query_core.specs.Stored.{Stored, Changes, Adds, node_at}
+use Rattle.query_core.specs.Stored.{Stored, Changes, Adds, node_at, Prepares}
 use Rattle.query_core.specs.Answering.{IsNumbered}
 use Rattle.query_core.specs.Soundness.{IsSound, IsUnswept}
 use Rattle.query_core.specs.Changes.{Puts, SetsInput, IsFresh, IsStamped, Moves}
-use Rattle.query_core.specs.declared.store.Node.{Node}
+use Rattle.query_core.specs.Node.{Node}
 use Rattle.query_core.proofs.Puts.{Keeps, sound_puts, unswept_puts, same_key}
 
 pub is_some_from : {X : Type 0} (o : Option X) (x : X) → o ≡ Some x → IsSome o
@@ -23,7 +23,7 @@ lookup_same f h s k (e ∷ es) = ap (λ b. cond b (Some e.1) (lookup (f k) es)) 
 module _ {K V : Type 0} where
   -- the graph of a store
   abbrev pub held : Stored K V → ℕ → List K → Held K V
-  held s revision runs = record { nodes = s.nodes; numbers = s.numbers; revision = revision; runs = runs }
+  held s revision runs = record { nodes = s.nodes; numbers = s.numbers; revision = revision; runs = runs; demanded_at = s.clean_at }
 
   -- the record at a node that the store names
   pub stored_node : (q : Queries K V) (eq : K → K → Bool) (same : (a b : K) → eq a b ≡ q.same a b) (s : Stored K V) (n : ℕ) (rs : List K) → IsSound q (held s n rs)
@@ -159,9 +159,10 @@ module _ {K V : Type 0} where
         ] refl
 
   -- what setting an input has to show
-  pub record SetDone (q : Queries K V) (old new : Held K V) (k : K) (v : V) : Type 0 where
+  pub record SetDone (q : Queries K V) (old new : Held K V) (k : K) (v : V) (i : ℕ) : Type 0 where
     pub sound : IsSound q new
     pub sets : SetsInput q old new k v
+    pub node_is : sets.node ≡ i
     pub fresh : IsFresh q new
     pub unswept : IsUnswept q old → IsUnswept q new
 
@@ -170,7 +171,7 @@ module _ {K V : Type 0} where
     pub set_done : (i : ℕ) (r : Node K V) → Puts q (held s n rs) (held s' n rs) i r → r.key ≡ k → r.value ≡ v → r.reads ≡ [] → r.input ≡ true → r.verified_at ≤ n → r.changed_at ≤ n
         → IsStamped n (record_of q (held s n rs) k) r
         → ((e : Node K V) → at (held s n rs) i ≡ Some e → ((r.value ≡ e.value) × (r.changed_at ≡ e.changed_at)) ⊎ (r.changed_at ≡ n))
-        → SetDone q (held s n rs) (held s' n rs) k v
+        → SetDone q (held s n rs) (held s' n rs) k v i
     set_done i r puts key value none flag va ca stamped still =
         let is' : q.is_input r.key ≡ true = subst (λ x. q.is_input x ≡ true) (sym key) is in
         let keeps = input_keeps q laws (held s n rs) sound fresh i r is' flag none (va, ca) still in
@@ -189,15 +190,17 @@ module _ {K V : Type 0} where
             given = λ x. given_puts q laws (held s n rs) (held s' n rs) i r sound puts is' x
                 ∙ ap (λ y. cond (q.same y x) r.value (inputs q (held s n rs) x)) key ∙ ap (λ w. cond (q.same k x) w (inputs q (held s n rs) x)) value;
           };
+          node_is = refl;
           fresh = fresh_puts q laws (held s n rs) sound fresh (held s' n rs) i r puts is';
         }
 
-    pub set_changed : (veq : V → V → Bool) → ((a b : V) → veq a b ≡ true → a ≡ b) → ((a : V) → veq a a ≡ true) → (i : ℕ) → lookup (eq k) s.numbers ≡ Some i → (reads : List ℕ) → reads ≡ []
-        → ((r : Node K V) → node_at s i ≡ Some r → Changes s s' i (record { key = r.key; value = v; reads = reads; input = r.input; verified_at = n; changed_at = cond (veq r.value v) r.changed_at n }))
-        → SetDone q (held s n rs) (held s' n rs) k v
-    set_changed veq means itself i found reads none ch =
+    pub set_changed : (veq : V → V → Bool) → ((a b : V) → veq a b ≡ true → a ≡ b) → ((a : V) → veq a a ≡ true) → (i : ℕ) → lookup (eq k) s.numbers ≡ Some i
+        → ((r : Node K V) → node_at s i ≡ Some r → Changes s s' i (record { key = r.key; value = v; reads = r.reads; input = r.input; verified_at = n; changed_at = cond (veq r.value v) r.changed_at n }))
+        → SetDone q (held s n rs) (held s' n rs) k v i
+    set_changed veq means itself i found ch =
         let st = stored_node q eq same s n rs sound k i found in
-        let new : Node K V = record { key = st.0.key; value = v; reads = reads; input = st.0.input; verified_at = n; changed_at = cond (veq st.0.value v) st.0.changed_at n } in
+        let none = sound.inputs i st.0 st.1 (subst (λ x. q.is_input x ≡ true) (sym st.2) is) in
+        let new : Node K V = record { key = st.0.key; value = v; reads = st.0.reads; input = st.0.input; verified_at = n; changed_at = cond (veq st.0.value v) st.0.changed_at n } in
         let puts = puts_changes q laws s s' n rs rs sound i st.0 new st.1 refl (ch st.0 st.1) in
         let moves : Moves n st.0 new = moves_if veq means itself n st.0 new refl in
         let was : record_of q (held s n rs) k ≡ Some st.0 = ap (λ o. option_map_or (at (held s n rs)) o None) (sym (lookup_same eq q.same same k s.numbers) ∙ found) ∙ st.1 in
@@ -208,10 +211,18 @@ module _ {K V : Type 0} where
         (elim moves [ inl p ↦ inl p | inr p ↦ inr p.1 ]))
 
     pub set_added : lookup (eq k) s.numbers ≡ None → (i : ℕ) (reads : List ℕ) → reads ≡ [] → Adds eq s s' i (record { key = k; value = v; reads = reads; input = true; verified_at = n; changed_at = n })
-        → SetDone q (held s n rs) (held s' n rs) k v
+        → SetDone q (held s n rs) (held s' n rs) k v i
     set_added absent i reads none ad =
         let new : Node K V = record { key = k; value = v; reads = reads; input = true; verified_at = n; changed_at = n } in
         let puts = puts_adds q eq same s s' n rs rs i new absent ad in
         let was : record_of q (held s n rs) k ≡ None = ap (λ o. option_map_or (at (held s n rs)) o None) (sym (lookup_same eq q.same same k s.numbers) ∙ absent) in
         set_done i new puts refl refl none refl (omega arith) (omega arith) (subst (λ o. IsStamped n o new) (sym was) refl)
         (λ e at_e. inr refl)
+
+  -- a store was prepared for the value of an input, and then has it
+  pub prepared_changes : (same : V → V → Bool) (s s1 s' : Stored K V) (i : ℕ) (v : V) (n : ℕ) → Prepares same s s1 i v
+      → ((r : Node K V) → node_at s1 i ≡ Some r → Changes s1 s' i (record { key = r.key; value = v; reads = r.reads; input = r.input; verified_at = n; changed_at = cond (same r.value v) r.changed_at n }))
+      → (r : Node K V) → node_at s i ≡ Some r → Changes s s' i (record { key = r.key; value = v; reads = r.reads; input = r.input; verified_at = n; changed_at = cond (same r.value v) r.changed_at n })
+  prepared_changes same s s1 s' i v n p ch r e =
+      let c = ch r (p.nodes i ∙ e) in
+      record { here = c.here; others = λ j ne. c.others j ne ∙ p.nodes j; numbers = c.numbers ∙ p.numbers }

@@ -6,9 +6,9 @@ use Rattle.query_core.specs.Queries.{Queries, AreLawful}
 use Rattle.query_core.specs.Graph.{Held, at, node_of, record_of, inputs, is_current, is_verified}
 use Rattle.query_core.specs.Soundness.{IsSound, IsUnswept}
 use Rattle.query_core.specs.Due.{HasChangedRead, IsDue}
-use Rattle.query_core.specs.Changes.{Moves, IsReached, IsRun, IsRunBy, LeavesBy, WalkedBy, ran}
+use Rattle.query_core.specs.Changes.{Moves, IsReached, IsRun, IsRunBy, LeavesBy, IsHolding, Walked, WalkedBy, ran}
 use Rattle.query_core.specs.Laws.{IsReachedFrom, VerifiedHolds, DemandsBegin, DemandsGoOn, DueBefore, HeldOn}
-use Rattle.query_core.specs.declared.store.Node.{Node}
+use Rattle.query_core.specs.Node.{Node}
 use Rattle.query_core.proofs.Words.{Has-left, Has-right, Has-middle, Each-at, Each-append, Each-map}
 use Rattle.query_core.proofs.Reading.{record_is, verified_is, record_none}
 use Rattle.query_core.proofs.Values.{current_value}
@@ -207,25 +207,37 @@ module _ {K V : Type 0} (q : Queries K V) (laws : AreLawful q) where
   pub due_before_demands : DueBefore q
   due_before_demands g0 g1 roots sound0 w k isnt stale due = due_was g0 g1 sound0 (IsReachedFrom (q.asks (inputs q g0)) roots) w k isnt stale due
 
-  pub demands_go_on : DemandsGoOn q
-  demands_go_on g0 g1 g2 roots root sound0 w1 w2 =
-      let P = IsReachedFrom (q.asks (inputs q g0)) roots in
-      let R = IsReachedFrom (q.asks (inputs q g0)) (roots ++ root ∷ []) in
-      let Q = IsReached (q.asks (inputs q g1)) root in
-      let in_first : (k : K) → P k → R k = λ k h. (h.0, (Has-left roots (root ∷ []) h.0 h.1.0, h.1.1)) in
-      let in_second : (k : K) → Q k → R k = λ k h. (root, (Has-middle roots [] root, subst (λ I. IsReached (q.asks I) root k) w1.leaves.inputs_stay h)) in
+  -- what was done, and then done from there, by what either reached
+  pub walked_join : (g0 g1 g2 : Held K V) (P Q R : K → Type 0) → IsSound q g0 → WalkedBy q g0 P g1 → WalkedBy q g1 Q g2 → ((k : K) → P k → R k) → ((k : K) → Q k → R k) → WalkedBy q g0 R g2
+  walked_join g0 g1 g2 P Q R sound0 w1 w2 in_first in_second =
       let a1 = ran g0 g1 in
       let a2 = ran g1 g2 in
       let apart : (k : K) → Has a1 k → ¬ Has a2 k =
-      (λ k h m. let yes = ran_verified g0 g1 w1.unswept a1 w1.leaves.runs k h in let run = Each-at (IsRun q g1 root) a2 k w2.due m in let no = run.stale in let bad : ⊥ = cc in bad) in
+      (λ k h m. let yes = ran_verified g0 g1 w1.unswept a1 w1.leaves.runs k h in let run = Each-at (IsRunBy q g1 Q) a2 k w2.due m in let no = run.stale in let bad : ⊥ = cc in bad) in
       let joined = left_join g0 g1 g2 P Q R in_first in_second a1 a2 (left_from g0 g1 P w1.leaves) (left_from g1 g2 Q w2.leaves) apart in
       let first : Each (IsRunBy q g0 R) a1 = Each-map (IsRunBy q g0 P) (IsRunBy q g0 R) a1 (λ k h run. record { reached = in_first k run.reached; stale = run.stale; due = run.due }) w1.due in
-      let second : Each (IsRunBy q g0 R) a2 = Each-map (IsRun q g1 root) (IsRunBy q g0 R) a2 (λ k h run. record {
+      let second : Each (IsRunBy q g0 R) a2 = Each-map (IsRunBy q g1 Q) (IsRunBy q g0 R) a2 (λ k h run. record {
         reached = in_second k run.reached;
         stale = stale_was g0 g1 sound0 P w1 k run.stale;
         due = due_was g0 g1 sound0 P w1 k (ran_no_input g1 g2 w2.unswept a2 w2.leaves.runs k h) run.stale run.due;
       }) w2.due in
       walked_from q g0 R g2 (a1 ++ a2) w2.sound w2.unswept joined (Each-append (IsRunBy q g0 R) a1 a2 first second)
+
+  pub demands_go_on : DemandsGoOn q
+  demands_go_on g0 g1 g2 roots root sound0 w1 w2 =
+      walked_join g0 g1 g2 (IsReachedFrom (q.asks (inputs q g0)) roots) (IsReached (q.asks (inputs q g1)) root) (IsReachedFrom (q.asks (inputs q g0)) (roots ++ root ∷ [])) sound0 w1 w2
+      (λ k h. (h.0, (Has-left roots (root ∷ []) h.0 h.1.0, h.1.1)))
+      (λ k h. (root, (Has-middle roots [] root, subst (λ I. IsReached (q.asks I) root k) w1.leaves.inputs_stay h)))
+
+  -- a demand from a graph in which the clean records count as verified now is one from the graph before
+  pub walked_after : (g0 g1 g2 : Held K V) (root : K) → IsSound q g0 → WalkedBy q g0 (λ k. ⊥) g1 → Walked q g1 root g2 → Walked q g0 root g2
+  walked_after g0 g1 g2 root sound0 w1 w2 =
+      walked_join g0 g1 g2 (λ k. ⊥) (IsReached (q.asks (inputs q g1)) root) (IsReached (q.asks (inputs q g0)) root) sound0 w1 w2 (λ k h. absurd h)
+      (λ k h. subst (λ I. IsReached (q.asks I) root k) w1.leaves.inputs_stay h)
+
+  -- and its node holds what it would hold
+  pub holding_after : (g0 g1 g2 : Held K V) (root : K) (node : ℕ) → inputs q g1 ≡ inputs q g0 → IsHolding q g1 g2 root node → IsHolding q g0 g2 root node
+  holding_after g0 g1 g2 root node same h = (h.0, (h.1.0, h.1.1, h.1.2, h.1.3, h.1.4 ∙ ap (λ I. q.val I root) same))
 
   pub held_on : HeldOn q
   held_on g0 g1 g2 root k node sound1 inputs_same w h =

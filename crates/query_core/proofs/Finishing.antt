@@ -9,10 +9,10 @@ use Rattle.query_core.specs.Stored.{Stored, Changes, Adds, node_at}
 use Rattle.query_core.specs.Soundness.{IsSound, IsUnswept}
 use Rattle.query_core.specs.Changes.{Puts, IsStamped, Moves}
 use Rattle.query_core.specs.Walk.{IsSettled, IsSettledTo, IsOutdated, IsEntry, Finishes}
-use Rattle.query_core.specs.declared.store.Node.{Node}
+use Rattle.query_core.specs.Node.{Node}
 use Rattle.query_core.proofs.Words.{Each-at}
 use Rattle.query_core.proofs.Reading.{record_is, verified_is, record_none}
-use Rattle.query_core.proofs.Puts.{sound_puts, unswept_puts}
+use Rattle.query_core.proofs.Puts.{Keeps, sound_puts, unswept_puts}
 use Rattle.query_core.proofs.Calls.{held, stored_node, puts_changes, puts_adds, moves_if, lookup_same}
 use Rattle.query_core.proofs.Steps.{stamped_current, touch_keeps, enter_keeps, unset_keeps}
 
@@ -21,6 +21,7 @@ pub record FinishDone {K V : Type 0} (q : Queries K V) (old new : Held K V) (k :
   pub sound : IsSound q new
   pub unswept : IsUnswept q new
   pub finishes : Finishes q old new k i
+  pub keeps : Keeps q old i finishes.entry
 
 module _ {K V : Type 0} where
   -- a key that isn't verified didn't run in this revision
@@ -31,7 +32,7 @@ module _ {K V : Type 0} where
       let v = verified_is q g k h.0 h.1.0 h.1.1.0 h.1.1.1 in
       let bad : ⊥ = cc in bad
 
-  module _ (q : Queries K V) (laws : AreLawful q) (eq : K → K → Bool) (same : (a b : K) → eq a b ≡ q.same a b) (s s' : Stored K V) (n : ℕ) (rs rs' : List K) (sound : IsSound q (held s n rs)) (unswept : IsUnswept q (held s n rs)) (k : K) where
+  module _ (q : Queries K V) (laws : AreLawful q) (eq : K → K → Bool) (same : (a b : K) → eq a b ≡ q.same a b) (s s' : Stored K V) (n : ℕ) (rs rs' : List K) (sound : IsSound q (held s n rs)) (unswept : IsUnswept q (held s n rs)) (same_at : s'.clean_at ≡ s.clean_at) (k : K) where
     pub touch_done : (i : ℕ) → rs' ≡ rs → node_of q (held s n rs) k ≡ Some i → q.is_input k ≡ false → is_verified q (held s n rs) k ≡ false
         → ((r : Node K V) → node_at s i ≡ Some r → IsSettledTo q (held s n rs) r (length r.reads))
         → ((r : Node K V) → node_at s i ≡ Some r → Changes s s' i (record r { verified_at = n })) → FinishDone q (held s n rs) (held s' n rs') k i
@@ -44,7 +45,8 @@ module _ {K V : Type 0} where
         record {
           sound = sound_puts q laws (held s n rs) (held s' n rs') i (record r { verified_at = n }) sound puts keeps (inl runs);
           unswept = unswept_puts q laws (held s n rs) (held s' n rs') i (record r { verified_at = n }) sound puts keeps unswept (inl runs);
-          finishes = record { entry = record r { verified_at = n }; puts = puts; key = st.2; current = keeps.current; how = inl (runs, (r, (st.1, refl))) };
+          keeps = keeps;
+          finishes = record { entry = record r { verified_at = n }; puts = puts; demanded_at = same_at; key = st.2; current = keeps.current; how = inl (runs, (r, (st.1, refl))) };
         }
 
     pub unset_done : (i : ℕ) (v : V) (reads : List ℕ) → rs' ≡ rs → record_of q (held s n rs) k ≡ None → lookup (eq k) s.numbers ≡ None → q.is_input k ≡ true → v ≡ q.unset k → reads ≡ []
@@ -56,7 +58,8 @@ module _ {K V : Type 0} where
         record {
           sound = sound_puts q laws (held s n rs) (held s' n rs') i r sound puts keeps (inl runs);
           unswept = unswept_puts q laws (held s n rs) (held s' n rs') i r sound puts keeps unswept (inl runs);
-          finishes = record { entry = r; puts = puts; key = refl; current = keeps.current; how = inr (inr (runs, is, ad.free, value, refl)) };
+          keeps = keeps;
+          finishes = record { entry = r; puts = puts; demanded_at = same_at; key = refl; current = keeps.current; how = inr (inr (runs, is, ad.free, value, refl)) };
         }
 
     enter_done : (i : ℕ) (r : Node K V) (v : V) (reads : List ℕ) → rs' ≡ rs ++ k ∷ [] → IsEntry q (held s n rs) k v reads → Puts q (held s n rs) (held s' n rs') i r
@@ -71,9 +74,11 @@ module _ {K V : Type 0} where
         record {
           sound = sound_puts q laws (held s n rs) (held s' n rs') i r sound puts keeps on;
           unswept = unswept_puts q laws (held s n rs) (held s' n rs') i r sound puts keeps unswept on;
+          keeps = keeps;
           finishes = record {
             entry = r;
             puts = puts;
+            demanded_at = same_at;
             key = key;
             current = keeps.current;
             how = inr (inl (runs_r, isnt_r, subst (IsOutdated q (held s n rs)) (sym key) entry.outdated, subst (λ x. IsStamped n (record_of q (held s n rs) x) r) (sym key) stamped));
@@ -96,9 +101,10 @@ module _ {K V : Type 0} where
         subst (λ (x : Node K V). (x.key ≡ k) × (((new.value ≡ x.value) × (new.changed_at ≡ x.changed_at)) ⊎ (new.changed_at ≡ n))) same_e
         (st.2, elim moves [ inl p ↦ inl p | inr p ↦ inr p.1 ]))
 
-    pub enter_new : (i : ℕ) (v : V) (reads : List ℕ) → rs' ≡ rs ++ k ∷ [] → IsEntry q (held s n rs) k v reads → lookup (eq k) s.numbers ≡ None
-        → Adds eq s s' i (record { key = k; value = v; reads = reads; input = false; verified_at = n; changed_at = n }) → FinishDone q (held s n rs) (held s' n rs') k i
-    enter_new i v reads runs entry absent ad =
+    pub enter_new : (i : ℕ) (v : V) (reads : List ℕ) → rs' ≡ rs ++ k ∷ [] → IsEntry q (held s n rs) k v reads → lookup (eq k) s.numbers ≡ None → s.clean_at ≡ n
+        → Adds eq s s' i (record { key = k; value = v; reads = reads; input = false; verified_at = s.clean_at; changed_at = n }) → FinishDone q (held s n rs) (held s' n rs') k i
+    enter_new i v reads runs entry absent fresh added =
+        let ad = subst (λ m. Adds eq s s' i (record { key = k; value = v; reads = reads; input = false; verified_at = m; changed_at = n })) fresh added in
         let new : Node K V = record { key = k; value = v; reads = reads; input = false; verified_at = n; changed_at = n } in
         let puts = puts_adds q eq same s s' n rs rs' i new absent ad in
         let was : record_of q (held s n rs) k ≡ None = record_none q (held s n rs) k (sym (lookup_same eq q.same same k s.numbers) ∙ absent) in

@@ -9,7 +9,7 @@ use Rattle.query_core.specs.Soundness.{IsSound, IsUnswept}
 use Rattle.query_core.specs.Due.{IsDue}
 use Rattle.query_core.specs.Changes.{IsStamped, Moves, IsLeft}
 use Rattle.query_core.specs.Walk.{IsOutdated, Finishes}
-use Rattle.query_core.specs.declared.store.Node.{Node}
+use Rattle.query_core.specs.Node.{Node}
 use Rattle.query_core.proofs.Words.{Has-left, Has-right, Has-middle}
 use Rattle.query_core.proofs.Reading.{record_is, verified_is, record_none}
 use Rattle.query_core.proofs.Values.{current_value}

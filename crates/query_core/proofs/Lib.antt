@@ -14,3 +14,9 @@ pub mod Setting
 pub mod Marking
 pub mod Sweeping
 pub mod Composing
+pub mod Freshening
+pub mod Slots
+pub mod CatchingUp
+pub mod Cleaning
+pub mod Linking
+pub mod Reached

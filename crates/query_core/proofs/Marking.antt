@@ -12,7 +12,7 @@ use Rattle.query_core.specs.Soundness.{IsSound}
 use Rattle.query_core.specs.Marking.{marked, all_marked, root_nodes, reads_at}
 use Rattle.query_core.specs.Sweeping.{IsUsed, AreUsed}
 use Rattle.query_core.specs.Sweeping.IsUsed.{by_root, by_read}
-use Rattle.query_core.specs.declared.store.Node.{Node}
+use Rattle.query_core.specs.Node.{Node}
 use Rattle.query_core.proofs.Words.{Has-left, Has-append, Has-middle, one_less}
 use Rattle.query_core.proofs.Answering.{any_from}
 
@@ -143,7 +143,7 @@ place_of [] i h = absurd h
 place_of (x ∷ xs) i (inl e) = (0, ap Some e)
 place_of (x ∷ xs) i (inr h) = let r = place_of xs i h in (suc r.0, r.1)
 
-at_within : {X : Type 0} (xs : List (Option X)) (i : ℕ) (x : X) → slice_index_or xs i None ≡ Some x → i < length xs
+pub at_within : {X : Type 0} (xs : List (Option X)) (i : ℕ) (x : X) → slice_index_or xs i None ≡ Some x → i < length xs
 at_within [] i x e = absurd (let bad : ⊥ = cc in bad)
 at_within (y ∷ xs) zero x e = omega arith
 at_within (y ∷ xs) (suc i) x e = let l = at_within xs i x e in omega arith
@@ -154,6 +154,79 @@ one_behind [] zero = refl
 one_behind [] (suc i) = refl
 one_behind (x ∷ xs) zero = refl
 one_behind (x ∷ xs) (suc i) = one_behind xs i
+
+-- reached from these nodes along the edges
+pub data Along (edges : ℕ → List ℕ) (starts : List ℕ) : ℕ → Type 0 where
+  begin : (i : ℕ) → Has starts i → Along edges starts i
+  step : (i j : ℕ) → Along edges starts i → Has (edges i) j → Along edges starts j
+
+module _ (edges : ℕ → List ℕ) (starts : List ℕ) where
+  -- What is marked on the way: the nodes to start from, what is reached from them, and where the edges of the first of them lead.
+  pub record Finding (used : List ℕ) (place : ℕ) : Type 0 where
+    pub only : (i : ℕ) → Has used i → Along edges starts i
+    pub begun : (i : ℕ) → Has starts i → Has used i
+    pub closed : (p i j : ℕ) → p < place → slice_get used p ≡ Some i → Has (edges i) j → Has used j
+    pub within : place ≤ length used
+
+  pub finding_begins : (used : List ℕ) → used ≡ all_marked [] starts → Finding used 0
+  finding_begins used is = record {
+    only = λ i h. elim (all_from starts [] i (subst (λ l. Has l i) is h)) [ inl a ↦ absurd a | inr a ↦ begin i a ];
+    begun = λ i h. subst (λ l. Has l i) (sym is) (all_has starts [] i h);
+    closed = λ p i j lt e h. absurd (omega arith);
+    within = omega arith;
+  }
+
+  module _ (used used' : List ℕ) (place node : ℕ) (f : Finding used place) (here : slice_get used place ≡ Some node) (is : used' ≡ all_marked used (edges node)) where
+    node_reached : Along edges starts node
+    node_reached = f.only node (has_got used place node here)
+
+    longer : length used ≤ length used'
+    longer = let a = all_more (edges node) used in let l = ap length (is ∙ a.1) ∙ length-append used a.0 in omega arith
+
+    before : (p i : ℕ) → p < length used → slice_get used' p ≡ Some i → slice_get used p ≡ Some i
+    before p i lt e =
+        let a = all_more (edges node) used in
+        let h = get_here used p lt in
+        let e' = subst (λ l. slice_get l p ≡ Some i) (is ∙ a.1) e in
+        let k = get_left used a.0 p h.0 h.1 in
+        let same : h.0 ≡ i = cc in h.1 ∙ ap Some same
+
+    stays : (i : ℕ) → Has used i → Has used' i
+    stays i h = subst (λ l. Has l i) (sym is) (all_kept (edges node) used i h)
+
+    pub finding_turns : Finding used' (place + 1)
+    finding_turns =
+        let lt = get_within used place node here in
+        let le = longer in
+        record {
+          only = λ i h. elim (all_from (edges node) used i (subst (λ l. Has l i) is h)) [ inl a ↦ f.only i a | inr a ↦ step node i node_reached a ];
+          begun = λ i h. stays i (f.begun i h);
+          closed = λ p i j small e h. elim (cases_eq p place) [
+            | inl s ↦ (let e' = before p i (omega arith) e in
+                let here' : slice_get used p ≡ Some node = subst (λ m. slice_get used m ≡ Some node) (sym s) here in
+                let same : node ≡ i = cc in
+                subst (λ l. Has l j) (sym is) (all_has (edges node) used j (subst (λ m. Has (edges m) j) (sym same) h)))
+            | inr n ↦ stays j (f.closed p i j (omega arith) (before p i (omega arith) e) h)
+          ];
+          within = omega arith;
+        }
+
+    -- where what is reached is below n, less is left
+    pub finding_less : (n : ℕ) → ((i : ℕ) → Along edges starts i → i < n) → unmarked n used' + (length used' - (place + 1)) < unmarked n used + (length used - place)
+    finding_less n below =
+        let lt = get_within used place node here in
+        let le = longer in
+        let room = subst (λ l. unmarked n l + length l ≤ unmarked n used + length used) (sym is) (all_room n (edges node) used (λ j h. below j (step node j node_reached h))) in omega arith
+
+  module _ (used : List ℕ) (place : ℕ) (f : Finding used place) (none : slice_get used place ≡ None) where
+    past : (p i : ℕ) → slice_get used p ≡ Some i → p < place
+    past p i e =
+        let lt = get_within used p i e in
+        let no : ¬ (place < length used) = (λ l. let h = get_here used place l in let e' = h.1 in let bad : ⊥ = cc in bad) in omega arith
+
+    pub all_found : (i : ℕ) → Along edges starts i → Has used i
+    all_found i (begin k h) = f.begun k h
+    all_found i (step a j u h) = let m = place_of used a (all_found a u) in f.closed m.0 a j (past m.0 a m.1) m.1 h
 
 module _ {K V : Type 0} (q : Queries K V) (g : Held K V) where
   root_from : (ks : List K) (i : ℕ) → Has (root_nodes q g ks) i → (k : K) × (Has ks k × (node_of q g k ≡ Some i))
@@ -173,92 +246,29 @@ module _ {K V : Type 0} (q : Queries K V) (g : Held K V) where
   root_to (x ∷ ks) k i (inr h) e =
       elim (node_of q g x) as (λ o. Has (cons_option o (root_nodes q g ks)) i) [ None ↦ root_to ks k i h e | Some j ↦ inr (root_to ks k i h e) ]
 
-  -- What is marked on the way: the roots' nodes and nodes that the roots use, and what the first of them read.
-  pub record Finding (roots : List K) (used : List ℕ) (place : ℕ) : Type 0 where
-    pub only : (i : ℕ) → Has used i → IsUsed q g roots i
-    pub begun : (i : ℕ) → Has (root_nodes q g roots) i → Has used i
-    pub closed : (p i j : ℕ) → p < place → slice_get used p ≡ Some i → Has (reads_at g i) j → Has used j
-    pub within : place ≤ length used
-
   module _ (sound : IsSound q g) (roots : List K) where
+    used_along : (i : ℕ) → IsUsed q g roots i → Along (reads_at g) (root_nodes q g roots) i
+    used_along i (by_root k j h n) = begin j (root_to roots k j h n)
+    used_along i (by_read a j r u e h) = step a j (used_along a u) (subst (λ o. Has (option_map_or (λ (x : Node K V). x.reads) o []) j) (sym e) h)
+
+    along_used : (i : ℕ) → Along (reads_at g) (root_nodes q g roots) i → IsUsed q g roots i
+    along_used i (begin k h) = let r = root_from roots k h in by_root r.0 k r.1.0 r.1.1
+    along_used i (step a j u h) =
+        elim (at g a) as (λ o. at g a ≡ o → Has (option_map_or (λ (r : Node K V). r.reads) o []) j → IsUsed q g roots j) [
+          | None ↦ (λ e m. absurd m)
+          | Some r ↦ (λ e m. by_read a j r (along_used a u) e m)
+        ] refl h
+
     used_stands : (i : ℕ) → IsUsed q g roots i → (r : Node K V) × (at g i ≡ Some r)
     used_stands i (by_root k j h n) = let st = sound.numbers k j n in (st.0, st.1)
     used_stands i (by_read a j r u e h) = sound.stands a j r e h
 
-    used_reads : (i j : ℕ) → IsUsed q g roots i → Has (reads_at g i) j → IsUsed q g roots j
-    used_reads i j u h =
-        elim (at g i) as (λ o. at g i ≡ o → Has (option_map_or (λ (r : Node K V). r.reads) o []) j → IsUsed q g roots j) [
-          | None ↦ (λ e m. absurd m)
-          | Some r ↦ (λ e m. by_read i j r u e m)
-        ] refl h
+    -- the nodes that the roots use are nodes of the graph
+    pub used_below : (i : ℕ) → Along (reads_at g) (root_nodes q g roots) i → i < length g.nodes
+    used_below i u = let st = used_stands i (along_used i u) in at_within g.nodes i st.0 st.1
 
-    pub finding_begins : (used : List ℕ) → used ≡ all_marked [] (root_nodes q g roots) → Finding roots used 0
-    finding_begins used is = record {
-      only = λ i h. elim (all_from (root_nodes q g roots) [] i (subst (λ l. Has l i) is h)) [
-        | inl a ↦ absurd a
-        | inr a ↦ (let r = root_from roots i a in by_root r.0 i r.1.0 r.1.1)
-      ];
-      begun = λ i h. subst (λ l. Has l i) (sym is) (all_has (root_nodes q g roots) [] i h);
-      closed = λ p i j lt e h. absurd (omega arith);
-      within = omega arith;
+    pub found_used : (used : List ℕ) (place : ℕ) → Finding (reads_at g) (root_nodes q g roots) used place → slice_get used place ≡ None → AreUsed q g roots used
+    found_used used place f none = record {
+      only = λ i h. along_used i (f.only i h);
+      all = λ i u. all_found (reads_at g) (root_nodes q g roots) used place f none i (used_along i u);
     }
-
-    module _ (used used' : List ℕ) (place node : ℕ) (f : Finding roots used place) (here : slice_get used place ≡ Some node) (is : used' ≡ all_marked used (reads_at g node)) where
-      node_used : IsUsed q g roots node
-      node_used = f.only node (has_got used place node here)
-
-      longer : length used ≤ length used'
-      longer = let a = all_more (reads_at g node) used in let l = ap length (is ∙ a.1) ∙ length-append used a.0 in omega arith
-
-      before : (p i : ℕ) → p < length used → slice_get used' p ≡ Some i → slice_get used p ≡ Some i
-      before p i lt e =
-          let a = all_more (reads_at g node) used in
-          let h = get_here used p lt in
-          let e' = subst (λ l. slice_get l p ≡ Some i) (is ∙ a.1) e in
-          let k = get_left used a.0 p h.0 h.1 in
-          let same : h.0 ≡ i = cc in h.1 ∙ ap Some same
-
-      stays : (i : ℕ) → Has used i → Has used' i
-      stays i h = subst (λ l. Has l i) (sym is) (all_kept (reads_at g node) used i h)
-
-      pub finding_turns : Finding roots used' (place + 1)
-      finding_turns =
-          let lt = get_within used place node here in
-          let le = longer in
-          record {
-            only = λ i h. elim (all_from (reads_at g node) used i (subst (λ l. Has l i) is h)) [
-              | inl a ↦ f.only i a
-              | inr a ↦ used_reads node i node_used a
-            ];
-            begun = λ i h. stays i (f.begun i h);
-            closed = λ p i j small e h. elim (cases_eq p place) [
-              | inl s ↦ (let e' = before p i (omega arith) e in
-                  let here' : slice_get used p ≡ Some node = subst (λ m. slice_get used m ≡ Some node) (sym s) here in
-                  let same : node ≡ i = cc in
-                  subst (λ l. Has l j) (sym is) (all_has (reads_at g node) used j (subst (λ m. Has (reads_at g m) j) (sym same) h)))
-              | inr n ↦ stays j (f.closed p i j (omega arith) (before p i (omega arith) e) h)
-            ];
-            within = omega arith;
-          }
-
-      pub finding_less : unmarked (length g.nodes) used' + (length used' - (place + 1)) < unmarked (length g.nodes) used + (length used - place)
-      finding_less =
-          let lt = get_within used place node here in
-          let le = longer in
-          let room = subst (λ l. unmarked (length g.nodes) l + length l ≤ unmarked (length g.nodes) used + length used) (sym is)
-          (all_room (length g.nodes) (reads_at g node) used (λ j h. let st = used_stands j (used_reads node j node_used h) in at_within g.nodes j st.0 st.1)) in omega arith
-
-    module _ (used : List ℕ) (place : ℕ) (f : Finding roots used place) (none : slice_get used place ≡ None) where
-      past : (p i : ℕ) → slice_get used p ≡ Some i → p < place
-      past p i e =
-          let lt = get_within used p i e in
-          let no : ¬ (place < length used) = (λ l. let h = get_here used place l in let e' = h.1 in let bad : ⊥ = cc in bad) in omega arith
-
-      used_marked : (i : ℕ) → IsUsed q g roots i → Has used i
-      used_marked i (by_root k j h n) = f.begun i (root_to roots k i h n)
-      used_marked i (by_read a j r u e h) =
-          let m = place_of used a (used_marked a u) in
-          f.closed m.0 a i (past m.0 a m.1) m.1 (subst (λ o. Has (option_map_or (λ (x : Node K V). x.reads) o []) i) (sym e) h)
-
-      pub finding_ends : AreUsed q g roots used
-      finding_ends = record { only = f.only; all = used_marked }

@@ -7,7 +7,7 @@ use Rattle.query_core.specs.Queries.{Queries, AreLawful}
 use Rattle.query_core.specs.Graph.{Held, at, node_of, is_current}
 use Rattle.query_core.specs.Soundness.{kept, IsUnchanged, Replays, IsSound, IsUnswept}
 use Rattle.query_core.specs.Changes.{Puts}
-use Rattle.query_core.specs.declared.store.Node.{Node}
+use Rattle.query_core.specs.Node.{Node}
 use Rattle.query_core.specs.declared.rules.Step.{Step}
 use Rattle.query_core.proofs.Values.{current_stamp}
 use Rattle.query_core.proofs.Words.{Has-left, Has-right, Each-at, Each-from, Each-append, Each-map, IsOnce-push, filter_map-same}

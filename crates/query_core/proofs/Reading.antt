@@ -3,7 +3,7 @@ use Rattle.std.proofs.Common.{◌≡◌, ℕ, false, ap, ◌∙◌, Some, None}
 use Rattle.std.specs.Option.{option_map_or}
 use Rattle.query_core.specs.Queries.{Queries}
 use Rattle.query_core.specs.Graph.{Held, at, node_of, record_of, is_current, is_verified}
-use Rattle.query_core.specs.declared.store.Node.{Node}
+use Rattle.query_core.specs.Node.{Node}
 
 module _ {K V : Type 0} where
   pub record_is : (q : Queries K V) (g : Held K V) (k : K) (i : ℕ) (r : Node K V) → node_of q g k ≡ Some i → at g i ≡ Some r → record_of q g k ≡ Some r

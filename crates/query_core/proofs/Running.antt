@@ -8,7 +8,7 @@ use Rattle.query_core.specs.Graph.{Held, at, node_of, inputs, is_verified}
 use Rattle.query_core.specs.Soundness.{kept, IsUnchanged, IsSound}
 use Rattle.query_core.specs.Walk.{IsSettled, IsSettledTo, IsOutdated, AreAnswered, IsRunning, IsChecking, IsLook, HasBegun}
 use Rattle.query_core.specs.declared.frame.Checked.TheVariants.{Changed, Stale}
-use Rattle.query_core.specs.declared.store.Node.{Node}
+use Rattle.query_core.specs.Node.{Node}
 use Rattle.query_core.specs.declared.rules.Step.{Step}
 use Rattle.query_core.specs.declared.rules.Step.TheVariants.{Ask, Done}
 use Rattle.query_core.proofs.Words.{Has-middle, Each-map}

@@ -8,7 +8,7 @@ use Rattle.query_core.specs.Graph.{Held, at, node_of, record_of}
 use Rattle.query_core.specs.Soundness.{IsSound}
 use Rattle.query_core.specs.Changes.{SetsInput, IsStamped, Moves}
 use Rattle.query_core.specs.Due.{HasChangedRead, IsDue, WasDue}
-use Rattle.query_core.specs.declared.store.Node.{Node}
+use Rattle.query_core.specs.Node.{Node}
 use Rattle.query_core.proofs.Calls.{other_record}
 use Rattle.query_core.proofs.Puts.{same_key}
 use Rattle.query_core.proofs.Reading.{record_is}

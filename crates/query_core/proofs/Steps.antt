@@ -7,7 +7,7 @@ use Rattle.query_core.specs.Graph.{Held, at, node_of, record_of, inputs, is_curr
 use Rattle.query_core.specs.Soundness.{kept, IsUnchanged, Replays, IsSound}
 use Rattle.query_core.specs.Walk.{IsSettled, IsSettledTo, HasMoved, IsOutdated, AreAnswered, AreAsked, IsLook, IsEntry}
 use Rattle.query_core.specs.declared.frame.Checked.TheVariants.{Changed, Stale}
-use Rattle.query_core.specs.declared.store.Node.{Node}
+use Rattle.query_core.specs.Node.{Node}
 use Rattle.query_core.specs.declared.rules.Step.{Step}
 use Rattle.query_core.specs.declared.rules.Step.TheVariants.{Ask, Done}
 use Rattle.query_core.proofs.Words.{Each-at, Each-map, Each-left, kept-append, kept-one, has_at, get_at}

@@ -8,12 +8,13 @@ use Rattle.std.specs.Option.{option_map, option_map_or}
 use Rattle.query_core.specs.Lists.{Has, Each}
 use Rattle.query_core.specs.Queries.{Queries, AreLawful}
 use Rattle.query_core.specs.Graph.{Held, at, node_of, record_of, inputs}
-use Rattle.query_core.specs.Stored.{Stored, Removes, node_at, stays, left_at}
+use Rattle.query_core.specs.Stored.{Stored, Removes, node_at, stays, left_at, SetsMark, is_clean}
 use Rattle.query_core.specs.Answering.{IsNumbered}
 use Rattle.query_core.specs.Soundness.{kept, IsUnchanged, Replays, IsSound}
 use Rattle.query_core.specs.Sweeping.{AreUsed, Sweeps}
 use Rattle.query_core.specs.Sweeping.IsUsed.{by_read}
-use Rattle.query_core.specs.declared.store.Node.{Node}
+use Rattle.query_core.specs.Freshening.{AreMarked, mark_at}
+use Rattle.query_core.specs.Node.{Node}
 use Rattle.query_core.specs.declared.rules.Step.{Step}
 use Rattle.query_core.proofs.Words.{Has-left, Has-right, Each-map, kept-same}
 use Rattle.query_core.proofs.Reading.{record_is, record_none}
@@ -102,6 +103,18 @@ module _ {K V : Type 0} where
       numbers = λ k i e. let st = numbered.stands k i (lookup_same eq q.same same k s'.numbers ∙ e) in (st.0, st.1.0, sym (laws.same k st.0.key (sym (same k st.0.key) ∙ st.1.1)));
       once = sound.once;
       flagged = λ i r e. sound.flagged i r (was i r e).0;
+    }
+
+    -- the marks of what is left
+    pub swept_marked : AreMarked q old (mark_at s.clean) → ((i : ℕ) → is_clean s' i ≡ true → is_clean s i ≡ true) → ((i : ℕ) (r : Node K V) → node_at s' i ≡ Some r → is_clean s' i ≡ is_clean s i)
+        → s'.clean_at ≡ s.clean_at → AreMarked q new (mark_at s'.clean)
+    swept_marked marked less stay at_same = record {
+      are_clean = record {
+        reads = λ i j r d e c h at_j.
+            let m = marked.are_clean.reads i j r d (was i r e).0 (less i c) h (was j d at_j).0 in (elim m.0 [ inl is ↦ inl is | inr cj ↦ inr (stay j d at_j ∙ cj) ], m.1);
+      };
+      with_all = λ i r e c. marked.with_all i r (was i r e).0 (less i c) ∙ sym at_same;
+      before = λ i r e c isnt. marked.before i r (was i r e).0 (sym (stay i r e) ∙ c) isnt;
     }
 
     -- a node that a key has now is the one that it had
@@ -208,6 +221,9 @@ module _ {K V : Type 0} where
     pub open_on : (i : ℕ) → place ≤ i → node_at s i ≡ node_at s0 i
     pub counted : count_by is_some s.nodes + removed ≡ count_by is_some s0.nodes
     pub within : removed ≤ place
+    pub less : (i : ℕ) → is_clean s i ≡ true → is_clean s0 i ≡ true
+    pub stay : (i : ℕ) (r : Node K V) → node_at s i ≡ Some r → is_clean s i ≡ is_clean s0 i
+    pub clean_at : s.clean_at ≡ s0.clean_at
 
   -- a node whose record is to go has one
   pub gone_record : (used : List ℕ) (i : ℕ) (o : Option (Node K V)) → stays used i o ≡ false → (r : Node K V) × (o ≡ Some r)
@@ -216,7 +232,7 @@ module _ {K V : Type 0} where
 
   module _ (eq : K → K → Bool) (used : List ℕ) (s0 : Stored K V) where
     pub passing_begins : IsNumbered eq s0 → Passing eq used s0 s0 0 0
-    passing_begins num = record { numbered = num; done = λ i lt. absurd (omega arith); open_on = λ i le. refl; counted = omega arith; within = omega arith }
+    passing_begins num = record { numbered = num; done = λ i lt. absurd (omega arith); open_on = λ i le. refl; counted = omega arith; within = omega arith; less = λ i e. e; stay = λ i r e. refl; clean_at = refl }
 
     module _ (s : Stored K V) (place removed : ℕ) (p : Passing eq used s0 s place removed) where
       -- the record at the place stays
@@ -234,12 +250,15 @@ module _ {K V : Type 0} where
         open_on = λ i le. p.open_on i (omega arith);
         counted = p.counted;
         within = (let w = p.within in omega arith);
+        less = p.less;
+        stay = p.stay;
+        clean_at = p.clean_at;
       }
 
       -- it goes
       pub passing_removes : (s' : Stored K V) (r : Node K V) → node_at s place ≡ Some r → stays used place (node_at s place) ≡ false → Removes eq s s' place r → IsNumbered eq s'
-          → count_by is_some s'.nodes + 1 ≡ count_by is_some s.nodes → Passing eq used s0 s' (place + 1) (removed + 1)
-      passing_removes s' r e go gone num len = record {
+          → count_by is_some s'.nodes + 1 ≡ count_by is_some s.nodes → SetsMark s s' place false → s'.clean_at ≡ s.clean_at → Passing eq used s0 s' (place + 1) (removed + 1)
+      passing_removes s' r e go gone num len mark same_at = record {
         numbered = num;
         done = λ i lt.
             elim (cases_eq i place) [
@@ -252,6 +271,17 @@ module _ {K V : Type 0} where
         open_on = λ i le. gone.others i (λ ip. absurd (omega arith)) ∙ p.open_on i (omega arith);
         counted = (let c = p.counted in omega arith);
         within = (let w = p.within in omega arith);
+        less = λ i c.
+            elim (cases_eq i place) [
+              | inl ip ↦ (let c' : is_clean s' place ≡ true = subst (λ m. is_clean s' m ≡ true) ip c in let h = mark.here in let bad : ⊥ = cc in absurd bad)
+              | inr n ↦ p.less i (sym (mark.others i n) ∙ c)
+            ];
+        stay = λ i x at_i.
+            elim (cases_eq i place) [
+              | inl ip ↦ (let here = subst (λ m. node_at s' m ≡ Some x) ip at_i in let g = gone.gone in let bad : ⊥ = cc in absurd bad)
+              | inr n ↦ mark.others i n ∙ p.stay i x (sym (gone.others i n) ∙ at_i)
+            ];
+        clean_at = same_at ∙ p.clean_at;
       }
 
       pub passing_ends : length s0.nodes ≤ place → (i : ℕ) → node_at s i ≡ left_at used i (node_at s0 i)

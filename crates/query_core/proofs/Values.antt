@@ -4,7 +4,7 @@ use Rattle.query_core.specs.Lists.{Has, Each}
 use Rattle.query_core.specs.Queries.{Queries, AreLawful, answers, GoesOn, next_key, done_with}
 use Rattle.query_core.specs.Graph.{Held, at, inputs, is_current}
 use Rattle.query_core.specs.Soundness.{kept, IsUnchanged, IsSound}
-use Rattle.query_core.specs.declared.store.Node.{Node}
+use Rattle.query_core.specs.Node.{Node}
 use Rattle.query_core.specs.declared.rules.Step.{Step}
 use Rattle.query_core.specs.declared.rules.Step.TheVariants.{Ask, Done}
 use Rattle.query_core.proofs.Words.{Has-middle, Each-from, Each-append, Each-map, kept-push, answers-push}

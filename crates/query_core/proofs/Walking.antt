@@ -12,7 +12,7 @@ use Rattle.query_core.specs.Walk.{IsSettled, HasMoved, IsOutdated, AreAnswered, 
 use Rattle.query_core.specs.declared.frame.Frame.{Frame}
 use Rattle.query_core.specs.declared.frame.Stage.{Stage}
 use Rattle.query_core.specs.declared.frame.Stage.TheVariants.{Unset, Start, Check, Run}
-use Rattle.query_core.specs.declared.store.Node.{Node}
+use Rattle.query_core.specs.Node.{Node}
 use Rattle.query_core.proofs.Words.{Each-map}
 use Rattle.query_core.proofs.Reading.{record_is, verified_is}
 use Rattle.query_core.proofs.Steps.{not_current, no_record}

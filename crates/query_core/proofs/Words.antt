@@ -7,7 +7,7 @@ use Rattle.query_core.specs.Lists.{Has, Each, IsOnce}
 use Rattle.query_core.specs.Queries.{answers}
 use Rattle.query_core.specs.Graph.{Held, at}
 use Rattle.query_core.specs.Soundness.{kept}
-use Rattle.query_core.specs.declared.store.Node.{Node}
+use Rattle.query_core.specs.Node.{Node}
 
 pub Has-left : {X : Type 0} (xs ys : List X) (x : X) → Has xs x → Has (xs ++ ys) x
 Has-left [] ys x h = absurd h

@@ -3,7 +3,7 @@ use Rattle.std.specs.Prelude.{◌≡◌, ℕ, Bool, true, List, Some, filter_map
 use Rattle.std.specs.Map.{lookup}
 use Rattle.std.specs.Option.{option_map}
 use Rattle.query_core.specs.Stored.{Stored, node_at}
-use Rattle.query_core.specs.declared.store.Node.{Node}
+use Rattle.query_core.specs.Node.{Node}
 
 module _ {K V : Type 0} where
   -- the keys of these nodes with the values that the store keeps for them

@@ -5,7 +5,7 @@ use Rattle.query_core.specs.Queries.{Queries}
 use Rattle.query_core.specs.Graph.{Held, at, node_of, record_of, inputs, is_current, is_verified}
 use Rattle.query_core.specs.Soundness.{IsSound, IsUnswept}
 use Rattle.query_core.specs.Due.{IsDue}
-use Rattle.query_core.specs.declared.store.Node.{Node}
+use Rattle.query_core.specs.Node.{Node}
 
 -- the key is reached from the root by what runs read
 pub data IsReached {K : Type 0} (asks : K → List K) (root : K) : K → Type 0 where

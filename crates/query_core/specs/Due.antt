@@ -3,7 +3,7 @@ use Rattle.std.specs.Prelude.{◌≡◌, ◌≢◌, ℕ, ◌<◌, Some, None, �
 use Rattle.query_core.specs.Lists.{Has}
 use Rattle.query_core.specs.Queries.{Queries}
 use Rattle.query_core.specs.Graph.{Held, at, record_of}
-use Rattle.query_core.specs.declared.store.Node.{Node}
+use Rattle.query_core.specs.Node.{Node}
 
 module _ {K V : Type 0} where
   -- a read of the record changed after the record was verified, or its kept value isn't the value of its key over these inputs

@@ -3,16 +3,16 @@ use Rattle.std.specs.Prelude.{ℕ, ◌==◌, Bool, false, ◌||◌, List, Option
 use Rattle.std.specs.Option.{option_map_or}
 use Rattle.std.specs.Map.{lookup}
 use Rattle.query_core.specs.Queries.{Queries}
-use Rattle.query_core.specs.declared.store.Node.{Node}
+use Rattle.query_core.specs.Node.{Node}
 
--- The records by node, the node of each key, the number of the revision, and the keys that ran in it, in order.
--- A record has a key, its value, the nodes that its run read in the order of asking, whether the key is an input, the revision in
--- which it was last verified, and the revision in which its value last changed.
+-- The records by node, the node of each key, the number of the revision, the keys that ran in it, in order, and the revision of the
+-- last demand of a key that wasn't verified.
 pub record Held (K V : Type 0) : Type 0 where
   pub nodes : List (Option (Node K V))
   pub numbers : List (K × ℕ)
   pub revision : ℕ
   pub runs : List K
+  pub demanded_at : ℕ
 
 module _ {K V : Type 0} where
   -- the record at a node

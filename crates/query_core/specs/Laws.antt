@@ -6,7 +6,7 @@ use Rattle.query_core.specs.Graph.{Held, record_of, inputs, is_verified}
 use Rattle.query_core.specs.Soundness.{IsSound, IsUnswept}
 use Rattle.query_core.specs.Due.{IsDue}
 use Rattle.query_core.specs.Changes.{IsReached, IsHolding, Walked, WalkedBy}
-use Rattle.query_core.specs.declared.store.Node.{Node}
+use Rattle.query_core.specs.Node.{Node}
 
 -- one of the roots reaches the key by what runs read
 abbrev pub IsReachedFrom : {K : Type 0} → (K → List K) → List K → K → Type 0

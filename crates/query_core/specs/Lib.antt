@@ -1,8 +1,10 @@
 pub mod Lists
 pub mod Queries
+pub mod Node
 pub mod Graph
 pub mod Soundness
 pub mod Due
+pub mod Readers
 pub mod Stored
 pub mod Changes
 pub mod Answering
@@ -10,3 +12,4 @@ pub mod Walk
 pub mod Marking
 pub mod Sweeping
 pub mod Laws
+pub mod Freshening

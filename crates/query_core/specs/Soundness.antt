@@ -5,7 +5,7 @@ use Rattle.query_core.specs.Lists.{Has, Each, IsOnce}
 use Rattle.query_core.specs.Queries.{Queries, next_key, done_with}
 use Rattle.query_core.specs.Graph.{Held, at, node_of, is_current}
 use Rattle.query_core.specs.declared.rules.Step.{Step}
-use Rattle.query_core.specs.declared.store.Node.{Node}
+use Rattle.query_core.specs.Node.{Node}
 
 module _ {K V : Type 0} where
   -- the keys of these nodes with the values that the graph keeps for them

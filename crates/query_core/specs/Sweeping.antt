@@ -4,7 +4,7 @@ use Rattle.std.specs.Option.{option_map}
 use Rattle.query_core.specs.Lists.{Has}
 use Rattle.query_core.specs.Queries.{Queries}
 use Rattle.query_core.specs.Graph.{Held, at, node_of, inputs}
-use Rattle.query_core.specs.declared.store.Node.{Node}
+use Rattle.query_core.specs.Node.{Node}
 
 -- the node is that of a root's record, or recorded reads lead to it from one
 pub data IsUsed {K V : Type 0} (q : Queries K V) (g : Held K V) (roots : List K) : ℕ → Type 0 where

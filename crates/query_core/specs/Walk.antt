@@ -5,7 +5,7 @@ use Rattle.query_core.specs.Queries.{Queries, answers}
 use Rattle.query_core.specs.Graph.{Held, at, node_of, record_of, inputs, is_current, is_verified}
 use Rattle.query_core.specs.Soundness.{IsSound, IsUnswept}
 use Rattle.query_core.specs.Changes.{Puts, IsStamped}
-use Rattle.query_core.specs.declared.store.Node.{Node}
+use Rattle.query_core.specs.Node.{Node}
 use Rattle.query_core.specs.declared.frame.Frame.{Frame}
 use Rattle.query_core.specs.declared.frame.Stage.{Stage}
 use Rattle.query_core.specs.declared.frame.Stage.TheVariants.{Unset, Start, Check, Run}
@@ -129,6 +129,7 @@ module _ {K V : Type 0} where
   pub record Finishes (q : Queries K V) (old new : Held K V) (k : K) (i : ℕ) : Type 0 where
     pub entry : Node K V
     pub puts : Puts q old new i entry
+    pub demanded_at : new.demanded_at ≡ old.demanded_at
     pub key : entry.key ≡ k
     pub current : is_current q old entry ≡ true
     pub how : HowFinished q old new i entry

@@ -4,7 +4,8 @@ mod sweep;
 mod walk;
 
 ghost use Rattle.std.specs.Prelude.{◌≡◌, ℕ, ◌+◌, ◌<◌, ◌^◌, [], true, None, Some, OnOk, OnErr, IsSome, count_by, is_some, Option};
-ghost use Rattle.std.specs.Option.{option_map, option_copied};
+ghost use Rattle.std.specs.Option.{option_map};
+ghost use Rattle.query_core.specs.Stored.{seen};
 ghost use Rattle.query_core.specs.Graph.{Held, at, node_of};
 ghost use Rattle.query_core.specs.Soundness.{IsSound, IsUnswept};
 ghost use Rattle.query_core.specs.Changes.{IsFresh, SetsInput};
@@ -12,8 +13,9 @@ ghost use Rattle.query_core.specs.Sweeping.{Sweeps};
 ghost use Rattle.query_core.specs.Due.{WasDue};
 
 use crate::keys::{Reads, TryCopy};
+use crate::record::{Record, Seen};
 use crate::rules::Rules;
-use crate::store::{Node, Store};
+use crate::store::Store;
 use std::alloc::{AllocError, Global};
 use std::marker::{Model, PhantomData};
 
@@ -48,13 +50,13 @@ pub struct Graph<R: Rules> {
 
 impl<R: Rules> Model for Graph<R> {
     ghost use Rattle.query_core.specs.Graph.{Held};
-    ghost use Rattle.query_core.specs.Soundness.{IsSound};
+    ghost use Rattle.query_core.specs.Freshening.{IsKept, mark_at};
 
     ghost Value = { Held R.Key R.Value };
 
-    ghost view = { λ g. record { nodes = g.store.nodes; numbers = g.store.numbers; revision = g.revision; runs = g.runs.items } };
+    ghost view = { λ g. record { nodes = g.store.nodes; numbers = g.store.numbers; revision = g.revision; runs = g.runs.items; demanded_at = g.store.clean_at } };
 
-    ghost invariant = { λ g. IsSound R.queries (record { nodes = g.store.nodes; numbers = g.store.numbers; revision = g.revision; runs = g.runs.items }) };
+    ghost invariant = { λ g. IsKept R.queries (record { nodes = g.store.nodes; numbers = g.store.numbers; revision = g.revision; runs = g.runs.items; demanded_at = g.store.clean_at }) (mark_at g.store.clean) };
 }
 
 impl<R: Rules> Graph<R> {
@@ -92,15 +94,19 @@ impl<R: Rules> Graph<R> {
         ensures still_unswept { IsUnswept R.queries self.old → IsUnswept R.queries self.new }
     {
         let now = self.revision;
-        let reads = Reads::new(self.alloc);
         match self.store.node_of(&key) {
-            Some(node) => self.store.renew(node, value, reads, now),
+            Some(node) => {
+                self.store.prepare(node, &value)?;
+                self.store.set(node, value, now);
+            }
             None => {
-                self.store.add(Node {
+                let reads = Reads::new(self.alloc);
+                self.store.add(Record {
                     key,
                     value,
                     reads,
                     input: true,
+                    clean: false,
                     verified_at: now,
                     changed_at: now,
                 })?;
@@ -147,8 +153,8 @@ impl<R: Rules> Graph<R> {
     }
 
     /// The record at a node.
-    fn node(&self, node: usize) -> Option<&Node<R::Key, R::Value>>
-        ensures value { option_copied result ≡ at self.now node }
+    fn node(&self, node: usize) -> Option<Seen<'_, R::Key, R::Value>>
+        ensures value { option_map seen result ≡ at self.now node }
         ensures sound { IsSound R.queries self.now }
     {
         self.store.node(node)
@@ -160,7 +166,7 @@ impl<R: Rules> Graph<R> {
         ensures { Some result.now ≡ option_map (λ r. r.value) (at self.now id) }
     {
         match self.store.node(id.index) {
-            Some(node) => &node.value,
+            Some(node) => node.value,
             None => unreachable!(),
         }
     }

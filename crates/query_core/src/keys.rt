@@ -1,7 +1,8 @@
 // Copies that may be refused, and lists of keys.
 
-ghost use Rattle.std.specs.Prelude.{◌≡◌, IfOk, List, [], ◌∷◌, ◌++◌, OnOk, OnErr, ℕ, length, nat_eq};
+ghost use Rattle.std.specs.Prelude.{◌≡◌, ◌+◌, ◌<◌, ◌^◌, IfOk, IsSome, List, [], ◌∷◌, ◌++◌, OnOk, OnErr, ℕ, length, nat_eq, slice_get};
 ghost use Rattle.std.specs.List.{list_any};
+ghost use Rattle.query_core.specs.Marking.{marked};
 
 use std::alloc::{AllocError, Global};
 use std::collections::HashSet;
@@ -158,6 +159,32 @@ impl Answered {
         self.seen.insert(node).map_err(AllocError::from)?;
         self.reads.push_reserved(node);
         Ok(())
+    }
+
+    /// The node at this place in order.
+    pub(crate) fn get(&self, place: usize) -> Option<usize>
+        ensures value { result ≡ slice_get self.now place }
+        ensures fits { IsSome result → place + 1 < 2 ^ 64 }
+    {
+        self.reads.get(place).copied()
+    }
+
+    /// Adds the node, where it isn't there yet.
+    #[tactic(auto, unfolding(crate::specs::Marking::marked))]
+    pub(crate) fn mark(&mut self, node: usize) -> Result<(), AllocError>
+        ensures ok { OnOk result (self.new ≡ marked self.old node) }
+    {
+        if self.contains(node) {
+            return Ok(());
+        }
+        self.push(node)
+    }
+
+    /// The nodes in order.
+    pub(crate) fn as_slice(&self) -> &[usize]
+        ensures { result.now ≡ self.now }
+    {
+        &self.reads
     }
 
     /// The nodes that answered.

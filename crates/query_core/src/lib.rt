@@ -6,6 +6,9 @@ mod graph;
 mod keys;
 mod laws;
 mod marks;
+mod opening;
+mod readers;
+mod record;
 mod rules;
 mod store;
 
@@ -13,4 +16,3 @@ pub use graph::{Graph, NodeId};
 pub use keys::{Keys, Reads, TryCopy};
 pub use laws::{demands_begin, demands_go_on, due_before_demands, held_on, verified_holds};
 pub use rules::{Answers, Rules, Step};
-pub use store::Node;

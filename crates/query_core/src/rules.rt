@@ -60,7 +60,7 @@ impl<'a, K: Eq + Hash + TryCopy + Drop, V: Drop> Answers<'a, K, V> {
             return None;
         }
         let kept = self.store.node(node)?;
-        Some(&kept.value)
+        Some(kept.value)
     }
 }
 

@@ -1,61 +1,60 @@
 // The records of the keys: nodes in a slab, and the number of each key's node.
+//
+// All records that are marked as clean were last verified in one revision, which is kept once; so they are verified in another one by
+// one assignment. Each other record has a stamp of its own.
 
-ghost use Rattle.std.specs.Prelude.{◌≡◌, ◌+◌, ℕ, true, IfOk, OnErr, IsSome, None, Some, [], Option, count_by, is_some};
+ghost use Rattle.std.specs.Prelude.{◌≡◌, ◌+◌, ℕ, true, false, IfOk, OnOk, OnErr, IsSome, None, Some, [], Option, count_by, is_some};
 ghost use Rattle.std.specs.Map.{lookup};
-ghost use Rattle.std.specs.Option.{option_copied};
-ghost use Rattle.query_core.specs.Stored.{Stored, Changes, Adds, Removes, node_at, stays, left_at};
+ghost use Rattle.std.specs.Option.{option_map};
+ghost use Rattle.query_core.specs.Node.{Node};
+ghost use Rattle.query_core.specs.Stored.{Stored, Changes, Adds, Removes, SetsMark, Freshens, Prepares, node_at, is_clean, shown, seen, stays, left_at};
 ghost use Rattle.query_core.specs.Answering.{IsNumbered};
-ghost use Rattle.query_core.specs.declared.store.Node.{Node};
 ghost use Rattle.std.specs.Prelude.{if◌then◌else◌};
 
 use crate::keys::{Reads, TryCopy};
 use crate::marks::Marks;
+use crate::opening::{reaching, unmark_all};
+use crate::readers::Readers;
+use crate::record::{Record, Seen, mark_clean, set_run, set_value};
 use indexmap::IndexMap;
 use slab::Slab;
 use std::alloc::{AllocError, Global};
 use std::hash::Hash;
 use std::marker::Model;
 
-/// The record of a key.
-#[derive(Drop)]
-pub struct Node<K, V> {
-    /// The key.
-    pub(crate) key: K,
-    /// Its value.
-    pub(crate) value: V,
-    /// The nodes that its run read, in the order of asking.
-    pub(crate) reads: Reads,
-    /// Whether the key is an input.
-    pub(crate) input: bool,
-    /// The revision in which it was last verified.
-    pub(crate) verified_at: u64,
-    /// The revision in which its value last changed.
-    pub(crate) changed_at: u64,
-}
-
 /// Records by node, and the node of each key.
 #[derive(Drop)]
 pub(crate) struct Store<K: Eq + Hash, V> {
+    alloc: Global,
     numbers: IndexMap<K, usize>,
-    nodes: Slab<Node<K, V>>,
+    nodes: Slab<Record<K, V>>,
+    readers: Readers,
+    /// The revision in which the clean records were last verified.
+    clean_at: u64,
 }
 
 impl<K: Eq + Hash, V> Model for Store<K, V> {
-    ghost use Rattle.query_core.specs.Stored.{Stored};
+    ghost use Rattle.query_core.specs.Stored.{Stored, AreNamed, stored};
 
     ghost Value = { Stored K V };
 
-    ghost view = { λ s. record { nodes = s.nodes.slots; numbers = s.numbers.entries } };
+    ghost view = { λ s. stored s.nodes.slots s.numbers.entries s.clean_at };
+
+    ghost invariant = { λ s. AreNamed s.readers s.nodes.slots };
 }
 
 impl<K: Eq + Hash + TryCopy + Drop, V: Drop> Store<K, V> {
     pub(crate) fn new(alloc: Global) -> Store<K, V>
         ensures nodes { result.nodes ≡ [] }
         ensures numbers { result.numbers ≡ [] }
+        ensures clean_at { result.clean_at ≡ 0 }
     {
         Store {
+            alloc,
             numbers: IndexMap::new(alloc),
             nodes: Slab::new(alloc),
+            readers: Readers::new(alloc),
+            clean_at: 0,
         }
     }
 
@@ -81,8 +80,8 @@ impl<K: Eq + Hash + TryCopy + Drop, V: Drop> Store<K, V> {
         let Some(index) = node else {
             return false;
         };
-        match self.nodes.get(index) {
-            Some(kept) => *key == kept.key,
+        match self.node(index) {
+            Some(kept) => *key == *kept.key,
             None => false,
         }
     }
@@ -107,21 +106,37 @@ impl<K: Eq + Hash + TryCopy + Drop, V: Drop> Store<K, V> {
     }
 
     /// The record at the node.
-    pub(crate) fn node(&self, node: usize) -> Option<&Node<K, V>>
-        ensures { option_copied result ≡ node_at self.now node }
+    pub(crate) fn node(&self, node: usize) -> Option<Seen<'_, K, V>>
+        ensures { option_map seen result ≡ node_at self.now node }
     {
-        self.nodes.get(node)
+        let kept = self.nodes.get(node)?;
+        let verified_at = if kept.clean {
+            self.clean_at
+        } else {
+            kept.verified_at
+        };
+        Some(Seen {
+            key: &kept.key,
+            value: &kept.value,
+            reads: kept.reads.as_slice(),
+            input: kept.input,
+            verified_at,
+            changed_at: kept.changed_at,
+        })
     }
 
     /// Adds the record of a key that has none.
-    pub(crate) fn add(&mut self, added: Node<K, V>) -> Result<usize, AllocError>
+    pub(crate) fn add(&mut self, added: Record<K, V>) -> Result<usize, AllocError>
         requires { lookup (K.eq added.key) self.old.numbers ≡ None }
-        ensures ok { IfOk result (λ i. Adds K.eq self.old self.new i added) }
+        ensures ok { IfOk result (λ i. Adds K.eq self.old self.new i (shown self.old.clean_at added)) }
+        ensures marks { IfOk result (λ i. SetsMark self.old self.new i added.clean) }
+        ensures clean_at { self.new.clean_at ≡ self.old.clean_at }
         ensures err { OnErr result (self.new ≡ self.old) }
     {
         self.nodes.reserve(1)?;
         let copy = added.key.try_copy()?;
         let node = self.nodes.vacant_key();
+        self.readers.link(node, added.reads.as_slice())?;
         self.numbers.insert(copy, node).map_err(AllocError::from)?;
         Ok(self.nodes.insert_reserved(added))
     }
@@ -140,7 +155,9 @@ impl<K: Eq + Hash + TryCopy + Drop, V: Drop> Store<K, V> {
     fn remove(&mut self, node: usize)
         requires { IsSome (node_at self.old node) }
         ensures removes { (r : Node K V) → node_at self.old node ≡ Some r → Removes K.eq self.old self.new node r }
+        ensures marks { SetsMark self.old self.new node false }
         ensures len { count_by is_some self.new.nodes + 1 ≡ count_by is_some self.old.nodes }
+        ensures clean_at { self.new.clean_at ≡ self.old.clean_at }
     {
         let removed = self.nodes.remove(node);
         self.numbers.swap_remove(&removed.key);
@@ -152,6 +169,9 @@ impl<K: Eq + Hash + TryCopy + Drop, V: Drop> Store<K, V> {
         ensures left { (i : ℕ) → node_at self.new i ≡ left_at used.now i (node_at self.old i) }
         ensures numbered { IsNumbered K.eq self.new }
         ensures count { count_by is_some self.new.nodes + result ≡ count_by is_some self.old.nodes }
+        ensures less { (i : ℕ) → is_clean self.new i ≡ true → is_clean self.old i ≡ true }
+        ensures stay { (i : ℕ) (r : Node K V) → node_at self.new i ≡ Some r → is_clean self.new i ≡ is_clean self.old i }
+        ensures clean_at { self.new.clean_at ≡ self.old.clean_at }
     {
         let mut removed = 0;
         for node in 0..self.nodes.capacity() {
@@ -164,35 +184,81 @@ impl<K: Eq + Hash + TryCopy + Drop, V: Drop> Store<K, V> {
         removed
     }
 
-    /// Marks the record as verified in the revision `now`.
+    /// Marks the record as clean, where the clean records were verified in the revision `now`.
     pub(crate) fn verify(&mut self, node: usize, now: u64)
-        requires { IsSome (node_at self.old node) }
-        ensures { (r : Node K V) → node_at self.old node ≡ Some r → Changes self.old self.new node (record r { verified_at = now }) }
+        requires stands { IsSome (node_at self.old node) }
+        requires fresh { self.old.clean_at ≡ now }
+        ensures changes { (r : Node K V) → node_at self.old node ≡ Some r → Changes self.old self.new node (record r { verified_at = now }) }
+        ensures marks { SetsMark self.old self.new node true }
+        ensures clean_at { self.new.clean_at ≡ self.old.clean_at }
     {
-        if let Some(kept) = self.nodes.get_mut(node) {
-            kept.verified_at = now;
-        }
+        mark_clean(&mut self.nodes, node);
+    }
+
+    /// Lets all clean records count as verified in the revision `now`.
+    pub(crate) fn freshen(&mut self, now: u64)
+        ensures { Freshens self.old self.new now }
+    {
+        self.clean_at = now;
     }
 }
 
 impl<K: Eq + Hash + TryCopy + Drop, V: Eq + Drop> Store<K, V> {
-    /// Gives the record a value and its reads, verified in the revision `now`. The stamp of change moves to `now` exactly
-    /// where the value differs from the kept one.
-    pub(crate) fn renew(&mut self, node: usize, value: V, reads: Reads, now: u64)
-        requires { IsSome (node_at self.old node) }
-        ensures { (r : Node K V) → node_at self.old node ≡ Some r → Changes self.old self.new node
-            (record { key = r.key; value = value; reads = reads; input = r.input; verified_at = now; changed_at = (if V.eq r.value value then r.changed_at else now) }) }
+    /// Whether the record at the node has this value.
+    fn has_value(&self, node: usize, value: &V) -> bool
+        ensures { result ≡ true → (r : Node K V) → node_at self.now node ≡ Some r → V.eq r.value value.now ≡ true }
     {
-        if let Some(kept) = self.nodes.get_mut(node) {
-            let changed_at = if kept.value == value {
-                kept.changed_at
-            } else {
-                now
-            };
-            kept.value = value;
-            kept.reads = reads;
-            kept.verified_at = now;
-            kept.changed_at = changed_at;
+        match self.node(node) {
+            Some(kept) => *kept.value == *value,
+            None => false,
         }
+    }
+
+    /// Lets no record be clean that reads the node, where the record there has another value than this one, or that reads what isn't clean
+    /// any more by this call. What is seen of the records stays. It costs what is clean and reads the node, at once or by others.
+    pub(crate) fn prepare(&mut self, node: usize, value: &V) -> Result<(), AllocError>
+        ensures ok { OnOk result (Prepares V.eq self.old self.new node value.now) }
+        ensures err { OnErr result (self.new ≡ self.old) }
+    {
+        if self.has_value(node, value) {
+            return Ok(());
+        }
+        let reached = reaching(self.alloc, &self.readers, &self.nodes, node)?;
+        unmark_all(&mut self.nodes, reached.as_slice(), self.clean_at);
+        Ok(())
+    }
+
+    /// Gives the record of an input a value, verified in the revision `now`. The stamp of change moves to `now` exactly where the value
+    /// differs from the kept one.
+    pub(crate) fn set(&mut self, node: usize, value: V, now: u64)
+        requires { IsSome (node_at self.old node) }
+        ensures changes { (r : Node K V) → node_at self.old node ≡ Some r → Changes self.old self.new node
+            (record { key = r.key; value = value; reads = r.reads; input = r.input; verified_at = now; changed_at = (if V.eq r.value value then r.changed_at else now) }) }
+        ensures marks { SetsMark self.old self.new node false }
+        ensures clean_at { self.new.clean_at ≡ self.old.clean_at }
+    {
+        set_value(&mut self.nodes, node, value, now);
+    }
+
+    /// Gives the record of a run a value and its reads. It is clean, and the clean records were verified in the revision `now`. The stamp of
+    /// change moves to `now` exactly where the value differs from the kept one.
+    pub(crate) fn renew(
+        &mut self,
+        node: usize,
+        value: V,
+        reads: Reads,
+        now: u64,
+    ) -> Result<(), AllocError>
+        requires stands { IsSome (node_at self.old node) }
+        requires fresh { self.old.clean_at ≡ now }
+        ensures changes { OnOk result ((r : Node K V) → node_at self.old node ≡ Some r → Changes self.old self.new node
+            (record { key = r.key; value = value; reads = reads; input = r.input; verified_at = now; changed_at = (if V.eq r.value value then r.changed_at else now) })) }
+        ensures marks { OnOk result (SetsMark self.old self.new node true) }
+        ensures clean_at { self.new.clean_at ≡ self.old.clean_at }
+        ensures err { OnErr result (self.new ≡ self.old) }
+    {
+        self.readers.link(node, reads.as_slice())?;
+        set_run(&mut self.nodes, node, value, reads, now);
+        Ok(())
     }
 }

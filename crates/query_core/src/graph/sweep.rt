@@ -33,7 +33,7 @@ impl<R: Rules> Graph<R> {
         ensures { OnOk result (used.new ≡ all_marked used.old (reads_at self.now node)) }
     {
         match self.node(node) {
-            Some(kept) => used.mark_all(kept.reads.as_slice()),
+            Some(kept) => used.mark_all(kept.reads),
             None => Ok(()),
         }
     }

@@ -1,30 +1,30 @@
 // The walk of a demand, on a path of its own.
 
 ghost use Rattle.std.specs.Prelude.{◌≡◌, ℕ, ◌+◌, ◌<◌, ◌≤◌, ◌++◌, ◌∷◌, [], slice_get, true, false, None, Some, Ok, Err, OnOk, OnErr, IfSome, IsSome, IfOk, IsOk, Option, length};
-ghost use Rattle.std.specs.Option.{option_copied};
+ghost use Rattle.query_core.specs.Stored.{seen};
 ghost use Rattle.query_core.specs.Graph.{at, node_of, record_of, is_current, is_verified};
 ghost use Rattle.query_core.specs.Soundness.{IsSound, IsUnswept, kept};
 ghost use Rattle.query_core.specs.Queries.{HasReadFirst, ticks};
 ghost use Rattle.query_core.specs.Walk.{IsFrame, IsStage, IsChecking, IsRunning, HasBegun, IsHalt, IsGivenUp, halted, IsLook, IsLookAt, IsFound, IsSettledTo, IsCollected, IsEntry, IsStep, Finishes, AreAnswered};
 ghost use Rattle.query_core.specs.Lists.{Each, IsOnce};
-ghost use Rattle.query_core.specs.Changes.{IsHolding, IsRun, Leaves, Walked, ran};
-ghost use Rattle.query_core.specs.declared.store.Node.{Node};
+ghost use Rattle.query_core.specs.Changes.{IsHolding, IsRun, Leaves, Walked, WalkedBy, ran};
+ghost use Rattle.query_core.specs.Node.{Node};
 
 use super::{Graph, NodeId};
 use crate::frame::{Checked, Found, Frame, Halt, Hints, Look, Moved, Running, Stage};
 use crate::keys::{Answered, Keys, Reads, TryCopy};
+use crate::record::{Record, Seen};
 use crate::rules::{Answers, Rules, Step};
-use crate::store::Node;
 use std::alloc::{AllocError, Global};
 use std::sync::ledger::Ledger;
 use steps::Steps;
 
 impl<R: Rules> Graph<R> {
     /// Whether the record was verified now.
-    fn is_current(&self, rules: &R, node: &Node<R::Key, R::Value>) -> bool
-        ensures { result ≡ is_current R.queries self.now node.now }
+    fn is_current(&self, rules: &R, node: &Seen<'_, R::Key, R::Value>) -> bool
+        ensures { result ≡ is_current R.queries self.now (seen node.now) }
     {
-        rules.is_input(&node.key) || node.verified_at == self.revision
+        rules.is_input(node.key) || node.verified_at == self.revision
     }
 
     /// Where the record of a key stands that has this node.
@@ -39,7 +39,7 @@ impl<R: Rules> Graph<R> {
         let Some(kept) = self.node(index) else {
             return Found::Behind(node);
         };
-        if self.is_current(rules, kept) {
+        if self.is_current(rules, &kept) {
             Found::Current(index)
         } else {
             Found::Behind(node)
@@ -90,7 +90,7 @@ impl<R: Rules> Graph<R> {
         let Some(read) = self.node(node) else {
             unreachable!()
         };
-        if !self.is_current(rules, read) {
+        if !self.is_current(rules, &read) {
             return Look::Open;
         }
         if read.changed_at <= since {
@@ -110,7 +110,7 @@ impl<R: Rules> Graph<R> {
         let Some(kept) = self.node(node) else {
             unreachable!()
         };
-        let reads = kept.reads.as_slice();
+        let reads = kept.reads;
         for at in place..reads.len() {
             match self.look_at(rules, reads[at], kept.verified_at) {
                 Look::Settled => {}
@@ -129,7 +129,7 @@ impl<R: Rules> Graph<R> {
         let Some(kept) = self.node(node) else {
             unreachable!()
         };
-        let index = kept.reads.as_slice()[place];
+        let index = kept.reads[place];
         match self.node(index) {
             Some(read) => {
                 let key = read.key.try_copy()?;
@@ -142,7 +142,7 @@ impl<R: Rules> Graph<R> {
     /// The node of a read of a record, where there is one.
     fn read_at(&self, node: Option<usize>, place: usize) -> Option<usize> {
         let kept = self.node(node?)?;
-        kept.reads.as_slice().get(place).copied()
+        kept.reads.get(place).copied()
     }
 
     /// Takes the answers to what was asked, as far as it is verified, and gives the first key that isn't, with its node. A key that was
@@ -199,6 +199,7 @@ impl<R: Rules> Graph<R> {
         requires stale { is_verified R.queries self.old key.now ≡ false }
         requires numbered { node_of R.queries self.old key.now ≡ Some node }
         requires unswept { IsUnswept R.queries self.old }
+        requires fresh { self.old.demanded_at ≡ self.old.revision }
         requires settled { (r : Node R.Key R.Value) → at self.old node ≡ Some r → IsSettledTo R.queries self.old r (length r.reads) }
         ensures finishes { Finishes R.queries self.old self.new key.now node }
         ensures sound { IsSound R.queries self.new }
@@ -223,11 +224,12 @@ impl<R: Rules> Graph<R> {
         let value = rules.unset(self.alloc, &key)?;
         let reads = Reads::new(self.alloc);
         let now = self.revision;
-        let added = Node {
+        let added = Record {
             key,
             value,
             reads,
             input: true,
+            clean: false,
             verified_at: now,
             changed_at: now,
         };
@@ -246,6 +248,7 @@ impl<R: Rules> Graph<R> {
         requires numbered { node_of R.queries self.old key ≡ at_node }
         requires entry { IsEntry R.queries self.old key value reads }
         requires unswept { IsUnswept R.queries self.old }
+        requires fresh { self.old.demanded_at ≡ self.old.revision }
         ensures finishes { IfOk result (λ node. Finishes R.queries self.old self.new key node) }
         ensures sound { OnOk result (IsSound R.queries self.new) }
         ensures unswept { OnOk result (IsUnswept R.queries self.new) }
@@ -257,16 +260,17 @@ impl<R: Rules> Graph<R> {
         let ran = key.try_copy()?;
         match at_node {
             Some(node) => {
-                self.store.renew(node, value, reads, now);
+                self.store.renew(node, value, reads, now)?;
                 self.runs.push_reserved(ran);
                 Ok(node)
             }
             None => {
-                let added = Node {
+                let added = Record {
                     key,
                     value,
                     reads,
                     input: false,
+                    clean: true,
                     verified_at: now,
                     changed_at: now,
                 };
@@ -321,6 +325,7 @@ impl<R: Rules> Graph<R> {
     ) -> Result<Moved<R::Key, R::Run>, AllocError>
         requires stale { is_verified R.queries self.old key ≡ false }
         requires unswept { IsUnswept R.queries self.old }
+        requires fresh { self.old.demanded_at ≡ self.old.revision }
         requires numbered { node_of R.queries self.old key ≡ hints.node }
         requires running { IsRunning R.queries self.old key asked answered }
         requires begun { HasBegun R.queries R.has_read self.old key run asked }
@@ -368,6 +373,7 @@ impl<R: Rules> Graph<R> {
     ) -> Result<Moved<R::Key, R::Run>, AllocError>
         requires stale { is_verified R.queries self.old key ≡ false }
         requires unswept { IsUnswept R.queries self.old }
+        requires fresh { self.old.demanded_at ≡ self.old.revision }
         requires numbered { node_of R.queries self.old key ≡ node }
         requires running { IsRunning R.queries self.old key [] [] }
         ensures ok { IfOk result (IsStep R.queries R.has_read self.old self.new key steps.old steps.new) }
@@ -394,6 +400,7 @@ impl<R: Rules> Graph<R> {
     ) -> Result<Moved<R::Key, R::Run>, AllocError>
         requires stale { is_verified R.queries self.old key ≡ false }
         requires unswept { IsUnswept R.queries self.old }
+        requires fresh { self.old.demanded_at ≡ self.old.revision }
         requires checking { IsChecking R.queries self.old key node place }
         ensures ok { IfOk result (IsStep R.queries R.has_read self.old self.new key steps.old steps.new) }
         ensures err { OnErr result (IsGivenUp self.old self.new steps.old steps.new) }
@@ -422,6 +429,7 @@ impl<R: Rules> Graph<R> {
     ) -> Result<Moved<R::Key, R::Run>, AllocError>
         requires frame { IsFrame R.queries R.has_read self.old frame }
         requires unswept { IsUnswept R.queries self.old }
+        requires fresh { self.old.demanded_at ≡ self.old.revision }
         ensures ok { IfOk result (IsStep R.queries R.has_read self.old self.new frame.key steps.old steps.new) }
         ensures err { OnErr result (IsGivenUp self.old self.new steps.old steps.new) }
     {
@@ -457,6 +465,7 @@ impl<R: Rules> Graph<R> {
         requires stale { is_verified R.queries self.old key ≡ false }
         requires numbered { node_of R.queries self.old key ≡ at_node }
         requires unswept { IsUnswept R.queries self.old }
+        requires fresh { self.old.demanded_at ≡ self.old.revision }
         ensures walked { Walked R.queries self.old key self.new }
         ensures ok { IfOk result (λ id. IsHolding R.queries self.old self.new key id × (steps.new ≡ steps.old + length (ran self.old self.new))) }
         ensures err { OnErr result ((steps.old + length (ran self.old self.new) ≤ steps.new) × (steps.new ≤ steps.old + length (ran self.old self.new) + 1)) }
@@ -480,6 +489,40 @@ impl<R: Rules> Graph<R> {
                     None => return Ok(NodeId { index }),
                 },
             }
+        }
+    }
+
+    /// Lets the clean records count as verified now.
+    fn freshen(&mut self)
+        requires unswept { IsUnswept R.queries self.old }
+        ensures before { IsSound R.queries self.old }
+        ensures fresh { self.new.demanded_at ≡ self.new.revision }
+        ensures numbers { (k : R.Key) → node_of R.queries self.new k ≡ node_of R.queries self.old k }
+        ensures walked { WalkedBy R.queries self.old (λ k. ⊥) self.new }
+        ensures runs { self.new.runs ≡ self.old.runs }
+    {
+        let now = self.revision;
+        self.store.freshen(now);
+    }
+
+    /// Walks from a key that has this node, where it isn't clean.
+    fn catch_up<L: Ledger>(
+        &mut self,
+        rules: &R,
+        key: R::Key,
+        at_node: Option<usize>,
+        steps: &mut Steps<L>,
+    ) -> Result<NodeId, AllocError>
+        requires numbered { node_of R.queries self.old key ≡ at_node }
+        requires unswept { IsUnswept R.queries self.old }
+        ensures walked { Walked R.queries self.old key self.new }
+        ensures ok { IfOk result (λ id. IsHolding R.queries self.old self.new key id × (steps.new ≡ steps.old + length (ran self.old self.new))) }
+        ensures err { OnErr result ((steps.old + length (ran self.old self.new) ≤ steps.new) × (steps.new ≤ steps.old + length (ran self.old self.new) + 1)) }
+    {
+        self.freshen();
+        match self.stands(rules, &key, at_node) {
+            Found::Current(index) => Ok(NodeId { index }),
+            Found::Behind(node) => self.walk(rules, key, node, steps),
         }
     }
 
@@ -509,7 +552,7 @@ impl<R: Rules> Graph<R> {
         let found = self.node_of(&key);
         match self.stands(rules, &key, found) {
             Found::Current(index) => Ok(NodeId { index }),
-            Found::Behind(node) => self.walk(rules, key, node, steps),
+            Found::Behind(node) => self.catch_up(rules, key, node, steps),
         }
     }
 }

@@ -7,11 +7,11 @@ use Rattle.query_core.proofs.Reading.{record_none}
 pub returns-then-is_input : goal.returns-then-is_input
 returns-then-is_input g c =
     let is = sym c.if-is_input.ensures in
-    (is, no_record g.R.Rules.queries c.args.self.now (subst (IsSound g.R.Rules.queries) c.self.view_is c.self.invariant) c.args.key.now c.requires.stale is)
+    (is, no_record g.R.Rules.queries c.args.self.now (subst (IsSound g.R.Rules.queries) c.self.view_is c.self.invariant.sound) c.args.key.now c.requires.stale is)
 
 pub returns-in-Some : goal.returns-in-Some
 returns-in-Some g c =
-    stage_check g.R.Rules.queries c.args.self.now (subst (IsSound g.R.Rules.queries) c.self.view_is c.self.invariant) c.args.key.now c.in-Some.node (sym c.if-is_input.ensures) (c.requires.numbered ∙ c.in-Some.is)
+    stage_check g.R.Rules.queries c.args.self.now (subst (IsSound g.R.Rules.queries) c.self.view_is c.self.invariant.sound) c.args.key.now c.in-Some.node (sym c.if-is_input.ensures) (c.requires.numbered ∙ c.in-Some.is)
 
 pub returns-in-None : goal.returns-in-None
 returns-in-None g c =

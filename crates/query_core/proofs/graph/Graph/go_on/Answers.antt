@@ -31,7 +31,7 @@ returns-in-Done-clause-halt g c =
 
 pub round-requires : goal.round-requires
 round-requires g c =
-    begun_round g.R.Rules.queries g.R.Rules.has_read g.met.R.Rules.lawful c.args.self.now (subst (IsSound g.R.Rules.queries) c.self.view_is c.self.invariant) c.args.key.now c.rounds.run c.rounds.asked c.collect.new.answered
+    begun_round g.R.Rules.queries g.R.Rules.has_read g.met.R.Rules.lawful c.args.self.now (subst (IsSound g.R.Rules.queries) c.self.view_is c.self.invariant.sound) c.args.key.now c.rounds.run c.rounds.asked c.collect.new.answered
     (subst (IsCollected g.R.Rules.queries c.args.self.now c.rounds.asked c.collect.new.answered) c.in-None.is c.in_ok-open.ensures) c.rounds.invariant.begun
 
 pub returns-in-Done-clause-begun : goal.returns-in-Done-clause-begun

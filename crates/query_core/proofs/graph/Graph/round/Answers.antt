@@ -7,4 +7,4 @@ returns-clause-step g c =
     rw (← c.self.view_is) (subst (λ l. IfOk c.next.result (λ s. s ≡ g.R.Rules.queries.step c.args.key.now l)) c.new-answers.ensures c.next.ensures.step)
 
 pub new-answers-requires : goal.new-answers-requires
-new-answers-requires g c = numbered_of g.R.Rules.queries g.met.R.Rules.lawful g.R.Key.PartialEq.eq g.met.R.Rules.same_keys c.self.inside.store c.self.inside.revision c.self.inside.runs.items c.self.invariant
+new-answers-requires g c = numbered_of g.R.Rules.queries g.met.R.Rules.lawful g.R.Key.PartialEq.eq g.met.R.Rules.same_keys c.self.inside.store c.self.inside.revision c.self.inside.runs.items c.self.invariant.sound

@@ -1,4 +1,4 @@
-use Rattle.std.proofs.Common.{subst, sym, ap, ◌∙◌, append-nil, ◌≤◌, ◌+◌, length, ◌++◌, ◌∷◌, []}
+use Rattle.std.proofs.Common.{subst, sym, ap, ◌∙◌, ◌≡◌, append-nil, ◌≤◌, ◌+◌, length, ◌++◌, ◌∷◌, []}
 use Rattle.std.proofs.lemmas.List.{nil_from_length}
 use Rattle.query_core.specs.Soundness.{IsSound}
 use Rattle.query_core.specs.Changes.{ran}
@@ -9,7 +9,8 @@ use Rattle.query_core.proofs.graph.Graph.walk.Goals as goal
 pub steps-init : goal.steps-init
 steps-init g c = record {
   walk = rw c.new-path.ensures.items
-      (walk_begins g.R.Rules.queries g.R.Rules.has_read c.args.self.now c.args.key c.begin-top.result.key c.args.steps.now (subst (IsSound g.R.Rules.queries) c.self.view_is c.self.invariant) c.requires.unswept c.begin-top.ensures.key);
+      (walk_begins g.R.Rules.queries g.R.Rules.has_read c.args.self.now c.args.key c.begin-top.result.key c.args.steps.now (subst (IsSound g.R.Rules.queries) c.self.view_is c.self.invariant.sound) c.requires.unswept c.begin-top.ensures.key);
+  fresh = c.requires.fresh;
   frame = c.begin-top.ensures.frame;
 }
 
@@ -35,6 +36,7 @@ steps-preserved-in-Waits g c =
     record {
       walk = waits_on g.R.Rules.queries g.R.Rules.has_read g.met.R.Rules.lawful c.args.self.now c.args.key c.steps.self c.steps.top.key c.steps.path.items c.args.steps.now c.steps.steps c.steps.invariant.walk c.advance.new.self c.advance.new.steps c.in-Waits.frame c.in-Waits.on c.in-Waits.at_node c.push_reserved.new.self.items c.begin-top-in-Waits.result (subst (IsStep g.R.Rules.queries g.R.Rules.has_read c.steps.self c.advance.new.self c.steps.top.key c.steps.steps c.advance.new.steps) c.in-Waits.is c.in_ok-moved.ensures.ok)
           (c.push_reserved.ensures.items ∙ ap (λ l. l ++ c.in-Waits.frame ∷ []) c.in_ok-reserve-in-Waits.ensures.items) c.begin-top-in-Waits.ensures.key;
+      fresh = subst (λ o. o.demanded_at ≡ o.revision) (sym (subst (IsStep g.R.Rules.queries g.R.Rules.has_read c.steps.self c.advance.new.self c.steps.top.key c.steps.steps c.advance.new.steps) c.in-Waits.is c.in_ok-moved.ensures.ok).0) c.steps.invariant.fresh;
       frame = c.begin-top-in-Waits.ensures.frame;
     }
 
@@ -44,7 +46,7 @@ steps-smaller g c =
 
 pub steps-preserved : goal.steps-preserved
 steps-preserved g c =
-    let h = goes_on g.R.Rules.queries g.R.Rules.has_read g.met.R.Rules.lawful c.args.self.now c.args.key c.steps.self c.steps.top.key c.steps.path.items c.args.steps.now c.steps.steps c.steps.invariant.walk c.advance.new.self c.in-Done.index c.advance.new.steps c.steps.invariant.frame.stale (subst (IsStep g.R.Rules.queries g.R.Rules.has_read c.steps.self c.advance.new.self c.steps.top.key c.steps.steps c.advance.new.steps) c.in-Done.is c.in_ok-moved.ensures.ok) c.in-Some.frame c.pop.new.self.items c.in-Some.ensures.items in record { walk = h.0; frame = h.1 }
+    let h = goes_on g.R.Rules.queries g.R.Rules.has_read g.met.R.Rules.lawful c.args.self.now c.args.key c.steps.self c.steps.top.key c.steps.path.items c.args.steps.now c.steps.steps c.steps.invariant.walk c.advance.new.self c.in-Done.index c.advance.new.steps c.steps.invariant.frame.stale (subst (IsStep g.R.Rules.queries g.R.Rules.has_read c.steps.self c.advance.new.self c.steps.top.key c.steps.steps c.advance.new.steps) c.in-Done.is c.in_ok-moved.ensures.ok) c.in-Some.frame c.pop.new.self.items c.in-Some.ensures.items in let f = (subst (IsStep g.R.Rules.queries g.R.Rules.has_read c.steps.self c.advance.new.self c.steps.top.key c.steps.steps c.advance.new.steps) c.in-Done.is c.in_ok-moved.ensures.ok).0 in record { walk = h.0; fresh = f.demanded_at ∙ c.steps.invariant.fresh ∙ sym f.puts.revision; frame = h.1 }
 
 pub returns-in-None-clause-walked : goal.returns-in-None-clause-walked
 returns-in-None-clause-walked g c =

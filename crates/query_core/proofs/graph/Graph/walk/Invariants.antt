@@ -1,4 +1,4 @@
-use Rattle.std.proofs.Common.{reverse}
+use Rattle.std.proofs.Common.{reverse, ◌≡◌}
 use Rattle.query_core.specs.Walk.{IsFrame}
 use Rattle.query_core.proofs.Ending.{Walk, to_do}
 use Rattle.query_core.proofs.graph.Graph.walk.Given as goal
@@ -6,6 +6,7 @@ use Rattle.query_core.proofs.graph.Graph.walk.Given as goal
 abbrev pub invariant-steps : goal.invariant-steps
 invariant-steps g l = record {
   walk : Walk g.R.Rules.queries g.R.Rules.has_read l.fn.self l.fn.key l.self l.top.key (reverse l.path.items) l.fn.steps l.steps;
+  fresh : l.self.demanded_at ≡ l.self.revision;
   frame : IsFrame g.R.Rules.queries g.R.Rules.has_read l.self l.top;
 }
 

@@ -1,5 +1,6 @@
 use Rattle.std.proofs.Common.{sym, ◌∙◌, ap}
 use Rattle.std.specs.Option.{option_copied}
+use Rattle.query_core.specs.Stored.{seen}
 use Rattle.query_core.proofs.Answering.{pairs_absent, pairs_not_among, pairs_among}
 use Rattle.query_core.proofs.rules.Answers.get.Goals as goal
 
@@ -16,5 +17,5 @@ returns-then-not-contains g c =
 pub returns : goal.returns
 returns g c =
     rw (← c.self.view_is)
-    (sym (pairs_among g.K.PartialEq.eq c.self.inside.store.now c.args.key.now c.self.inside.answered.now c.in_ok-node.node c.in_ok-kept.kept.now c.self.invariant (sym c.in_ok-node.ensures)
+    (sym (pairs_among g.K.PartialEq.eq c.self.inside.store.now c.args.key.now c.self.inside.answered.now c.in_ok-node.node (seen c.in_ok-kept.kept) c.self.invariant (sym c.in_ok-node.ensures)
     (sym c.in_ok-kept.ensures) (sym c.if-not-contains.ensures)))

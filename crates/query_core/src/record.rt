@@ -1,0 +1,127 @@
+// The record of a key, and writes to the one at a node.
+
+ghost use Rattle.std.specs.Prelude.{◌≡◌, true, false, Some, None, if◌then◌else◌};
+ghost use Rattle.slab.specs.Slab.{get, Updates};
+ghost use Rattle.query_core.specs.declared.record.Record.{Record};
+
+use crate::keys::Reads;
+use slab::Slab;
+
+/// The record of a key, as it is kept.
+#[derive(Drop)]
+pub(crate) struct Record<K, V> {
+    /// The key.
+    pub(crate) key: K,
+    /// Its value.
+    pub(crate) value: V,
+    /// The nodes that its run read, in the order of asking.
+    pub(crate) reads: Reads,
+    /// Whether the key is an input.
+    pub(crate) input: bool,
+    /// Whether it was last verified with all clean records.
+    pub(crate) clean: bool,
+    /// The revision in which it was last verified, where it isn't clean.
+    pub(crate) verified_at: u64,
+    /// The revision in which its value last changed.
+    pub(crate) changed_at: u64,
+}
+
+/// A look at a record.
+#[derive(Drop)]
+pub(crate) struct Seen<'a, K, V> {
+    /// The key.
+    pub(crate) key: &'a K,
+    /// Its value.
+    pub(crate) value: &'a V,
+    /// The nodes that its run read, in the order of asking.
+    pub(crate) reads: &'a [usize],
+    /// Whether the key is an input.
+    pub(crate) input: bool,
+    /// The revision in which it was last verified.
+    pub(crate) verified_at: u64,
+    /// The revision in which its value last changed.
+    pub(crate) changed_at: u64,
+}
+
+/// The stamp of change of the record once it has this value.
+fn changed_at<K, V: Eq>(kept: &Record<K, V>, value: &V, now: u64) -> u64
+    ensures { result ≡ (if V.eq kept.now.value value.now then kept.now.changed_at else now) }
+{
+    if kept.value == *value {
+        kept.changed_at
+    } else {
+        now
+    }
+}
+
+/// The revision in which the record was last verified, where the clean ones were in this.
+pub(crate) fn stamp<K, V>(kept: &Record<K, V>, clean_at: u64) -> u64
+    ensures { result ≡ (if kept.now.clean then clean_at else kept.now.verified_at) }
+{
+    if kept.clean {
+        clean_at
+    } else {
+        kept.verified_at
+    }
+}
+
+/// Marks the record at the node as clean.
+pub(crate) fn mark_clean<K: Drop, V: Drop>(nodes: &mut Slab<Record<K, V>>, node: usize)
+    ensures some { (r : Record K V) → get nodes.old node ≡ Some r → Updates nodes.old nodes.new node (Some (record r { clean = true })) }
+    ensures none { get nodes.old node ≡ None → nodes.new.slots ≡ nodes.old.slots }
+{
+    if let Some(kept) = nodes.get_mut(node) {
+        kept.clean = true;
+    }
+}
+
+/// Gives the record at the node a value, verified in the revision `now`; it isn't clean.
+pub(crate) fn set_value<K: Drop, V: Eq + Drop>(
+    nodes: &mut Slab<Record<K, V>>,
+    node: usize,
+    value: V,
+    now: u64,
+)
+    ensures some { (r : Record K V) → get nodes.old node ≡ Some r → Updates nodes.old nodes.new node (Some (record r
+        { value = value; clean = false; verified_at = now; changed_at = (if V.eq r.value value then r.changed_at else now) })) }
+    ensures none { get nodes.old node ≡ None → nodes.new.slots ≡ nodes.old.slots }
+{
+    if let Some(kept) = nodes.get_mut(node) {
+        let changed_at = changed_at(kept, &value, now);
+        kept.value = value;
+        kept.clean = false;
+        kept.verified_at = now;
+        kept.changed_at = changed_at;
+    }
+}
+
+/// Gives the record at the node the value and the reads of a run in the revision `now`; it is clean.
+pub(crate) fn set_run<K: Drop, V: Eq + Drop>(
+    nodes: &mut Slab<Record<K, V>>,
+    node: usize,
+    value: V,
+    reads: Reads,
+    now: u64,
+)
+    ensures some { (r : Record K V) → get nodes.old node ≡ Some r → Updates nodes.old nodes.new node (Some (record r
+        { value = value; reads = reads; clean = true; changed_at = (if V.eq r.value value then r.changed_at else now) })) }
+{
+    if let Some(kept) = nodes.get_mut(node) {
+        let changed_at = changed_at(kept, &value, now);
+        kept.value = value;
+        kept.reads = reads;
+        kept.clean = true;
+        kept.changed_at = changed_at;
+    }
+}
+
+/// Lets the record at the node not be clean, where there is one; the clean ones were verified in this revision.
+pub(crate) fn unmark<K: Drop, V: Drop>(nodes: &mut Slab<Record<K, V>>, node: usize, clean_at: u64)
+    ensures some { (r : Record K V) → get nodes.old node ≡ Some r → Updates nodes.old nodes.new node (Some (record r { clean = false; verified_at = (if r.clean then clean_at else r.verified_at) })) }
+    ensures none { get nodes.old node ≡ None → nodes.new.slots ≡ nodes.old.slots }
+{
+    if let Some(kept) = nodes.get_mut(node) {
+        kept.verified_at = stamp(kept, clean_at);
+        kept.clean = false;
+    }
+}
