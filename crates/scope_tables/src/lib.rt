@@ -4,10 +4,12 @@
 mod bindings;
 mod entities;
 mod index;
+mod meanings;
 mod scopes;
 mod sharing;
 mod table;
 
 pub use bindings::Binding;
 pub use entities::{Anchor, Entity, EntityKind, Life, Linkage, Occ, Role, ScopeKind};
+pub use meanings::{BodyMeaning, HeadMeaning, How, Stated};
 pub use scopes::Scopes;
