@@ -1,0 +1,10 @@
+pub mod Alignment
+pub mod Completeness
+pub mod Declarations
+pub mod Entities
+pub mod Faults
+pub mod Linkages
+pub mod Redeclared
+pub mod Shapes
+pub mod Sorts
+pub mod Storages
