@@ -1,0 +1,6 @@
+use Rattle.std.proofs.Common.{◌≡◌}
+use Rattle.plain_mean.specs.Given.{AreTrue}
+use Rattle.plain_mean.proofs.units.tokens_over.Given as goal
+
+abbrev pub invariant-asks : goal.invariant-asks
+invariant-asks l = AreTrue l.docs l.files.items × (l.unit ≡ l.conf)
