@@ -3,6 +3,7 @@ use shared_list::Listing;
 use shared_text::Name;
 use std::alloc::{AllocError, Global};
 use type_data::{CType, ItemName, Layout, Member, Qual, TagId, TagInfo, TagKind, Tags};
+use type_print::print;
 use type_rel::{layout, size_align};
 
 /// The greatest size of a type, in bytes.
@@ -125,6 +126,40 @@ impl Laying {
         Ok(true)
     }
 
+    // A tag of which the name alone is known: its number, its kind and its name.
+    fn named(&mut self, alloc: Global, word: &str) -> Result<bool, AllocError> {
+        let Some((number, rest)) = word.split_once(':') else {
+            return Ok(false);
+        };
+        let Some((kind, name)) = rest.split_once(':') else {
+            return Ok(false);
+        };
+        let Ok(number) = number.parse::<u32>() else {
+            return Ok(false);
+        };
+        let name = Name::from_str(alloc, name)?;
+        let info = TagInfo {
+            kind: kind_named(kind),
+            name: Some(name),
+            members: None,
+            layout: None,
+        };
+        let id = tag(alloc, number)?;
+        self.tags.insert(id, info)?;
+        Ok(true)
+    }
+
+    /// A type's text round a name.
+    pub fn printed(
+        &self,
+        alloc: Global,
+        ty: &CType,
+        qual: Qual,
+        name: &str,
+    ) -> Result<String, AllocError> {
+        print(alloc, ty, qual, name, &self.tags)
+    }
+
     /// Whether the word is one of those that take no type.
     pub fn word(&mut self, alloc: Global, word: &str) -> Result<bool, AllocError> {
         if let Some(kind) = word.strip_prefix("kind:") {
@@ -144,6 +179,9 @@ impl Laying {
         }
         if let Some(rest) = word.strip_prefix("complete:") {
             return self.entry(alloc, rest, true);
+        }
+        if let Some(rest) = word.strip_prefix("named:") {
+            return self.named(alloc, rest);
         }
         match word.strip_prefix("incomplete:") {
             Some(rest) => self.entry(alloc, rest, false),

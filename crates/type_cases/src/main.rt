@@ -1,6 +1,6 @@
 // Types and their relations, case by case: reads calls from standard input, one a line, and prints the answer of each behind
 // its line. Types are in postfix notation. `promote`, `usual` and `composite` have the wanted answer as the last type,
-// `layout` and `size_align` as words of their own, and these print whether it is the one.
+// `layout` and `size_align` as words of their own, and these print whether it is the one. `print` shows a type's text.
 #![tactic(auto)]
 
 mod laying;
@@ -27,7 +27,35 @@ fn answered(alloc: Global, line: &str) -> Result<Option<bool>, AllocError> {
     read.answer(alloc, call)
 }
 
+/// The text of a type, or none where the words aren't one: they begin with its own qualifiers and a name, `-` for none.
+fn printed(alloc: Global, words: &str) -> Result<Option<String>, AllocError> {
+    let mut words = words.split_ascii_whitespace();
+    let (Some(quals), Some(name)) = (words.next(), words.next()) else {
+        return Ok(None);
+    };
+    let mut read = Notes::new(alloc);
+    for word in words {
+        if !read.word(alloc, word)? {
+            return Ok(None);
+        }
+    }
+    read.printed(alloc, quals, if name == "-" { "" } else { name })
+}
+
+fn show_printed(rt: &HostRuntime, line: &str, words: &str) -> io::Result<()> {
+    match printed(rt.alloc(), words)? {
+        Some(text) => {
+            let text = text.as_str();
+            println!(rt; "{line} = {text}")
+        }
+        None => println!(rt; "{line} is no type"),
+    }
+}
+
 fn show(rt: &HostRuntime, line: &str) -> io::Result<()> {
+    if let Some(words) = line.strip_prefix("print ") {
+        return show_printed(rt, line, words);
+    }
     match answered(rt.alloc(), line)? {
         Some(true) => println!(rt; "{line} = true"),
         Some(false) => println!(rt; "{line} = false"),

@@ -182,6 +182,20 @@ impl Notes {
         Ok(Some(made == wanted))
     }
 
+    /// The text of the last type that was read, round a name.
+    pub fn printed(
+        &mut self,
+        alloc: Global,
+        quals: &str,
+        name: &str,
+    ) -> Result<Option<String>, AllocError> {
+        let Some(ty) = self.types.pop() else {
+            return Ok(None);
+        };
+        let text = self.laying.printed(alloc, &ty, qual_named(quals), name)?;
+        Ok(Some(text))
+    }
+
     /// The answer of a call with what was read, or whether it answers the last type that was read.
     pub fn answer(&mut self, alloc: Global, call: &str) -> Result<Option<bool>, AllocError> {
         if call == "compatible" || call == "assignable" {
