@@ -83,14 +83,11 @@ fn around(alloc: Global, of: CType, letter: u8) -> Result<CType, AllocError> {
 
 /// The type that a word stands for.
 pub fn type_named(alloc: Global, word: &str) -> Result<CType, AllocError> {
-    let mut letters = word.as_bytes();
-    let Some((first, rest)) = letters.split_first() else {
+    let Some((first, letters)) = word.as_bytes().split_first() else {
         return Ok(CType::of(Node::Bad));
     };
-    letters = rest;
     let mut ty = base(alloc, *first)?;
-    while let Some((letter, rest)) = letters.split_first() {
-        letters = rest;
+    for letter in letters {
         ty = around(alloc, ty, *letter)?;
     }
     Ok(ty)
