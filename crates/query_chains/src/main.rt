@@ -1,12 +1,12 @@
 // Long chains and wide rows of cells: a walk doesn't stand on the machine's stack. Prints the value and the number of runs
-// after each edit. With three numbers as words, a row's length, a count and a value, it makes so many edits over a row of so
-// many cells, each of which sets another input to the value; with a fourth number the row asks for one cell after the other.
-// `bench/run` times these.
+// after each edit. With words it makes other edits, for `bench/run` to time: a shape (`row`, `each`, `chain`, `all`), its
+// length, how many edits, the distance of their inputs, the first value and how much it rises from edit to edit; or a shape
+// (`piles`, `rows`), its level or first length, how many roots, and the same of the edits, each with a sweep.
 #![tactic(auto)]
 
 ghost use Rattle.std.specs.Prelude.{◌≡◌, ◌<◌, IfOk, length};
 
-use query_tests::{Cell, Edit, edit_all};
+use query_tests::{Cell, Edit, edit_all, edit_under};
 use std::alloc::{AllocError, Global};
 use std::marker::Brand;
 use std::sync::ledger::Blank;
@@ -75,31 +75,71 @@ static EDITS: [Edit; 12] = [
     },
 ];
 
-/// The numbers among the words after the program's name.
-fn numbers_asked(rt: &HostRuntime) -> io::Result<Vec<u32>> {
+/// What the words after the program's name ask for: the shape of the cells, and numbers.
+#[derive(Drop)]
+struct Asked {
+    words: Vec<String>,
+    numbers: Vec<u32>,
+}
+
+/// Reads the words; the first is the shape, and those that are no numbers aren't among these.
+fn read_words(rt: &HostRuntime) -> io::Result<Asked> {
+    let mut words = Vec::new(rt.alloc());
     let mut numbers = Vec::new(rt.alloc());
     for word in env::args(rt)?.skip(1) {
         if let Ok(number) = word.parse::<u32>() {
             numbers.push(number)?;
         }
+        words.push(word)?;
     }
-    Ok(numbers)
+    Ok(Asked { words, numbers })
 }
 
-/// Edits of the first inputs, one after the other: each sets its input to the value, and demands the row.
-fn row_edits(alloc: Global, row: Cell, count: u32, value: u32) -> Result<Vec<Edit>, AllocError>
+/// The cell of a shape over so many others.
+fn cell_of(shape: &str, length: u32) -> Option<Cell> {
+    match shape {
+        "row" => Some(Cell::Wide(length)),
+        "each" => Some(Cell::Each(length)),
+        "chain" => Some(Cell::Chain(length)),
+        "all" => Some(Cell::All(length)),
+        _ => None,
+    }
+}
+
+/// Edits one after the other: of each `span`-th input, to a value that rises by `rise`, with a demand of the cell.
+fn edits_of(
+    alloc: Global,
+    demand: Cell,
+    count: u32,
+    span: u32,
+    value: u32,
+    rise: u32,
+) -> Result<Vec<Edit>, AllocError>
     requires { count < 1000 }
     ensures { IfOk result (λ edits. length edits.items ≡ count) }
 {
     let mut edits = Vec::new(alloc);
-    for input in 0..count {
+    for number in 0..count {
         edits.push(Edit {
-            input,
-            value,
-            demand: row,
+            input: number.wrapping_mul(span),
+            value: value.wrapping_add(number.wrapping_mul(rise)),
+            demand,
         })?;
     }
     Ok(edits)
+}
+
+/// The cells of a shape that stand side by side: piles of a level, or rows of rising lengths.
+fn roots_of(alloc: Global, shape: &str, length: u32, count: u32) -> Result<Vec<Cell>, AllocError> {
+    let mut roots = Vec::new(alloc);
+    for number in 0..count {
+        let root = match shape {
+            "piles" => Cell::Pile(length, number),
+            _ => Cell::Wide(length.wrapping_add(number)),
+        };
+        roots.push(root)?;
+    }
+    Ok(roots)
 }
 
 /// Makes the edits, and prints what each demand gave.
@@ -115,17 +155,42 @@ fn show(rt: &HostRuntime, edits: &[Edit]) -> io::Result<()>
     Ok(())
 }
 
+/// Makes the edits with a demand of all roots and a sweep after each, and prints how many cells ran for each.
+fn show_runs(rt: &HostRuntime, roots: &[Cell], edits: &[Edit]) -> io::Result<()>
+    requires { length edits.now < 1000 }
+{
+    let all = edit_under::<Brand>(rt.alloc(), Blank::new(1), roots, edits)?;
+    for runs in all.iter() {
+        println!(rt; "{runs}")?;
+    }
+    Ok(())
+}
+
+/// Plays the edits that are asked for.
+fn play(rt: &HostRuntime, shape: &str, numbers: &[u32]) -> io::Result<()> {
+    match numbers {
+        [length, count, span, value, rise] => match cell_of(shape, *length) {
+            Some(cell) => {
+                let count = (*count).min(999);
+                let edits = edits_of(rt.alloc(), cell, count, *span, *value, *rise)?;
+                show(rt, edits.as_slice())
+            }
+            None => Ok(()),
+        },
+        [length, roots, count, span, value, rise] => {
+            let roots = roots_of(rt.alloc(), shape, *length, *roots)?;
+            let count = (*count).min(999);
+            let edits = edits_of(rt.alloc(), Cell::Top, count, *span, *value, *rise)?;
+            show_runs(rt, roots.as_slice(), edits.as_slice())
+        }
+        _ => Ok(()),
+    }
+}
+
 fn main(rt: HostRuntime) -> io::Result<()> {
-    let numbers = numbers_asked(&rt)?;
-    match numbers.as_slice() {
-        [row, count, value] => {
-            let edits = row_edits(rt.alloc(), Cell::Wide(*row), (*count).min(999), *value)?;
-            show(&rt, edits.as_slice())
-        }
-        [row, count, value, _] => {
-            let edits = row_edits(rt.alloc(), Cell::Each(*row), (*count).min(999), *value)?;
-            show(&rt, edits.as_slice())
-        }
-        _ => show(&rt, &EDITS),
+    let asked = read_words(&rt)?;
+    match asked.words.first() {
+        Some(shape) => play(&rt, shape.as_str(), asked.numbers.as_slice()),
+        None => show(&rt, &EDITS),
     }
 }

@@ -14,6 +14,10 @@ if_ok_map : {A E : Type 0} (r : Result A E) (P Q : A → Type 0) → ((a : A) �
 if_ok_map (Ok a) P Q f h = f a h
 if_ok_map (Err e) P Q f h = h
 
+pub if_ok_first : {A E : Type 0} (r : Result A E) (P Q : A → Type 0) → IfOk r (λ a. P a × Q a) → IfOk r P
+if_ok_first (Ok a) P Q h = h.0
+if_ok_first (Err e) P Q h = h
+
 module _ {K V : Type 0} (g0 g1 g2 : Held K V) (same : g1.runs ≡ g0.runs) where
   ran_same : ran g1 g2 ≡ ran g0 g2
   ran_same = ap (λ l. drop (length l) g2.runs) same

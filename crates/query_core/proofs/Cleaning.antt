@@ -15,6 +15,7 @@ use Rattle.query_core.proofs.Puts.{Keeps, same_key}
 use Rattle.query_core.proofs.Reading.{record_is}
 use Rattle.query_core.proofs.Calls.{held, SetDone}
 use Rattle.query_core.proofs.Finishing.{FinishDone}
+use Rattle.query_core.proofs.Cycles.{no_cycle_input, no_cycle_puts}
 
 module _ {K V : Type 0} (q : Queries K V) (laws : AreLawful q) (old new : Held K V) (clean clean' : ℕ → Bool) (i : ℕ) (r : Node K V) (sound : IsSound q old) (puts : Puts q old new i r) (are : AreClean q old clean) where
   -- what may still be clean once the record of an input was put
@@ -143,6 +144,8 @@ module _ {K V : Type 0} (q : Queries K V) (laws : AreLawful q) (old new : Held K
         sound = done.sound;
         marked = finish_marked q laws old new clean clean' i f.entry kept.sound f.puts kept.marked.are_clean kept.marked fresh f.demanded_at done.keeps (subst (λ x. q.is_input x ≡ false) (sym f.key) isnt) own others
             (λ s at_i. not_current q old kept.sound k i s stale at_i (same_key q laws old new i f.entry kept.sound f.puts s at_i ∙ f.key));
+        acyclic = no_cycle_puts q old new i f.entry f.puts kept.sound (λ j h. (done.keeps.reads j h).1)
+            (λ s at_i. not_current q old kept.sound k i s stale at_i (same_key q laws old new i f.entry kept.sound f.puts s at_i ∙ f.key)) kept.acyclic;
       }
 
   -- an input was added that isn't set
@@ -161,6 +164,7 @@ module _ {K V : Type 0} (q : Queries K V) (laws : AreLawful q) (old new : Held K
             ))
             f.demanded_at
             (λ a e at_a na c no. kept.marked.before a e at_a (sym (others a na) ∙ c) no);
+        acyclic = no_cycle_input q old new i f.entry f.puts none kept.acyclic;
       }
 
 module _ {K V : Type 0} (q : Queries K V) (laws : AreLawful q) (s s' : Stored K V) (n : ℕ) (rs : List K) (kept : IsKept q (held s n rs) (mark_at s.clean)) (fresh : IsFresh q (held s n rs)) (k : K) (v : V) (i : ℕ)
@@ -183,6 +187,7 @@ module _ {K V : Type 0} (q : Queries K V) (laws : AreLawful q) (s s' : Stored K 
         (λ a j e at_a c has. (inr (λ x at_i. let bad : ⊥ = cc in absurd bad), λ nj cj. others j nj ∙ cj))
         same_at
         (λ a e at_a na c no. fresh a e at_a no);
+    acyclic = no_cycle_input q (held s n rs) (held s' n rs) i done.sets.entry puts_at done.sets.reads kept.acyclic;
   }
 
   -- an input's value was set, in a store that was prepared for it
@@ -205,4 +210,5 @@ module _ {K V : Type 0} (q : Queries K V) (laws : AreLawful q) (s s' : Stored K 
         ))
         same_at
         (λ a e at_a na c no. fresh a e at_a no);
+    acyclic = no_cycle_input q (held s n rs) (held s' n rs) i done.sets.entry puts_at done.sets.reads kept.acyclic;
   }

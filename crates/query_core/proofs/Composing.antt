@@ -7,7 +7,7 @@ use Rattle.query_core.specs.Graph.{Held, at, node_of, record_of, inputs, is_curr
 use Rattle.query_core.specs.Soundness.{IsSound, IsUnswept}
 use Rattle.query_core.specs.Due.{HasChangedRead, IsDue}
 use Rattle.query_core.specs.Changes.{Moves, IsReached, IsRun, IsRunBy, LeavesBy, IsHolding, Walked, WalkedBy, ran}
-use Rattle.query_core.specs.Laws.{IsReachedFrom, VerifiedHolds, DemandsBegin, DemandsGoOn, DueBefore, HeldOn}
+use Rattle.query_core.specs.Laws.{IsReachedFrom, VerifiedHolds, DemandsBegin, DemandsGoOn, DueBefore, HeldOn, VerifiedOn}
 use Rattle.query_core.specs.Node.{Node}
 use Rattle.query_core.proofs.Words.{Has-left, Has-right, Has-middle, Each-at, Each-append, Each-map}
 use Rattle.query_core.proofs.Reading.{record_is, verified_is, record_none}
@@ -16,7 +16,7 @@ use Rattle.query_core.proofs.Steps.{stamped_current}
 use Rattle.query_core.proofs.Setting.{record_node}
 use Rattle.query_core.proofs.Finishing.{not_ran}
 use Rattle.query_core.proofs.Leaving.{IsLeftOrRan, Left, left_none, became, no_record_before, stale_record, stale_before}
-use Rattle.query_core.proofs.Ending.{walked_from}
+use Rattle.query_core.proofs.Ending.{walked_from, holds_already}
 
 module _ {K V : Type 0} (q : Queries K V) (laws : AreLawful q) where
   -- a key is in a list, or it isn't
@@ -251,3 +251,10 @@ module _ {K V : Type 0} (q : Queries K V) (laws : AreLawful q) where
             (let s : Node K V = record r { verified_at = g1.revision } in
             (s, (subst (λ x. node_of q g2 x ≡ Some node) key (w.sound.numbered node s e), e, key, stamped_current q g2 s (sym w.leaves.revision), h.1.4)))
       ]
+
+  pub verified_on : VerifiedOn q
+  verified_on g1 g2 root sound1 w k v =
+      elim (node_of q g1 k) as (λ o. node_of q g1 k ≡ o → is_verified q g2 k ≡ true) [
+        | None ↦ (λ n. let no : is_verified q g1 k ≡ false = ap (λ o. option_map_or (is_current q g1) o false) (record_none q g1 k n) in let bad : ⊥ = cc in absurd bad)
+        | Some i ↦ (λ n. let h = held_on g1 g1 g2 root k i sound1 refl w (holds_already q laws g1 sound1 k i n v) in verified_is q g2 k i h.0 h.1.0 h.1.1 ∙ h.1.3)
+      ] refl

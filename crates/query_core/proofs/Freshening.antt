@@ -17,6 +17,7 @@ use Rattle.query_core.proofs.Calls.{held}
 use Rattle.query_core.proofs.Steps.{stamped_current}
 use Rattle.query_core.proofs.Leaving.{Left, IsLeftOrRan}
 use Rattle.query_core.proofs.Ending.{walked_from}
+use Rattle.query_core.proofs.Cycles.{no_cycle_same, empty_no_cycle}
 
 module _ {K V : Type 0} (q : Queries K V) (clean : ℕ → Bool) (old new : Held K V) (sound : IsSound q old) (are : AreClean q old clean) (f : Freshened q clean old new) where
   -- a record that stood, and what became of it
@@ -276,6 +277,8 @@ freshen_done {K} {V} q s s' n rs kept unswept f =
       kept = record {
         sound = sound_freshens q (mark_at s.clean) (held s n rs) (held s' n rs) kept.sound kept.marked.are_clean f';
         marked = marked_freshens q (mark_at s.clean) (held s n rs) (held s' n rs) kept.sound kept.marked.are_clean f' kept.marked (mark_at s'.clean) (λ a. ap (λ l. mark_at l a) f.clean) f.clean_at;
+        acyclic = no_cycle_same s.nodes s'.nodes (λ i j r e h. let c = came q (mark_at s.clean) (held s n rs) (held s' n rs) kept.sound kept.marked.are_clean f' i r e in
+            (c.was, (c.stood, subst (λ l. Has l j) (same_reads q (mark_at s.clean) (held s n rs) (held s' n rs) kept.sound kept.marked.are_clean f' i r c) h))) kept.acyclic;
       };
       walked = walked_freshens q (mark_at s.clean) (held s n rs) (held s' n rs) kept.sound kept.marked.are_clean f' unswept (λ k. ⊥);
       numbers = λ k. ap (lookup (q.same k)) f.numbers;
@@ -301,6 +304,7 @@ empty_kept {K} {V} q g clean nodes numbers runs =
         flagged = λ i r e. none_at g nodes i r e;
       };
       marked = record { are_clean = record { reads = λ i j r d e. none_at g nodes i r e }; with_all = λ i r e. none_at g nodes i r e; before = λ i r e. none_at g nodes i r e };
+      acyclic = empty_no_cycle g.nodes nodes;
     }
 
 -- what was done by what one predicate reaches was done by what a wider one reaches

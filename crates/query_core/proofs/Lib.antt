@@ -18,5 +18,8 @@ pub mod Freshening
 pub mod Slots
 pub mod CatchingUp
 pub mod Cleaning
+pub mod Cycles
 pub mod Linking
+pub mod Counting
+pub mod Removing
 pub mod Reached

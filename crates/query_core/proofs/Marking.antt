@@ -3,16 +3,9 @@ use Rattle.std.proofs.Common.{◌≡◌, ℕ, zero, suc, ◌+◌, ◌-◌, ◌<�
 use Rattle.std.proofs.lemmas.Bool.{cases_eq}
 use Rattle.std.proofs.lemmas.List.{length-append, length_push}
 use Rattle.std.specs.Prelude.{slice_get, slice_index_or}
-use Rattle.std.specs.List.{list_any, cons_option}
-use Rattle.std.specs.Option.{option_map_or}
+use Rattle.std.specs.List.{list_any}
 use Rattle.query_core.specs.Lists.{Has}
-use Rattle.query_core.specs.Queries.{Queries}
-use Rattle.query_core.specs.Graph.{Held, at, node_of}
-use Rattle.query_core.specs.Soundness.{IsSound}
-use Rattle.query_core.specs.Marking.{marked, all_marked, root_nodes, reads_at}
-use Rattle.query_core.specs.Sweeping.{IsUsed, AreUsed}
-use Rattle.query_core.specs.Sweeping.IsUsed.{by_root, by_read}
-use Rattle.query_core.specs.Node.{Node}
+use Rattle.query_core.specs.Marking.{marked, all_marked}
 use Rattle.query_core.proofs.Words.{Has-left, Has-append, Has-middle, one_less}
 use Rattle.query_core.proofs.Answering.{any_from}
 
@@ -227,48 +220,3 @@ module _ (edges : ℕ → List ℕ) (starts : List ℕ) where
     pub all_found : (i : ℕ) → Along edges starts i → Has used i
     all_found i (begin k h) = f.begun k h
     all_found i (step a j u h) = let m = place_of used a (all_found a u) in f.closed m.0 a j (past m.0 a m.1) m.1 h
-
-module _ {K V : Type 0} (q : Queries K V) (g : Held K V) where
-  root_from : (ks : List K) (i : ℕ) → Has (root_nodes q g ks) i → (k : K) × (Has ks k × (node_of q g k ≡ Some i))
-  root_from [] i h = absurd h
-  root_from (k ∷ ks) i h =
-      elim (node_of q g k) as (λ o. node_of q g k ≡ o → Has (cons_option o (root_nodes q g ks)) i → (x : K) × (Has (k ∷ ks) x × (node_of q g x ≡ Some i))) [
-        | None ↦ (λ e m. let r = root_from ks i m in (r.0, (inr r.1.0, r.1.1)))
-        | Some j ↦ (λ e m. elim m [
-          | inl s ↦ (k, (inl refl, e ∙ ap Some s))
-          | inr m' ↦ (let r = root_from ks i m' in (r.0, (inr r.1.0, r.1.1)))
-        ])
-      ] refl h
-
-  root_to : (ks : List K) (k : K) (i : ℕ) → Has ks k → node_of q g k ≡ Some i → Has (root_nodes q g ks) i
-  root_to [] k i h e = absurd h
-  root_to (x ∷ ks) k i (inl s) e = subst (λ o. Has (cons_option o (root_nodes q g ks)) i) (sym (ap (node_of q g) s ∙ e)) (inl refl)
-  root_to (x ∷ ks) k i (inr h) e =
-      elim (node_of q g x) as (λ o. Has (cons_option o (root_nodes q g ks)) i) [ None ↦ root_to ks k i h e | Some j ↦ inr (root_to ks k i h e) ]
-
-  module _ (sound : IsSound q g) (roots : List K) where
-    used_along : (i : ℕ) → IsUsed q g roots i → Along (reads_at g) (root_nodes q g roots) i
-    used_along i (by_root k j h n) = begin j (root_to roots k j h n)
-    used_along i (by_read a j r u e h) = step a j (used_along a u) (subst (λ o. Has (option_map_or (λ (x : Node K V). x.reads) o []) j) (sym e) h)
-
-    along_used : (i : ℕ) → Along (reads_at g) (root_nodes q g roots) i → IsUsed q g roots i
-    along_used i (begin k h) = let r = root_from roots k h in by_root r.0 k r.1.0 r.1.1
-    along_used i (step a j u h) =
-        elim (at g a) as (λ o. at g a ≡ o → Has (option_map_or (λ (r : Node K V). r.reads) o []) j → IsUsed q g roots j) [
-          | None ↦ (λ e m. absurd m)
-          | Some r ↦ (λ e m. by_read a j r (along_used a u) e m)
-        ] refl h
-
-    used_stands : (i : ℕ) → IsUsed q g roots i → (r : Node K V) × (at g i ≡ Some r)
-    used_stands i (by_root k j h n) = let st = sound.numbers k j n in (st.0, st.1)
-    used_stands i (by_read a j r u e h) = sound.stands a j r e h
-
-    -- the nodes that the roots use are nodes of the graph
-    pub used_below : (i : ℕ) → Along (reads_at g) (root_nodes q g roots) i → i < length g.nodes
-    used_below i u = let st = used_stands i (along_used i u) in at_within g.nodes i st.0 st.1
-
-    pub found_used : (used : List ℕ) (place : ℕ) → Finding (reads_at g) (root_nodes q g roots) used place → slice_get used place ≡ None → AreUsed q g roots used
-    found_used used place f none = record {
-      only = λ i h. along_used i (f.only i h);
-      all = λ i u. all_found (reads_at g) (root_nodes q g roots) used place f none i (used_along i u);
-    }

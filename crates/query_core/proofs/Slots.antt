@@ -4,7 +4,7 @@ use Rattle.std.specs.Option.{option_map}
 use Rattle.std.specs.Map.{lookup}
 use Rattle.slab.specs.Slab.{Slab, get, Updates}
 use Rattle.query_core.specs.Node.{Node}
-use Rattle.query_core.specs.Stored.{Stored, Changes, Adds, Removes, SetsMark, Freshens, node_at, is_clean, shown, stored, marked_clean}
+use Rattle.query_core.specs.Stored.{Stored, Changes, Adds, SetsMark, Freshens, node_at, is_clean, shown, stored, marked_clean}
 use Rattle.query_core.specs.declared.record.Record.{Record}
 
 -- a list of parts, at a place
@@ -66,7 +66,7 @@ module _ {K V : Type 0} where
       let same : x ≡ k.0 = cc in ap (λ (y : Record K V). y.key) same ∙ ap (λ (y : Node K V). y.key) k.1.1
 
   module _ (slots slots' : List (Option (Record K V))) (numbers numbers' : List (K × ℕ)) (c i : ℕ) (others : (j : ℕ) → j ≢ i → slice_index_or slots' j None ≡ slice_index_or slots j None) where
-    others_seen : (j : ℕ) → j ≢ i → node_at (stored slots' numbers' c) j ≡ node_at (stored slots numbers c) j
+    pub others_seen : (j : ℕ) → j ≢ i → node_at (stored slots' numbers' c) j ≡ node_at (stored slots numbers c) j
     others_seen j n = seen_at slots' numbers' c j ∙ ap (option_map (shown c)) (others j n) ∙ sym (seen_at slots numbers c j)
 
     -- what the write of one record, or its removal, is to what is seen
@@ -87,10 +87,6 @@ module _ {K V : Type 0} where
       others = others_seen;
       numbers = num;
     }
-
-    pub removes : (eq : K → K → Bool) (r : Node K V) → slice_index_or slots' i None ≡ None
-        → ((k : K) → lookup (eq k) numbers' ≡ cond (eq r.key k) None (lookup (eq k) numbers)) → Removes eq (stored slots numbers c) (stored slots' numbers' c) i r
-    removes eq r gone num = record { gone = seen_at slots' numbers' c i ∙ ap (option_map (shown c)) gone; others = others_seen; numbers = num }
 
   pub some_of : (o : Option (Node K V)) → IsSome o → (r : Node K V) × (o ≡ Some r)
   some_of None h = absurd (let bad : ⊥ = cc in bad)

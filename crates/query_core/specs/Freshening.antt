@@ -4,6 +4,7 @@ use Rattle.query_core.specs.Lists.{Has}
 use Rattle.query_core.specs.Queries.{Queries}
 use Rattle.query_core.specs.Graph.{Held, at, node_of}
 use Rattle.query_core.specs.Soundness.{IsSound}
+use Rattle.query_core.specs.Cycles.{HasNoCycle}
 use Rattle.query_core.specs.Node.{Node}
 
 -- the record at the node is clean by these marks
@@ -27,6 +28,7 @@ module _ {K V : Type 0} where
   pub record IsKept (q : Queries K V) (g : Held K V) (clean : ℕ → Bool) : Type 0 where
     pub sound : IsSound q g
     pub marked : AreMarked q g clean
+    pub acyclic : HasNoCycle g.nodes
 
   -- the clean records count as verified now, and nothing else is touched
   pub record Freshened (q : Queries K V) (clean : ℕ → Bool) (old new : Held K V) : Type 0 where

@@ -36,6 +36,10 @@ module _ {K V : Type 0} (q : Queries K V) where
   DueBefore = (g0 g1 : Held K V) (roots : List K) → IsSound q g0 → Demanded q g0 roots g1 → (k : K) → q.is_input k ≡ false → is_verified q g1 k ≡ false → IsDue q g1 (inputs q g1) k
       → IsDue q g0 (inputs q g0) k
 
+  -- what is verified now stays so in the demands behind it
+  abbrev pub VerifiedOn : Type 0
+  VerifiedOn = (g1 g2 : Held K V) (root : K) → IsSound q g1 → Walked q g1 root g2 → (k : K) → is_verified q g1 k ≡ true → is_verified q g2 k ≡ true
+
   -- what a demand holds, stays held in the demands behind it
   abbrev pub HeldOn : Type 0
   HeldOn = (g0 g1 g2 : Held K V) (root : K) (k : K) (node : ℕ) → IsSound q g1 → inputs q g1 ≡ inputs q g0 → Walked q g1 root g2 → IsHolding q g0 g1 k node → IsHolding q g0 g2 k node

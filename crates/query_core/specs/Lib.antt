@@ -12,4 +12,8 @@ pub mod Walk
 pub mod Marking
 pub mod Sweeping
 pub mod Laws
+pub mod Tallies
+pub mod Known
+pub mod Removal
 pub mod Freshening
+pub mod Cycles

@@ -1,9 +1,8 @@
--- How nodes are marked, as a sweep does it.
+-- How nodes are marked, each once, and the nodes of a sweep's roots.
 use Rattle.std.specs.Prelude.{ℕ, cond, List, [], ◌∷◌, ◌++◌, nat_eq, filter_map}
 use Rattle.std.specs.List.{list_any}
-use Rattle.std.specs.Option.{option_map_or}
 use Rattle.query_core.specs.Queries.{Queries}
-use Rattle.query_core.specs.Graph.{Held, at, node_of}
+use Rattle.query_core.specs.Graph.{Held, node_of}
 
 -- the nodes once this one is marked
 unfoldable pub marked : List ℕ → ℕ → List ℕ
@@ -18,7 +17,3 @@ module _ {K V : Type 0} where
   -- the nodes of these keys
   abbrev pub root_nodes : Queries K V → Held K V → List K → List ℕ
   root_nodes q g roots = filter_map (node_of q g) roots
-
-  -- what the record at the node reads
-  abbrev pub reads_at : Held K V → ℕ → List ℕ
-  reads_at g i = option_map_or (λ r. r.reads) (at g i) []

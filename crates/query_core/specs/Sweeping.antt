@@ -12,11 +12,6 @@ pub data IsUsed {K V : Type 0} (q : Queries K V) (g : Held K V) (roots : List K)
   by_read : (i j : ℕ) (r : Node K V) → IsUsed q g roots i → at g i ≡ Some r → Has r.reads j → IsUsed q g roots j
 
 module _ {K V : Type 0} where
-  -- these are the nodes that the roots use
-  pub record AreUsed (q : Queries K V) (g : Held K V) (roots : List K) (nodes : List ℕ) : Type 0 where
-    pub only : (i : ℕ) → Has nodes i → IsUsed q g roots i
-    pub all : (i : ℕ) → IsUsed q g roots i → Has nodes i
-
   -- What a sweep does: exactly the records go that are no inputs and that the roots don't use, so many; the others stay as they were,
   -- at their nodes.
   pub record Sweeps (q : Queries K V) (old new : Held K V) (roots : List K) (count : ℕ) : Type 0 where

@@ -13,7 +13,7 @@ pub(crate) struct Frame<K, S> {
 /// them.
 #[derive(Drop)]
 pub(crate) struct Running<K, S> {
-    pub(crate) node: Option<usize>,
+    pub(crate) node: Option<u32>,
     pub(crate) run: S,
     pub(crate) asked: Keys<K>,
     pub(crate) answered: Answered,
@@ -27,7 +27,7 @@ pub(crate) enum Stage<K, S> {
     /// It has no record, and its run isn't begun.
     Start,
     /// The reads of its record, which stands at the node, are verified and unchanged before the place.
-    Check(usize, usize),
+    Check(u32, usize),
     /// It runs, and waits for a key that it asked for.
     Run(Box<Running<K, S>>),
 }
@@ -36,25 +36,25 @@ pub(crate) enum Stage<K, S> {
 #[derive(Drop)]
 pub(crate) enum Moved<K, S> {
     /// The frame waits for this key, which isn't verified and has this node.
-    Waits(Frame<K, S>, K, Option<usize>),
+    Waits(Frame<K, S>, K, Option<u32>),
     /// The key of the frame was verified at this node.
-    Done(usize),
+    Done(u32),
 }
 
 /// What spares a run look-ups: the node of its key, whose record has the reads of its last run, and the node that was finished last.
 #[derive(Clone, Copy, Drop)]
 pub(crate) struct Hints {
-    pub(crate) node: Option<usize>,
-    pub(crate) finished: Option<usize>,
+    pub(crate) node: Option<u32>,
+    pub(crate) finished: Option<u32>,
 }
 
 /// Where the record of a key stands.
 #[derive(Drop)]
 pub(crate) enum Found {
     /// At this node, verified now.
-    Current(usize),
+    Current(u32),
     /// At this node, or nowhere; it isn't verified.
-    Behind(Option<usize>),
+    Behind(Option<u32>),
 }
 
 /// What a look at one read of a record says.
@@ -83,7 +83,7 @@ pub(crate) enum Checked {
 #[derive(Drop)]
 pub(crate) enum Halt<K, V> {
     /// At this key, which it asked for and which isn't verified and has this node.
-    Pauses(K, Option<usize>),
+    Pauses(K, Option<u32>),
     /// With the value of its key.
     Ends(V),
 }

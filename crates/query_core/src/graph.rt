@@ -22,7 +22,7 @@ use std::marker::{Model, PhantomData};
 /// Names the record of a key in the graph that gave it, for as long as that graph keeps the record.
 #[derive(Clone, Copy)]
 pub struct NodeId {
-    index: usize,
+    index: u32,
 }
 
 impl Model for NodeId {
@@ -45,6 +45,8 @@ pub struct Graph<R: Rules> {
     store: Store<R::Key, R::Value>,
     revision: u64,
     runs: Vec<R::Key>,
+    /// How many keys were demanded in this revision in the order of the last sweep's roots; these are found without a look-up.
+    demanded: usize,
     rules: PhantomData<R>,
 }
 
@@ -66,6 +68,7 @@ impl<R: Rules> Graph<R> {
         ensures numbers { result.numbers ≡ [] }
         ensures revision { result.revision ≡ 0 }
         ensures runs { result.runs ≡ [] }
+        ensures demanded { result.demanded_at ≡ 0 }
         ensures sound { IsSound R.queries result }
         ensures fresh { IsFresh R.queries result }
         ensures unswept { IsUnswept R.queries result }
@@ -75,6 +78,7 @@ impl<R: Rules> Graph<R> {
             store: Store::new(alloc),
             revision: 0,
             runs: Vec::new(alloc),
+            demanded: 0,
             rules: PhantomData,
         }
     }
@@ -89,6 +93,7 @@ impl<R: Rules> Graph<R> {
         ensures ok { OnOk result (SetsInput R.queries self.old self.new key value) }
         ensures due { OnOk result ((given : R.Key → R.Value) → given key ≡ value → WasDue R.queries self.old self.new given) }
         ensures err { OnErr result (self.new ≡ self.old) }
+        ensures demanded { self.new.demanded_at ≡ self.old.demanded_at }
         ensures sound { IsSound R.queries self.new }
         ensures still_fresh { IsFresh R.queries self.new }
         ensures still_unswept { IsUnswept R.queries self.old → IsUnswept R.queries self.new }
@@ -122,6 +127,7 @@ impl<R: Rules> Graph<R> {
         ensures ok { OnOk result (SetsInput R.queries self.old self.new key.now (R.queries.unset key.now)) }
         ensures due { OnOk result ((given : R.Key → R.Value) → given key.now ≡ R.queries.unset key.now → WasDue R.queries self.old self.new given) }
         ensures err { OnErr result (self.new ≡ self.old) }
+        ensures demanded { self.new.demanded_at ≡ self.old.demanded_at }
         ensures sound { IsSound R.queries self.new }
         ensures still_fresh { IsFresh R.queries self.new }
         ensures still_unswept { IsUnswept R.queries self.old → IsUnswept R.queries self.new }
@@ -141,19 +147,12 @@ impl<R: Rules> Graph<R> {
         ensures unswept { IsUnswept R.queries self.new }
     {
         self.revision += 1;
+        self.demanded = 0;
         self.runs.clear();
     }
 
-    /// The node of a key.
-    fn node_of(&self, key: &R::Key) -> Option<usize>
-        ensures value { result ≡ node_of R.queries self.now key.now }
-        ensures sound { IsSound R.queries self.now }
-    {
-        self.store.node_of(key)
-    }
-
     /// The record at a node.
-    fn node(&self, node: usize) -> Option<Seen<'_, R::Key, R::Value>>
+    fn node(&self, node: u32) -> Option<Seen<'_, R::Key, R::Value>>
         ensures value { option_map seen result ≡ at self.now node }
         ensures sound { IsSound R.queries self.now }
     {

@@ -77,7 +77,7 @@ impl<K: Drop> Keys<K> {
 /// The nodes that a run read, in the order of asking.
 #[derive(Drop)]
 pub struct Reads {
-    items: Vec<usize>,
+    items: Vec<u32>,
 }
 
 impl Model for Reads {
@@ -99,7 +99,7 @@ impl Reads {
     }
 
     /// The nodes.
-    pub(crate) fn as_slice(&self) -> &[usize]
+    pub(crate) fn as_slice(&self) -> &[u32]
         ensures { result.now ≡ self.now }
     {
         &self.items
@@ -109,8 +109,8 @@ impl Reads {
 /// The nodes that answered what a run asked for, in the order of asking.
 #[derive(Drop)]
 pub(crate) struct Answered {
-    reads: Vec<usize>,
-    seen: HashSet<usize>,
+    reads: Vec<u32>,
+    seen: HashSet<u32>,
 }
 
 impl Model for Answered {
@@ -144,14 +144,14 @@ impl Answered {
     }
 
     /// Whether the node is among the answers; in a time that doesn't depend on their number.
-    pub(crate) fn contains(&self, node: usize) -> bool
+    pub(crate) fn contains(&self, node: u32) -> bool
         ensures { result ≡ list_any (nat_eq node) self.now }
     {
         self.seen.contains(&node)
     }
 
     /// One more answer.
-    pub(crate) fn push(&mut self, node: usize) -> Result<(), AllocError>
+    pub(crate) fn push(&mut self, node: u32) -> Result<(), AllocError>
         ensures ok { OnOk result (self.new ≡ self.old ++ node ∷ []) }
         ensures err { OnErr result (self.new ≡ self.old) }
     {
@@ -162,7 +162,7 @@ impl Answered {
     }
 
     /// The node at this place in order.
-    pub(crate) fn get(&self, place: usize) -> Option<usize>
+    pub(crate) fn get(&self, place: usize) -> Option<u32>
         ensures value { result ≡ slice_get self.now place }
         ensures fits { IsSome result → place + 1 < 2 ^ 64 }
     {
@@ -171,7 +171,7 @@ impl Answered {
 
     /// Adds the node, where it isn't there yet.
     #[tactic(auto, unfolding(crate::specs::Marking::marked))]
-    pub(crate) fn mark(&mut self, node: usize) -> Result<(), AllocError>
+    pub(crate) fn mark(&mut self, node: u32) -> Result<(), AllocError>
         ensures ok { OnOk result (self.new ≡ marked self.old node) }
     {
         if self.contains(node) {
@@ -181,7 +181,7 @@ impl Answered {
     }
 
     /// The nodes in order.
-    pub(crate) fn as_slice(&self) -> &[usize]
+    pub(crate) fn as_slice(&self) -> &[u32]
         ensures { result.now ≡ self.now }
     {
         &self.reads

@@ -1,6 +1,6 @@
 // Laws of graphs, with nothing to run. A caller names its rules.
 
-ghost use Rattle.query_core.specs.Laws.{VerifiedHolds, DemandsBegin, DemandsGoOn, DueBefore, HeldOn};
+ghost use Rattle.query_core.specs.Laws.{VerifiedHolds, DemandsBegin, DemandsGoOn, DueBefore, HeldOn, VerifiedOn};
 
 use crate::rules::Rules;
 
@@ -23,6 +23,11 @@ pub fn demands_go_on<R: Rules>()
 /// A key that isn't verified and is due after demands was due before the first of them.
 pub fn due_before_demands<R: Rules>()
     ensures { DueBefore R.queries }
+{}
+
+/// What is verified now stays so in later demands of the revision.
+pub fn verified_on<R: Rules>()
+    ensures { VerifiedOn R.queries }
 {}
 
 /// A node that a demand gave holds its key's value after later demands of the revision too.

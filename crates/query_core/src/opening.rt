@@ -12,10 +12,10 @@ use slab::Slab;
 use std::alloc::{AllocError, Global};
 
 /// Whether the record at the node is clean.
-fn is_clean<K, V>(nodes: &Slab<Record<K, V>>, node: usize) -> bool
+fn is_clean<K, V>(nodes: &Slab<Record<K, V>>, node: u32) -> bool
     ensures { result ≡ clean_in nodes.now.slots node }
 {
-    match nodes.get(node) {
+    match nodes.get(node as usize) {
         Some(kept) => kept.clean,
         None => false,
     }
@@ -61,7 +61,7 @@ fn mark_each<K, V>(
 fn mark_readers<K, V>(
     readers: &Readers,
     nodes: &Slab<Record<K, V>>,
-    node: usize,
+    node: u32,
     reached: &mut Answered,
 ) -> Result<(), AllocError>
     ensures { OnOk result (reached.new ≡ all_marked reached.old (clean_readers readers.now (clean_in nodes.now.slots) node)) }
@@ -77,7 +77,7 @@ pub(crate) fn reaching<K, V>(
     alloc: Global,
     readers: &Readers,
     nodes: &Slab<Record<K, V>>,
-    node: usize,
+    node: u32,
 ) -> Result<Answered, AllocError>
     ensures { IfOk result (λ reached. Reaches readers.now (clean_in nodes.now.slots) node reached) }
 {
@@ -94,7 +94,7 @@ pub(crate) fn reaching<K, V>(
 /// Lets the records at these nodes not be clean; the clean ones were verified in this revision.
 pub(crate) fn unmark_all<K: Drop, V: Drop>(
     nodes: &mut Slab<Record<K, V>>,
-    opened: &[usize],
+    opened: &[u32],
     clean_at: u64,
 )
     ensures { Opens nodes.old.slots nodes.new.slots opened.now clean_at }

@@ -11,10 +11,13 @@ ghost use Rattle.query_core.specs.declared.readers.Reader.{Reader};
 use std::alloc::{AllocError, Global};
 use std::marker::Model;
 
+/// How many readers a list of them has room for at first; most nodes have few.
+const FIRST_ROOM: usize = 3;
+
 /// A record that read a node by a run.
 #[derive(Clone, Copy, Drop)]
 pub(crate) struct Reader {
-    pub(crate) node: usize,
+    pub(crate) node: u32,
     pub(crate) run: u32,
 }
 
@@ -86,12 +89,12 @@ impl Row {
 
 /// Makes room for the row of a node.
 #[tactic(auto, using(crate::proofs::Linking::row_behind))]
-fn cover_row(alloc: Global, rows: &mut Vec<Row>, node: usize) -> Result<(), AllocError>
+fn cover_row(alloc: Global, rows: &mut Vec<Row>, node: u32) -> Result<(), AllocError>
     ensures same { (i : ℕ) → row_at rows.new.items i ≡ row_at rows.old.items i }
     ensures long { length rows.old.items ≤ length rows.new.items }
     ensures covered { OnOk result (node < length rows.new.items) }
 {
-    'places: while rows.len() <= node {
+    'places: while rows.len() <= node as usize {
         let row = Row::new(alloc);
         rows.push(row).map_err(AllocError::from)?;
     }
@@ -133,10 +136,10 @@ impl Readers {
     }
 
     /// The run of the record at the node.
-    fn run_of(&self, node: usize) -> u32
+    fn run_of(&self, node: u32) -> u32
         ensures { result ≡ run_of self.now node }
     {
-        match self.rows.get(node) {
+        match self.rows.get(node as usize) {
             Some(row) => row.run(),
             None => 0,
         }
@@ -150,21 +153,21 @@ impl Readers {
     }
 
     /// The readers of the node, stale ones too.
-    pub(crate) fn readers_of(&self, node: usize) -> Option<&[Reader]>
+    pub(crate) fn readers_of(&self, node: u32) -> Option<&[Reader]>
         ensures some { IfSome result (λ readers. readers.now ≡ (row_at self.now node).readers) }
         ensures none { IfNone result ((row_at self.now node).readers ≡ []) }
     {
-        let row = self.rows.get(node)?;
+        let row = self.rows.get(node as usize)?;
         Some(row.readers())
     }
 
     /// The readers of the node that aren't stale, with room for as many again.
-    fn live_of(&self, node: usize) -> Result<Vec<Reader>, AllocError>
+    fn live_of(&self, node: u32) -> Result<Vec<Reader>, AllocError>
         requires { node < length self.now }
         ensures { IfOk result (λ live. (e : Reader) → Has (row_at self.now node).readers e → is_live self.now e ≡ true → Has live.items e) }
     {
-        let mut live = Vec::new(self.alloc);
-        let mut rest = self.rows[node].readers();
+        let mut live = Vec::with_capacity(self.alloc, FIRST_ROOM)?;
+        let mut rest = self.rows[node as usize].readers();
         'readers: while let Some((reader, behind)) = rest.split_first() {
             rest = behind;
             if !self.is_live(*reader) {
@@ -177,32 +180,32 @@ impl Readers {
     }
 
     /// Lets stale readers of the node go, where its list is full.
-    fn make_room(&mut self, node: usize) -> Result<(), AllocError>
+    fn make_room(&mut self, node: u32) -> Result<(), AllocError>
         requires { node < length self.old }
         ensures kept { KeepsLive self.old self.new }
         ensures long { length self.old ≤ length self.new }
     {
-        if !self.rows[node].is_full() {
+        if !self.rows[node as usize].is_full() {
             return Ok(());
         }
         let live = self.live_of(node)?;
-        self.rows[node].set_readers(live);
+        self.rows[node as usize].set_readers(live);
         Ok(())
     }
 
     /// Names a reader of the node.
-    fn add(&mut self, node: usize, reader: Reader) -> Result<(), AllocError>
+    fn add(&mut self, node: u32, reader: Reader) -> Result<(), AllocError>
         ensures kept { KeepsLive self.old self.new }
         ensures long { length self.old ≤ length self.new }
         ensures added { OnOk result (Has (row_at self.new node).readers reader) }
     {
         cover_row(self.alloc, &mut self.rows, node)?;
         self.make_room(node)?;
-        self.rows[node].push(reader)
+        self.rows[node as usize].push(reader)
     }
 
     /// Names the record at the node as a reader of these, and of no others any more. After want of memory all is named that was.
-    pub(crate) fn link(&mut self, node: usize, reads: &[usize]) -> Result<(), AllocError>
+    pub(crate) fn link(&mut self, node: u32, reads: &[u32]) -> Result<(), AllocError>
         ensures named { OnOk result ((j : ℕ) → Has reads.now j → Names self.new j node) }
         ensures others { OnOk result ((i j : ℕ) → i ≢ node → Names self.old j i → Names self.new j i) }
         ensures err { OnErr result (KeepsNames self.old self.new) }
@@ -217,7 +220,7 @@ impl Readers {
             self.add(*read, reader)?;
             rest = behind;
         }
-        self.rows[node].set_run(reader.run);
+        self.rows[node as usize].set_run(reader.run);
         Ok(())
     }
 }

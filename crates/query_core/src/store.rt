@@ -7,15 +7,17 @@ ghost use Rattle.std.specs.Prelude.{◌≡◌, ◌+◌, ℕ, true, false, IfOk, 
 ghost use Rattle.std.specs.Map.{lookup};
 ghost use Rattle.std.specs.Option.{option_map};
 ghost use Rattle.query_core.specs.Node.{Node};
-ghost use Rattle.query_core.specs.Stored.{Stored, Changes, Adds, Removes, SetsMark, Freshens, Prepares, node_at, is_clean, shown, seen, stays, left_at};
+ghost use Rattle.query_core.specs.Stored.{Stored, Changes, Adds, SetsMark, Freshens, Prepares, node_at, shown, seen};
+ghost use Rattle.query_core.specs.Removal.{Leaves};
 ghost use Rattle.query_core.specs.Answering.{IsNumbered};
 ghost use Rattle.std.specs.Prelude.{if◌then◌else◌};
 
 use crate::keys::{Reads, TryCopy};
-use crate::marks::Marks;
 use crate::opening::{reaching, unmark_all};
 use crate::readers::Readers;
-use crate::record::{Record, Seen, mark_clean, set_run, set_value};
+use crate::record::{Record, Seen, are_same, mark_clean, next_node, reads_at, set_run, set_value};
+use crate::removal::remove_unread;
+use crate::tallies::{Tallies, hold};
 use indexmap::IndexMap;
 use slab::Slab;
 use std::alloc::{AllocError, Global};
@@ -26,21 +28,25 @@ use std::marker::Model;
 #[derive(Drop)]
 pub(crate) struct Store<K: Eq + Hash, V> {
     alloc: Global,
-    numbers: IndexMap<K, usize>,
+    numbers: IndexMap<K, u32>,
     nodes: Slab<Record<K, V>>,
     readers: Readers,
+    tallies: Tallies,
+    /// The nodes that the tallies count as read beside recorded reads: those of the last sweep's roots.
+    roots: Vec<u32>,
     /// The revision in which the clean records were last verified.
     clean_at: u64,
 }
 
 impl<K: Eq + Hash, V> Model for Store<K, V> {
-    ghost use Rattle.query_core.specs.Stored.{Stored, AreNamed, stored};
+    ghost use Rattle.query_core.specs.Stored.{Stored, stored};
+    ghost use Rattle.query_core.specs.Known.{AreKnown};
 
     ghost Value = { Stored K V };
 
     ghost view = { λ s. stored s.nodes.slots s.numbers.entries s.clean_at };
 
-    ghost invariant = { λ s. AreNamed s.readers s.nodes.slots };
+    ghost invariant = { λ s. AreKnown s.readers s.tallies s.nodes.slots s.roots.items };
 }
 
 impl<K: Eq + Hash + TryCopy + Drop, V: Drop> Store<K, V> {
@@ -54,6 +60,8 @@ impl<K: Eq + Hash + TryCopy + Drop, V: Drop> Store<K, V> {
             numbers: IndexMap::new(alloc),
             nodes: Slab::new(alloc),
             readers: Readers::new(alloc),
+            tallies: Tallies::new(alloc),
+            roots: Vec::new(alloc),
             clean_at: 0,
         }
     }
@@ -66,14 +74,14 @@ impl<K: Eq + Hash + TryCopy + Drop, V: Drop> Store<K, V> {
     }
 
     /// The node of the key.
-    pub(crate) fn node_of(&self, key: &K) -> Option<usize>
+    pub(crate) fn node_of(&self, key: &K) -> Option<u32>
         ensures { result ≡ lookup (K.eq key.now) self.now.numbers }
     {
         self.numbers.get(key).copied()
     }
 
     /// Whether the key has the record at this node.
-    fn is_at(&self, key: &K, node: Option<usize>) -> bool
+    fn is_at(&self, key: &K, node: Option<u32>) -> bool
         requires { IsNumbered K.eq self.now }
         ensures { result ≡ true → lookup (K.eq key.now) self.now.numbers ≡ node }
     {
@@ -87,12 +95,7 @@ impl<K: Eq + Hash + TryCopy + Drop, V: Drop> Store<K, V> {
     }
 
     /// The node of the key; where it is one of the two that are expected, a look at that record tells it without a look-up.
-    pub(crate) fn find(
-        &self,
-        key: &K,
-        expected: Option<usize>,
-        finished: Option<usize>,
-    ) -> Option<usize>
+    pub(crate) fn find(&self, key: &K, expected: Option<u32>, finished: Option<u32>) -> Option<u32>
         requires { IsNumbered K.eq self.now }
         ensures { result ≡ lookup (K.eq key.now) self.now.numbers }
     {
@@ -106,10 +109,10 @@ impl<K: Eq + Hash + TryCopy + Drop, V: Drop> Store<K, V> {
     }
 
     /// The record at the node.
-    pub(crate) fn node(&self, node: usize) -> Option<Seen<'_, K, V>>
+    pub(crate) fn node(&self, node: u32) -> Option<Seen<'_, K, V>>
         ensures { option_map seen result ≡ node_at self.now node }
     {
-        let kept = self.nodes.get(node)?;
+        let kept = self.nodes.get(node as usize)?;
         let verified_at = if kept.clean {
             self.clean_at
         } else {
@@ -126,7 +129,7 @@ impl<K: Eq + Hash + TryCopy + Drop, V: Drop> Store<K, V> {
     }
 
     /// Adds the record of a key that has none.
-    pub(crate) fn add(&mut self, added: Record<K, V>) -> Result<usize, AllocError>
+    pub(crate) fn add(&mut self, added: Record<K, V>) -> Result<u32, AllocError>
         requires { lookup (K.eq added.key) self.old.numbers ≡ None }
         ensures ok { IfOk result (λ i. Adds K.eq self.old self.new i (shown self.old.clean_at added)) }
         ensures marks { IfOk result (λ i. SetsMark self.old self.new i added.clean) }
@@ -135,57 +138,41 @@ impl<K: Eq + Hash + TryCopy + Drop, V: Drop> Store<K, V> {
     {
         self.nodes.reserve(1)?;
         let copy = added.key.try_copy()?;
-        let node = self.nodes.vacant_key();
+        let node = next_node(&self.nodes)?;
+        self.tallies.cover(node)?;
+        self.tallies.list(node);
         self.readers.link(node, added.reads.as_slice())?;
-        self.numbers.insert(copy, node).map_err(AllocError::from)?;
-        Ok(self.nodes.insert_reserved(added))
+        self.tallies.raise(added.reads.as_slice())?;
+        let Ok(_) = self.numbers.insert(copy, node) else {
+            self.tallies.lower(added.reads.as_slice());
+            return Err(AllocError);
+        };
+        self.nodes.insert_reserved(added);
+        Ok(node)
     }
 
-    /// Whether the record at the node is an input's, or the node is one of these; where there is no record, nothing is to go.
-    fn keeps(&self, node: usize, used: &Marks) -> bool
-        ensures { result ≡ stays used.now node (node_at self.now node) }
-    {
-        match self.nodes.get(node) {
-            Some(kept) => kept.input || used.contains(node),
-            None => true,
-        }
-    }
-
-    /// Removes the record at the node.
-    fn remove(&mut self, node: usize)
-        requires { IsSome (node_at self.old node) }
-        ensures removes { (r : Node K V) → node_at self.old node ≡ Some r → Removes K.eq self.old self.new node r }
-        ensures marks { SetsMark self.old self.new node false }
-        ensures len { count_by is_some self.new.nodes + 1 ≡ count_by is_some self.old.nodes }
-        ensures clean_at { self.new.clean_at ≡ self.old.clean_at }
-    {
-        let removed = self.nodes.remove(node);
-        self.numbers.swap_remove(&removed.key);
-    }
-
-    /// Removes each record that is no input's and isn't at one of these nodes, and gives how many went. It takes no memory.
-    pub(crate) fn keep(&mut self, used: &Marks) -> usize
+    /// Removes each record that is no input's and that isn't reached from these nodes by recorded reads, where no record reaches itself, and
+    /// gives how many went. It costs these nodes, what goes, and what was found without readers since the last time. After want of memory
+    /// nothing is removed.
+    pub(crate) fn sweep(&mut self, roots: Vec<u32>) -> Result<usize, AllocError>
         requires { IsNumbered K.eq self.old }
-        ensures left { (i : ℕ) → node_at self.new i ≡ left_at used.now i (node_at self.old i) }
-        ensures numbered { IsNumbered K.eq self.new }
-        ensures count { count_by is_some self.new.nodes + result ≡ count_by is_some self.old.nodes }
-        ensures less { (i : ℕ) → is_clean self.new i ≡ true → is_clean self.old i ≡ true }
-        ensures stay { (i : ℕ) (r : Node K V) → node_at self.new i ≡ Some r → is_clean self.new i ≡ is_clean self.old i }
-        ensures clean_at { self.new.clean_at ≡ self.old.clean_at }
+        ensures ok { OnOk result (Leaves K.eq roots.items self.old self.new) }
+        ensures count { IfOk result (λ count. count_by is_some self.new.nodes + count ≡ count_by is_some self.old.nodes) }
+        ensures err { OnErr result (self.new ≡ self.old) }
     {
-        let mut removed = 0;
-        for node in 0..self.nodes.capacity() {
-            if self.keeps(node, used) {
-                continue;
-            }
-            self.remove(node);
-            removed += 1;
-        }
-        removed
+        hold(&mut self.tallies, &mut self.roots, roots)?;
+        let before = self.nodes.len();
+        remove_unread(&mut self.nodes, &mut self.numbers, &mut self.tallies);
+        Ok(before - self.nodes.len())
+    }
+
+    /// The node of the last sweep's root at this place, of those that had one.
+    pub(crate) fn root_at(&self, place: usize) -> Option<u32> {
+        self.roots.get(place).copied()
     }
 
     /// Marks the record as clean, where the clean records were verified in the revision `now`.
-    pub(crate) fn verify(&mut self, node: usize, now: u64)
+    pub(crate) fn verify(&mut self, node: u32, now: u64)
         requires stands { IsSome (node_at self.old node) }
         requires fresh { self.old.clean_at ≡ now }
         ensures changes { (r : Node K V) → node_at self.old node ≡ Some r → Changes self.old self.new node (record r { verified_at = now }) }
@@ -205,7 +192,7 @@ impl<K: Eq + Hash + TryCopy + Drop, V: Drop> Store<K, V> {
 
 impl<K: Eq + Hash + TryCopy + Drop, V: Eq + Drop> Store<K, V> {
     /// Whether the record at the node has this value.
-    fn has_value(&self, node: usize, value: &V) -> bool
+    fn has_value(&self, node: u32, value: &V) -> bool
         ensures { result ≡ true → (r : Node K V) → node_at self.now node ≡ Some r → V.eq r.value value.now ≡ true }
     {
         match self.node(node) {
@@ -216,7 +203,7 @@ impl<K: Eq + Hash + TryCopy + Drop, V: Eq + Drop> Store<K, V> {
 
     /// Lets no record be clean that reads the node, where the record there has another value than this one, or that reads what isn't clean
     /// any more by this call. What is seen of the records stays. It costs what is clean and reads the node, at once or by others.
-    pub(crate) fn prepare(&mut self, node: usize, value: &V) -> Result<(), AllocError>
+    pub(crate) fn prepare(&mut self, node: u32, value: &V) -> Result<(), AllocError>
         ensures ok { OnOk result (Prepares V.eq self.old self.new node value.now) }
         ensures err { OnErr result (self.new ≡ self.old) }
     {
@@ -230,7 +217,7 @@ impl<K: Eq + Hash + TryCopy + Drop, V: Eq + Drop> Store<K, V> {
 
     /// Gives the record of an input a value, verified in the revision `now`. The stamp of change moves to `now` exactly where the value
     /// differs from the kept one.
-    pub(crate) fn set(&mut self, node: usize, value: V, now: u64)
+    pub(crate) fn set(&mut self, node: u32, value: V, now: u64)
         requires { IsSome (node_at self.old node) }
         ensures changes { (r : Node K V) → node_at self.old node ≡ Some r → Changes self.old self.new node
             (record { key = r.key; value = value; reads = r.reads; input = r.input; verified_at = now; changed_at = (if V.eq r.value value then r.changed_at else now) }) }
@@ -244,7 +231,7 @@ impl<K: Eq + Hash + TryCopy + Drop, V: Eq + Drop> Store<K, V> {
     /// change moves to `now` exactly where the value differs from the kept one.
     pub(crate) fn renew(
         &mut self,
-        node: usize,
+        node: u32,
         value: V,
         reads: Reads,
         now: u64,
@@ -257,7 +244,17 @@ impl<K: Eq + Hash + TryCopy + Drop, V: Eq + Drop> Store<K, V> {
         ensures clean_at { self.new.clean_at ≡ self.old.clean_at }
         ensures err { OnErr result (self.new ≡ self.old) }
     {
-        self.readers.link(node, reads.as_slice())?;
+        let before = reads_at(&self.nodes, node);
+        if are_same(before, reads.as_slice()) {
+            set_run(&mut self.nodes, node, value, reads, now);
+            return Ok(());
+        }
+        self.tallies.raise(reads.as_slice())?;
+        let Ok(()) = self.readers.link(node, reads.as_slice()) else {
+            self.tallies.lower(reads.as_slice());
+            return Err(AllocError);
+        };
+        self.tallies.lower(before);
         set_run(&mut self.nodes, node, value, reads, now);
         Ok(())
     }

@@ -1,5 +1,5 @@
 -- The cells keep the laws of queries.
-use Rattle.std.proofs.Common.{◌≡◌, ◌≢◌, ℕ, zero, suc, ◌+◌, ◌-◌, ◌<◌, ◌≤◌, ◌==◌, ◌/◌, true, false, if◌then◌else◌, List, [], ◌∷◌, ◌++◌, length, cond, Some, None, refl, sym, ap, subst, ◌∙◌, inl, inr, ◌⊎◌, arith, eq-eqb, append-nil, append_assoc, get_or, drop, is_some, Result, Ok, Err, OnOk}
+use Rattle.std.proofs.Common.{◌≡◌, ◌≢◌, ℕ, zero, suc, ◌+◌, ◌-◌, ◌*◌, ◌<◌, ◌≤◌, ◌==◌, ◌/◌, Bool, ◌&&◌, ◌||◌, nat_le, true, false, if◌then◌else◌, List, [], ◌∷◌, ◌++◌, length, cond, Some, None, refl, sym, ap, subst, ◌∙◌, inl, inr, ◌⊎◌, arith, eq-eqb, eqb-true, append-nil, append_assoc, get_or, drop, is_some, Result, Ok, Err, OnOk}
 use Rattle.std.proofs.lemmas.Bool.{cases_eq}
 use Rattle.std.proofs.lemmas.List.{drop_more}
 use Rattle.std.specs.Map.{lookup}
@@ -8,8 +8,8 @@ use Rattle.query_core.specs.Queries.{AreLawful, GoesOn, answers, HasReadFirst}
 use Rattle.query_core.specs.declared.rules.Step.TheVariants.{Ask, Done}
 use Rattle.query_tests.specs.contracts.cells.CellPartialEq.TheImpl.{eq-value}
 use Rattle.query_tests.specs.declared.cells.Cell.{Cell}
-use Rattle.query_tests.specs.declared.cells.Cell.TheVariants.{Input, Half, Chain, Wide, Each, Share, All, Left, Right, Top}
-use Rattle.query_tests.specs.Cells.{cells, same_cell, is_input_cell, halves, shares, reads_of, worth, level, rest_of, answer_or_zero, final, step_with, step_one, one_by_one, AreAnswered, has_read_cell}
+use Rattle.query_tests.specs.declared.cells.Cell.TheVariants.{Input, Half, Chain, Wide, Each, Share, All, Pile, Left, Right, Top}
+use Rattle.query_tests.specs.Cells.{cells, same_cell, is_input_cell, halves, shares, is_low, under, last_under, lowest, reads_of, worth, level, rest_of, answer_or_zero, final, step_with, step_one, one_by_one, AreAnswered, has_read_cell}
 
 pub same_cell_is : (a b : Cell) → eq-value.it a b ≡ same_cell a b
 same_cell_is (Input a) (Input b) = refl
@@ -19,6 +19,7 @@ same_cell_is (Input a) (Wide b) = refl
 same_cell_is (Input a) (Each b) = refl
 same_cell_is (Input a) (Share b) = refl
 same_cell_is (Input a) (All b) = refl
+same_cell_is (Input a) (Pile m b) = refl
 same_cell_is (Input a) Left = refl
 same_cell_is (Input a) Right = refl
 same_cell_is (Input a) Top = refl
@@ -29,6 +30,7 @@ same_cell_is (Half a) (Wide b) = refl
 same_cell_is (Half a) (Each b) = refl
 same_cell_is (Half a) (Share b) = refl
 same_cell_is (Half a) (All b) = refl
+same_cell_is (Half a) (Pile m b) = refl
 same_cell_is (Half a) Left = refl
 same_cell_is (Half a) Right = refl
 same_cell_is (Half a) Top = refl
@@ -39,6 +41,7 @@ same_cell_is (Chain a) (Wide b) = refl
 same_cell_is (Chain a) (Each b) = refl
 same_cell_is (Chain a) (Share b) = refl
 same_cell_is (Chain a) (All b) = refl
+same_cell_is (Chain a) (Pile m b) = refl
 same_cell_is (Chain a) Left = refl
 same_cell_is (Chain a) Right = refl
 same_cell_is (Chain a) Top = refl
@@ -49,6 +52,7 @@ same_cell_is (Wide a) (Wide b) = refl
 same_cell_is (Wide a) (Each b) = refl
 same_cell_is (Wide a) (Share b) = refl
 same_cell_is (Wide a) (All b) = refl
+same_cell_is (Wide a) (Pile m b) = refl
 same_cell_is (Wide a) Left = refl
 same_cell_is (Wide a) Right = refl
 same_cell_is (Wide a) Top = refl
@@ -59,6 +63,7 @@ same_cell_is (Each a) (Wide b) = refl
 same_cell_is (Each a) (Each b) = refl
 same_cell_is (Each a) (Share b) = refl
 same_cell_is (Each a) (All b) = refl
+same_cell_is (Each a) (Pile m b) = refl
 same_cell_is (Each a) Left = refl
 same_cell_is (Each a) Right = refl
 same_cell_is (Each a) Top = refl
@@ -69,6 +74,7 @@ same_cell_is (Share a) (Wide b) = refl
 same_cell_is (Share a) (Each b) = refl
 same_cell_is (Share a) (Share b) = refl
 same_cell_is (Share a) (All b) = refl
+same_cell_is (Share a) (Pile m b) = refl
 same_cell_is (Share a) Left = refl
 same_cell_is (Share a) Right = refl
 same_cell_is (Share a) Top = refl
@@ -79,9 +85,21 @@ same_cell_is (All a) (Wide b) = refl
 same_cell_is (All a) (Each b) = refl
 same_cell_is (All a) (Share b) = refl
 same_cell_is (All a) (All b) = refl
+same_cell_is (All a) (Pile m b) = refl
 same_cell_is (All a) Left = refl
 same_cell_is (All a) Right = refl
 same_cell_is (All a) Top = refl
+same_cell_is (Pile l a) (Input b) = refl
+same_cell_is (Pile l a) (Half b) = refl
+same_cell_is (Pile l a) (Chain b) = refl
+same_cell_is (Pile l a) (Wide b) = refl
+same_cell_is (Pile l a) (Each b) = refl
+same_cell_is (Pile l a) (Share b) = refl
+same_cell_is (Pile l a) (All b) = refl
+same_cell_is (Pile l a) (Pile m b) = refl
+same_cell_is (Pile l a) Left = refl
+same_cell_is (Pile l a) Right = refl
+same_cell_is (Pile l a) Top = refl
 same_cell_is Left (Input b) = refl
 same_cell_is Left (Half b) = refl
 same_cell_is Left (Chain b) = refl
@@ -89,6 +107,7 @@ same_cell_is Left (Wide b) = refl
 same_cell_is Left (Each b) = refl
 same_cell_is Left (Share b) = refl
 same_cell_is Left (All b) = refl
+same_cell_is Left (Pile m b) = refl
 same_cell_is Left Left = refl
 same_cell_is Left Right = refl
 same_cell_is Left Top = refl
@@ -99,6 +118,7 @@ same_cell_is Right (Wide b) = refl
 same_cell_is Right (Each b) = refl
 same_cell_is Right (Share b) = refl
 same_cell_is Right (All b) = refl
+same_cell_is Right (Pile m b) = refl
 same_cell_is Right Left = refl
 same_cell_is Right Right = refl
 same_cell_is Right Top = refl
@@ -109,9 +129,14 @@ same_cell_is Top (Wide b) = refl
 same_cell_is Top (Each b) = refl
 same_cell_is Top (Share b) = refl
 same_cell_is Top (All b) = refl
+same_cell_is Top (Pile m b) = refl
 same_cell_is Top Left = refl
 same_cell_is Top Right = refl
 same_cell_is Top Top = refl
+
+both_true : (a b : Bool) → (a && b) ≡ true → (a ≡ true) × (b ≡ true)
+both_true true b e = (refl, e)
+both_true false b e = let bad : ⊥ = cc in absurd bad
 
 pub same_means : (a b : Cell) → same_cell a b ≡ true → a ≡ b
 same_means (Input a) (Input b) e = ap Input (grind (arith, e))
@@ -121,6 +146,7 @@ same_means (Input a) (Wide b) e = let bad : ⊥ = cc in absurd bad
 same_means (Input a) (Each b) e = let bad : ⊥ = cc in absurd bad
 same_means (Input a) (Share b) e = let bad : ⊥ = cc in absurd bad
 same_means (Input a) (All b) e = let bad : ⊥ = cc in absurd bad
+same_means (Input a) (Pile m b) e = let bad : ⊥ = cc in absurd bad
 same_means (Input a) Left e = let bad : ⊥ = cc in absurd bad
 same_means (Input a) Right e = let bad : ⊥ = cc in absurd bad
 same_means (Input a) Top e = let bad : ⊥ = cc in absurd bad
@@ -131,6 +157,7 @@ same_means (Half a) (Wide b) e = let bad : ⊥ = cc in absurd bad
 same_means (Half a) (Each b) e = let bad : ⊥ = cc in absurd bad
 same_means (Half a) (Share b) e = let bad : ⊥ = cc in absurd bad
 same_means (Half a) (All b) e = let bad : ⊥ = cc in absurd bad
+same_means (Half a) (Pile m b) e = let bad : ⊥ = cc in absurd bad
 same_means (Half a) Left e = let bad : ⊥ = cc in absurd bad
 same_means (Half a) Right e = let bad : ⊥ = cc in absurd bad
 same_means (Half a) Top e = let bad : ⊥ = cc in absurd bad
@@ -141,6 +168,7 @@ same_means (Chain a) (Wide b) e = let bad : ⊥ = cc in absurd bad
 same_means (Chain a) (Each b) e = let bad : ⊥ = cc in absurd bad
 same_means (Chain a) (Share b) e = let bad : ⊥ = cc in absurd bad
 same_means (Chain a) (All b) e = let bad : ⊥ = cc in absurd bad
+same_means (Chain a) (Pile m b) e = let bad : ⊥ = cc in absurd bad
 same_means (Chain a) Left e = let bad : ⊥ = cc in absurd bad
 same_means (Chain a) Right e = let bad : ⊥ = cc in absurd bad
 same_means (Chain a) Top e = let bad : ⊥ = cc in absurd bad
@@ -151,6 +179,7 @@ same_means (Wide a) (Wide b) e = ap Wide (grind (arith, e))
 same_means (Wide a) (Each b) e = let bad : ⊥ = cc in absurd bad
 same_means (Wide a) (Share b) e = let bad : ⊥ = cc in absurd bad
 same_means (Wide a) (All b) e = let bad : ⊥ = cc in absurd bad
+same_means (Wide a) (Pile m b) e = let bad : ⊥ = cc in absurd bad
 same_means (Wide a) Left e = let bad : ⊥ = cc in absurd bad
 same_means (Wide a) Right e = let bad : ⊥ = cc in absurd bad
 same_means (Wide a) Top e = let bad : ⊥ = cc in absurd bad
@@ -161,6 +190,7 @@ same_means (Each a) (Wide b) e = let bad : ⊥ = cc in absurd bad
 same_means (Each a) (Each b) e = ap Each (grind (arith, e))
 same_means (Each a) (Share b) e = let bad : ⊥ = cc in absurd bad
 same_means (Each a) (All b) e = let bad : ⊥ = cc in absurd bad
+same_means (Each a) (Pile m b) e = let bad : ⊥ = cc in absurd bad
 same_means (Each a) Left e = let bad : ⊥ = cc in absurd bad
 same_means (Each a) Right e = let bad : ⊥ = cc in absurd bad
 same_means (Each a) Top e = let bad : ⊥ = cc in absurd bad
@@ -171,6 +201,7 @@ same_means (Share a) (Wide b) e = let bad : ⊥ = cc in absurd bad
 same_means (Share a) (Each b) e = let bad : ⊥ = cc in absurd bad
 same_means (Share a) (Share b) e = ap Share (grind (arith, e))
 same_means (Share a) (All b) e = let bad : ⊥ = cc in absurd bad
+same_means (Share a) (Pile m b) e = let bad : ⊥ = cc in absurd bad
 same_means (Share a) Left e = let bad : ⊥ = cc in absurd bad
 same_means (Share a) Right e = let bad : ⊥ = cc in absurd bad
 same_means (Share a) Top e = let bad : ⊥ = cc in absurd bad
@@ -181,9 +212,21 @@ same_means (All a) (Wide b) e = let bad : ⊥ = cc in absurd bad
 same_means (All a) (Each b) e = let bad : ⊥ = cc in absurd bad
 same_means (All a) (Share b) e = let bad : ⊥ = cc in absurd bad
 same_means (All a) (All b) e = ap All (grind (arith, e))
+same_means (All a) (Pile m b) e = let bad : ⊥ = cc in absurd bad
 same_means (All a) Left e = let bad : ⊥ = cc in absurd bad
 same_means (All a) Right e = let bad : ⊥ = cc in absurd bad
 same_means (All a) Top e = let bad : ⊥ = cc in absurd bad
+same_means (Pile l a) (Input b) e = let bad : ⊥ = cc in absurd bad
+same_means (Pile l a) (Half b) e = let bad : ⊥ = cc in absurd bad
+same_means (Pile l a) (Chain b) e = let bad : ⊥ = cc in absurd bad
+same_means (Pile l a) (Wide b) e = let bad : ⊥ = cc in absurd bad
+same_means (Pile l a) (Each b) e = let bad : ⊥ = cc in absurd bad
+same_means (Pile l a) (Share b) e = let bad : ⊥ = cc in absurd bad
+same_means (Pile l a) (All b) e = let bad : ⊥ = cc in absurd bad
+same_means (Pile l a) (Pile m b) e = let p = both_true (l == m) (a == b) e in let x : l ≡ m = eqb-true l m p.0 in let y : a ≡ b = eqb-true a b p.1 in ap (λ k. Pile k a) x ∙ ap (Pile m) y
+same_means (Pile l a) Left e = let bad : ⊥ = cc in absurd bad
+same_means (Pile l a) Right e = let bad : ⊥ = cc in absurd bad
+same_means (Pile l a) Top e = let bad : ⊥ = cc in absurd bad
 same_means Left (Input b) e = let bad : ⊥ = cc in absurd bad
 same_means Left (Half b) e = let bad : ⊥ = cc in absurd bad
 same_means Left (Chain b) e = let bad : ⊥ = cc in absurd bad
@@ -191,6 +234,7 @@ same_means Left (Wide b) e = let bad : ⊥ = cc in absurd bad
 same_means Left (Each b) e = let bad : ⊥ = cc in absurd bad
 same_means Left (Share b) e = let bad : ⊥ = cc in absurd bad
 same_means Left (All b) e = let bad : ⊥ = cc in absurd bad
+same_means Left (Pile m b) e = let bad : ⊥ = cc in absurd bad
 same_means Left Left e = refl
 same_means Left Right e = let bad : ⊥ = cc in absurd bad
 same_means Left Top e = let bad : ⊥ = cc in absurd bad
@@ -201,6 +245,7 @@ same_means Right (Wide b) e = let bad : ⊥ = cc in absurd bad
 same_means Right (Each b) e = let bad : ⊥ = cc in absurd bad
 same_means Right (Share b) e = let bad : ⊥ = cc in absurd bad
 same_means Right (All b) e = let bad : ⊥ = cc in absurd bad
+same_means Right (Pile m b) e = let bad : ⊥ = cc in absurd bad
 same_means Right Left e = let bad : ⊥ = cc in absurd bad
 same_means Right Right e = refl
 same_means Right Top e = let bad : ⊥ = cc in absurd bad
@@ -211,6 +256,7 @@ same_means Top (Wide b) e = let bad : ⊥ = cc in absurd bad
 same_means Top (Each b) e = let bad : ⊥ = cc in absurd bad
 same_means Top (Share b) e = let bad : ⊥ = cc in absurd bad
 same_means Top (All b) e = let bad : ⊥ = cc in absurd bad
+same_means Top (Pile m b) e = let bad : ⊥ = cc in absurd bad
 same_means Top Left e = let bad : ⊥ = cc in absurd bad
 same_means Top Right e = let bad : ⊥ = cc in absurd bad
 same_means Top Top e = refl
@@ -223,6 +269,7 @@ same_itself (Wide a) = eq-eqb a a refl
 same_itself (Each a) = eq-eqb a a refl
 same_itself (Share a) = eq-eqb a a refl
 same_itself (All a) = eq-eqb a a refl
+same_itself (Pile l a) = ap (λ b. b && (a == a)) (eq-eqb l l refl) ∙ eq-eqb a a refl
 same_itself Left = refl
 same_itself Right = refl
 same_itself Top = refl
@@ -235,6 +282,7 @@ input_value given (Wide a) e = let bad : ⊥ = cc in absurd bad
 input_value given (Each a) e = let bad : ⊥ = cc in absurd bad
 input_value given (Share a) e = let bad : ⊥ = cc in absurd bad
 input_value given (All a) e = let bad : ⊥ = cc in absurd bad
+input_value given (Pile l a) e = let bad : ⊥ = cc in absurd bad
 input_value given Left e = let bad : ⊥ = cc in absurd bad
 input_value given Right e = let bad : ⊥ = cc in absurd bad
 input_value given Top e = let bad : ⊥ = cc in absurd bad
@@ -247,6 +295,7 @@ input_reads given (Wide a) e = let bad : ⊥ = cc in absurd bad
 input_reads given (Each a) e = let bad : ⊥ = cc in absurd bad
 input_reads given (Share a) e = let bad : ⊥ = cc in absurd bad
 input_reads given (All a) e = let bad : ⊥ = cc in absurd bad
+input_reads given (Pile l a) e = let bad : ⊥ = cc in absurd bad
 input_reads given Left e = let bad : ⊥ = cc in absurd bad
 input_reads given Right e = let bad : ⊥ = cc in absurd bad
 input_reads given Top e = let bad : ⊥ = cc in absurd bad
@@ -305,6 +354,10 @@ rest_is f first [] o = passes (answers f first) first [] (λ c h. (f c, lookup_a
 rest_is f first (c ∷ cs) o =
     passes (answers f first) first (c ∷ cs) (λ d h. (f d, lookup_answers f first d h)) ∙ stops (answers f first) c cs (lookup_absent f first c (once_apart first c cs o))
 
+abbrev number_of : Cell → ℕ
+number_of (Pile l n) = n
+number_of c = 0
+
 -- a cell reads nothing twice
 in_halves : (n : ℕ) (c : Cell) → Has (halves n) c → (i : ℕ) × ((i < n) × (Half i ≡ c))
 in_halves zero c h = absurd h
@@ -340,6 +393,11 @@ once_reads (Wide n) = once_halves n
 once_reads (Each n) = once_halves n
 once_reads (Share n) = ((λ h. h), tt)
 once_reads (All n) = once_shares n
+once_reads (Pile l n) =
+    elim (is_low l n) as (λ b. IsOnce (if b then Half n ∷ [] else Pile (l - 1) (2 * n) ∷ Pile (l - 1) (2 * n + 1) ∷ [])) [
+      | true ↦ ((λ h. h), tt)
+      | false ↦ ((λ h. elim h [ inl e ↦ (let s : 2 * n + 1 ≡ 2 * n = ap number_of e in omega arith) | inr x ↦ x ]), ((λ h. h), tt))
+    ]
 once_reads Left = ((λ h. h), tt)
 once_reads Right = ((λ h. h), tt)
 once_reads Top = ((λ h. elim h [ inl e ↦ (let bad : ⊥ = cc in bad) | inr x ↦ x ]), ((λ h. h), tt))
@@ -358,6 +416,26 @@ last_share (suc n) e = let s : suc n - 1 ≡ n = omega arith in subst (λ m. Has
 worth_before : (given : Cell → ℕ) (n : ℕ) → worth given (if n == 0 then Half 0 else Chain (n - 1)) ≡ given (Input 0) / 2
 worth_before given n = elim (n == 0) as (λ b. worth given (if b then Half 0 else Chain (n - 1)) ≡ given (Input 0) / 2) [ true ↦ refl | false ↦ refl ]
 
+last_read : (l n : ℕ) → Has (under l n) (last_under l n)
+last_read l n =
+    elim (is_low l n) as (λ b. Has (if b then Half n ∷ [] else Pile (l - 1) (2 * n) ∷ Pile (l - 1) (2 * n + 1) ∷ []) (if b then Half n else Pile (l - 1) (2 * n + 1))) [
+      | true ↦ inl refl
+      | false ↦ inr (inl refl)
+    ]
+
+low_further : (l n : ℕ) → is_low (suc l) n ≡ nat_le 1073741824 n
+low_further l n = let e : (suc l == 0) ≡ false = grind arith in ap (λ b. b || nat_le 1073741824 n) e
+
+worth_under : (given : Cell → ℕ) (l n : ℕ) → worth given (last_under l n) ≡ given (Input (lowest l n)) / 2
+worth_under given zero n = refl
+worth_under given (suc l) n =
+    let back : suc l - 1 ≡ l = omega arith in
+    ap (λ b. worth given (if b then Half n else Pile (suc l - 1) (2 * n + 1))) (low_further l n)
+    ∙ elim (nat_le 1073741824 n) as (λ b. worth given (if b then Half n else Pile (suc l - 1) (2 * n + 1)) ≡ given (Input (if b then n else lowest l (2 * n + 1))) / 2) [
+      | true ↦ refl
+      | false ↦ ap (λ k. given (Input (lowest k (2 * n + 1))) / 2) back
+    ]
+
 final_is : (given : Cell → ℕ) (c : Cell) → is_input_cell c ≡ false → final c (answers (worth given) (reads_of c)) ≡ worth given c
 final_is given (Input n) e = let bad : ⊥ = cc in absurd bad
 final_is given (Half n) e = ap (λ v. v / 2) (found (worth given) (Input n ∷ []) (Input n) (inl refl))
@@ -373,6 +451,7 @@ final_is given (Share n) e = found (worth given) (Half 0 ∷ []) (Half 0) (inl r
 final_is given (All n) e =
     elim (n == 0) as (λ b. (n == 0) ≡ b → (if b then 0 else answer_or_zero (answers (worth given) (shares n)) (Share (n - 1))) ≡ (if b then 0 else given (Input 0) / 2))
     [ true ↦ (λ _. refl) | false ↦ (λ s. found (worth given) (shares n) (Share (n - 1)) (last_share n s)) ] refl
+final_is given (Pile l n) e = found (worth given) (under l n) (last_under l n) (last_read l n) ∙ worth_under given l n
 final_is given Left e = found (worth given) (Half 0 ∷ []) (Half 0) (inl refl)
 final_is given Right e = found (worth given) (Half 0 ∷ []) (Half 0) (inl refl)
 final_is given Top e = found (worth given) (Left ∷ Right ∷ []) Right (inr (inl refl))
@@ -401,6 +480,18 @@ level_before n =
     elim (n == 0) as (λ b. (n == 0) ≡ b → level (if b then Half 0 else Chain (n - 1)) < n + 2)
     [ true ↦ (λ _. omega arith) | false ↦ (λ e. let p : 0 < n = grind (arith, e) in omega arith) ] refl
 
+under_ranks : (l n : ℕ) (d : Cell) → Has (under l n) d → level d < l + 2
+under_ranks zero n d (inl e) = subst (λ x. level x < 2) e (omega arith)
+under_ranks zero n d (inr x) = absurd x
+under_ranks (suc l) n d h =
+    elim (nat_le 1073741824 n) as (λ b. Has (if b then Half n ∷ [] else Pile (suc l - 1) (2 * n) ∷ Pile (suc l - 1) (2 * n + 1) ∷ []) d → level d < suc l + 2) [
+      | true ↦ (λ m. elim m [ inl e ↦ subst (λ x. level x < suc l + 2) e (omega arith) | inr x ↦ absurd x ])
+      | false ↦ (λ m. elim m [
+        | inl e ↦ subst (λ x. level x < suc l + 2) e (omega arith)
+        | inr k ↦ elim k [ inl e ↦ subst (λ x. level x < suc l + 2) e (omega arith) | inr x ↦ absurd x ]
+      ])
+    ] (subst (λ b. Has (if b then Half n ∷ [] else Pile (suc l - 1) (2 * n) ∷ Pile (suc l - 1) (2 * n + 1) ∷ []) d) (low_further l n) h)
+
 cell_ranks : (given : Cell → ℕ) (c d : Cell) → Has (reads_of c) d → level d < level c
 cell_ranks given (Input n) d h = absurd h
 cell_ranks given (Half n) d (inl e) = subst (λ x. level x < 1) e (omega arith)
@@ -412,6 +503,7 @@ cell_ranks given (Each n) d h = let r = in_halves n d h in subst (λ x. level x 
 cell_ranks given (Share n) d (inl e) = subst (λ x. level x < 2) e (omega arith)
 cell_ranks given (Share n) d (inr x) = absurd x
 cell_ranks given (All n) d h = let r = in_shares n d h in subst (λ x. level x < 3) r.1.1 (omega arith)
+cell_ranks given (Pile l n) d h = under_ranks l n d h
 cell_ranks given Left d (inl e) = subst (λ x. level x < 2) e (omega arith)
 cell_ranks given Left d (inr x) = absurd x
 cell_ranks given Right d (inl e) = subst (λ x. level x < 2) e (omega arith)

@@ -1,11 +1,11 @@
 -- The cells, as queries.
-use Rattle.std.specs.Prelude.{◌≡◌, ◌<◌, is_some, ℕ, zero, suc, ◌+◌, ◌-◌, ◌==◌, ◌/◌, Bool, true, false, if◌then◌else◌, List, [], ◌∷◌, ◌++◌, Some, None}
+use Rattle.std.specs.Prelude.{◌≡◌, ◌<◌, is_some, ℕ, zero, suc, ◌+◌, ◌-◌, ◌*◌, ◌==◌, ◌/◌, ◌&&◌, ◌||◌, nat_le, Bool, true, false, if◌then◌else◌, List, [], ◌∷◌, ◌++◌, Some, None}
 use Rattle.std.specs.Map.{lookup}
 use Rattle.query_core.specs.Queries.{Queries}
 use Rattle.query_core.specs.declared.rules.Step.{Step}
 use Rattle.query_core.specs.declared.rules.Step.TheVariants.{Ask, Done}
 use Rattle.query_tests.specs.declared.cells.Cell.{Cell}
-use Rattle.query_tests.specs.declared.cells.Cell.TheVariants.{Input, Half, Chain, Wide, Each, Share, All, Left, Right, Top}
+use Rattle.query_tests.specs.declared.cells.Cell.TheVariants.{Input, Half, Chain, Wide, Each, Share, All, Pile, Left, Right, Top}
 
 abbrev pub same_cell : Cell → Cell → Bool
 same_cell (Input a) (Input b) = a == b
@@ -15,6 +15,7 @@ same_cell (Wide a) (Wide b) = a == b
 same_cell (Each a) (Each b) = a == b
 same_cell (Share a) (Share b) = a == b
 same_cell (All a) (All b) = a == b
+same_cell (Pile l a) (Pile m b) = (l == m) && (a == b)
 same_cell Left Left = true
 same_cell Right Right = true
 same_cell Top Top = true
@@ -34,6 +35,22 @@ abbrev pub shares : ℕ → List Cell
 shares zero = []
 shares (suc n) = shares n ++ Share n ∷ []
 
+-- a pile reads a half
+abbrev pub is_low : ℕ → ℕ → Bool
+is_low l n = (l == 0) || nat_le 1073741824 n
+
+-- what a pile reads
+abbrev pub under : ℕ → ℕ → List Cell
+under l n = if is_low l n then Half n ∷ [] else Pile (l - 1) (2 * n) ∷ Pile (l - 1) (2 * n + 1) ∷ []
+
+abbrev pub last_under : ℕ → ℕ → Cell
+last_under l n = if is_low l n then Half n else Pile (l - 1) (2 * n + 1)
+
+-- the number of the half that a pile is
+abbrev pub lowest : ℕ → ℕ → ℕ
+lowest zero n = n
+lowest (suc l) n = if nat_le 1073741824 n then n else lowest l (2 * n + 1)
+
 -- what a cell reads
 abbrev pub reads_of : Cell → List Cell
 reads_of (Input n) = []
@@ -43,6 +60,7 @@ reads_of (Wide n) = halves n
 reads_of (Each n) = halves n
 reads_of (Share n) = Half 0 ∷ []
 reads_of (All n) = shares n
+reads_of (Pile l n) = under l n
 reads_of Left = Half 0 ∷ []
 reads_of Right = Half 0 ∷ []
 reads_of Top = Left ∷ Right ∷ []
@@ -56,6 +74,7 @@ worth given (Wide n) = if n == 0 then 0 else given (Input (n - 1)) / 2
 worth given (Each n) = if n == 0 then 0 else given (Input (n - 1)) / 2
 worth given (Share n) = given (Input 0) / 2
 worth given (All n) = if n == 0 then 0 else given (Input 0) / 2
+worth given (Pile l n) = given (Input (lowest l n)) / 2
 worth given Left = given (Input 0) / 2
 worth given Right = given (Input 0) / 2
 worth given Top = given (Input 0) / 2
@@ -68,6 +87,7 @@ level (Wide n) = 2
 level (Each n) = 2
 level (Share n) = 2
 level (All n) = 3
+level (Pile l n) = l + 2
 level Left = 2
 level Right = 2
 level Top = 3
@@ -89,6 +109,7 @@ final (Wide n) answers = if n == 0 then 0 else answer_or_zero answers (Half (n -
 final (Each n) answers = if n == 0 then 0 else answer_or_zero answers (Half (n - 1))
 final (Share n) answers = answer_or_zero answers (Half 0)
 final (All n) answers = if n == 0 then 0 else answer_or_zero answers (Share (n - 1))
+final (Pile l n) answers = answer_or_zero answers (last_under l n)
 final Left answers = answer_or_zero answers (Half 0)
 final Right answers = answer_or_zero answers (Half 0)
 final Top answers = answer_or_zero answers Right

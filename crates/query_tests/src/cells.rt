@@ -4,7 +4,7 @@ ghost use Rattle.std.specs.Prelude.{◌≡◌, ◌+◌, ◌-◌, ◌<◌, ◌≤
 ghost use Rattle.std.specs.Map.{lookup};
 ghost use Rattle.query_tests.specs.declared.cells.Cell.TheVariants.{Half, Chain, Each};
 ghost use Rattle.query_core.specs.Queries.{ticks};
-ghost use Rattle.query_tests.specs.Cells.{cells, reads_of, rest_of, final, halves, shares, answer_or_zero, same_cell, one_by_one, step_with, AreAnswered, has_read_cell};
+ghost use Rattle.query_tests.specs.Cells.{cells, reads_of, rest_of, final, halves, shares, under, last_under, answer_or_zero, same_cell, one_by_one, step_with, AreAnswered, has_read_cell};
 ghost use Rattle.query_tests.specs.CellLaws.{cells_lawful, same_cell_is};
 ghost use Rattle.query_tests.specs.PickLaws.{same_number_is};
 
@@ -30,6 +30,9 @@ pub enum Cell {
     Share(u32),
     /// Reads so many shares, and is the last of them.
     All(u32),
+    /// At this level, and of this number there: reads the two of the level below that stand under it, and is the second of them. At level 0
+    /// it is the half of its number, and so are those of 2^30 and more.
+    Pile(u32, u32),
     /// One side of the diamond, over the half of input 0.
     Left,
     /// The other side.
@@ -81,6 +84,28 @@ fn before(number: u32) -> Cell
     }
 }
 
+/// What a pile reads.
+fn under(alloc: Global, level: u32, number: u32) -> Result<Vec<Cell>, AllocError>
+    ensures { IfOk result (λ v. v.items ≡ under level number) }
+{
+    if level == 0 || number >= 1_073_741_824 {
+        return one(alloc, Cell::Half(number));
+    }
+    let mut cells = one(alloc, Cell::Pile(level - 1, 2 * number))?;
+    cells.push(Cell::Pile(level - 1, 2 * number + 1))?;
+    Ok(cells)
+}
+
+/// The last cell that a pile reads.
+fn last_under(level: u32, number: u32) -> Cell
+    ensures { result ≡ last_under level number }
+{
+    if level == 0 || number >= 1_073_741_824 {
+        return Cell::Half(number);
+    }
+    Cell::Pile(level - 1, 2 * number + 1)
+}
+
 /// One cell, as a list.
 fn one(alloc: Global, cell: Cell) -> Result<Vec<Cell>, AllocError>
     ensures { IfOk result (λ v. v.items ≡ cell ∷ []) }
@@ -101,6 +126,7 @@ fn reads(alloc: Global, cell: Cell) -> Result<Vec<Cell>, AllocError>
         Cell::Wide(number) | Cell::Each(number) => first_halves(alloc, number),
         Cell::Share(_) => one(alloc, Cell::Half(0)),
         Cell::All(number) => first_shares(alloc, number),
+        Cell::Pile(level, number) => under(alloc, level, number),
         Cell::Left => one(alloc, Cell::Half(0)),
         Cell::Right => one(alloc, Cell::Half(0)),
         Cell::Top => {
@@ -164,6 +190,7 @@ fn value(cell: Cell, answers: &Answers<'_, Cell, u32>) -> u32
                 answer(answers, Cell::Share(number - 1))
             }
         }
+        Cell::Pile(level, number) => answer(answers, last_under(level, number)),
         Cell::Left => answer(answers, Cell::Half(0)),
         Cell::Right => answer(answers, Cell::Half(0)),
         Cell::Top => answer(answers, Cell::Right),
@@ -178,7 +205,8 @@ fn length_of(cell: Cell) -> Option<u32>
     match cell {
         Cell::Each(number) => Some(number),
         Cell::Input(_) | Cell::Half(_) | Cell::Chain(_) | Cell::Wide(_) => None,
-        Cell::Share(_) | Cell::All(_) | Cell::Left | Cell::Right | Cell::Top => None,
+        Cell::Share(_) | Cell::All(_) | Cell::Pile(_, _) => None,
+        Cell::Left | Cell::Right | Cell::Top => None,
     }
 }
 
@@ -253,7 +281,8 @@ impl Rules for CellRules {
         match key {
             Cell::Input(_) => true,
             Cell::Half(_) | Cell::Chain(_) | Cell::Wide(_) | Cell::Each(_) => false,
-            Cell::Share(_) | Cell::All(_) | Cell::Left | Cell::Right | Cell::Top => false,
+            Cell::Share(_) | Cell::All(_) | Cell::Pile(_, _) => false,
+            Cell::Left | Cell::Right | Cell::Top => false,
         }
     }
 

@@ -15,7 +15,7 @@ pub use opinions::{Opinions, compare};
 pub use pick::{PickKey, PickRules};
 pub use plain::Plain;
 pub use several::demand_all;
-pub use sheet::{Edit, Shown, Swept, demand_together, edit_all, sweep_after};
+pub use sheet::{Edit, Shown, Swept, demand_together, edit_all, edit_under, sweep_after};
 pub use turns::{Between, Input, Outcome, Turn, play, sweep_between, sweep_once};
 pub use web::{Knot, WebRules};
 
@@ -276,13 +276,14 @@ mod tests {
         assert_eq!(rt; runs, 7);
     }
 
-    // Edits, demands and sweeps of random knots give the same on a graph that is as plain as can be.
+    // Edits, demands, refused ones too, and sweeps of random knots give the same on a graph that is as plain as can be.
     #[test]
     fn a_plain_graph_agrees(rt: HostRuntime) {
         let all = compare::<Brand>(rt.alloc(), Blank::new(1), 1, 2000).expect(&rt, "memory");
         assert_eq!(rt; all.agreed, 2000);
         assert!(rt; all.ran > 2000);
         assert!(rt; all.removed > 2000);
+        assert!(rt; all.refused > 50);
     }
 
     struct Sweep {

@@ -35,12 +35,26 @@ impl Random {
     }
 }
 
-/// What was compared: how many turns both agreed in, how many keys ran in these, and how many records went.
+/// What was compared: how many turns both agreed in, how many keys ran in these, how many records went, and how many demands were refused.
 #[derive(Clone, Copy, Debug, PartialEq, Eq, Drop)]
 pub struct Opinions {
     pub agreed: u32,
     pub ran: usize,
     pub removed: usize,
+    pub refused: u32,
+}
+
+/// What a turn gave: how many keys ran, how many records went, and how many demands were refused.
+#[derive(Clone, Copy, Drop)]
+struct Taken {
+    ran: usize,
+    removed: usize,
+    refused: u32,
+}
+
+/// The rules, with no refusal.
+fn willing() -> WebRules {
+    WebRules { refused: KNOTS }
 }
 
 /// Sets an input; where memory is refused, once more.
@@ -54,6 +68,21 @@ fn set_twice(graph: &mut Graph<WebRules>, key: Knot, value: u32) -> Result<(), A
     match graph.set_input(key, value) {
         Ok(()) => Ok(()),
         Err(_) => graph.set_input(key, value),
+    }
+}
+
+/// Takes an input's value away, after it was refused once.
+fn drop_twice(graph: &mut Graph<WebRules>, number: u32) -> Result<(), AllocError>
+    requires input { nat_lt number 8 ≡ true }
+    requires fresh { IsFresh web graph.old }
+    ensures fresh { IsFresh web graph.new }
+    ensures unswept { IsUnswept web graph.old → IsUnswept web graph.new }
+    ensures revision { graph.new.revision ≡ graph.old.revision }
+{
+    let refused = WebRules { refused: number };
+    match graph.drop_input(&refused, &Knot { number }) {
+        Ok(()) => Ok(()),
+        Err(_) => graph.drop_input(&willing(), &Knot { number }),
     }
 }
 
@@ -71,7 +100,7 @@ fn edit(
     let number = random.below(8);
     let value = random.below(4);
     if value == 3 {
-        graph.drop_input(&WebRules {}, &Knot { number })?;
+        drop_twice(graph, number)?;
         return plain.set_input(number, 0);
     }
     set_twice(graph, Knot { number }, value)?;
@@ -109,47 +138,51 @@ fn agree(graph: &Graph<WebRules>, plain: &Plain) -> bool {
         .all(|(key, number)| key.number == *number)
 }
 
-/// The value of a knot; where memory is refused, the demand is made once more.
+/// The value of a knot, and how often it was refused: where a run is, the demand is made once more.
 fn demand_twice<L: Ledger>(
     graph: &mut Graph<WebRules>,
     number: u32,
+    refused: u32,
     steps: &mut Steps<L>,
-) -> Result<u32, AllocError>
+) -> Result<(u32, u32), AllocError>
     requires { IsUnswept web graph.old }
     ensures unswept { IsUnswept web graph.new }
     ensures revision { graph.new.revision ≡ graph.old.revision }
 {
-    match graph.demand(&WebRules {}, Knot { number }, steps) {
-        Ok(id) => Ok(*graph.value(id)),
+    match graph.demand(&WebRules { refused }, Knot { number }, steps) {
+        Ok(id) => Ok((*graph.value(id), 0)),
         Err(_) => {
-            let id = graph.demand(&WebRules {}, Knot { number }, steps)?;
-            Ok(*graph.value(id))
+            let id = graph.demand(&willing(), Knot { number }, steps)?;
+            Ok((*graph.value(id), 1))
         }
     }
 }
 
-/// Up to three demands of both, and whether they gave the same.
+/// Up to three demands of both, in half of which the run of a knot is refused: how many were, or `None` where the two don't give the same.
 fn demands<L: Ledger>(
     graph: &mut Graph<WebRules>,
     plain: &mut Plain,
     random: &mut Random,
     steps: &mut Steps<L>,
-) -> Result<bool, AllocError>
+) -> Result<Option<u32>, AllocError>
     requires { IsUnswept web graph.old }
     ensures { graph.new.revision ≡ graph.old.revision }
 {
     let count = random.below(4);
+    let mut all = 0;
     for _ in 0..count {
         let number = random.below(KNOTS);
-        let value = demand_twice(graph, number, steps)?;
+        let refused = random.below(2 * KNOTS);
+        let (value, times) = demand_twice(graph, number, refused, steps)?;
         if value != plain.demand(number)? {
-            return Ok(false);
+            return Ok(None);
         }
         if !agree(graph, plain) {
-            return Ok(false);
+            return Ok(None);
         }
+        all = times.saturating_add(all);
     }
-    Ok(true)
+    Ok(Some(all))
 }
 
 /// Up to two random knots.
@@ -188,29 +221,37 @@ fn sweep_both(
     Ok(Some(removed))
 }
 
-/// A revision of both: edits, demands, and in one of three a sweep. Gives how many keys ran and how many records went, or `None` where the
-/// two don't agree.
+/// A revision of both: edits, demands, and in one of three a sweep; `None` where the two don't agree.
 fn take_turn<L: Ledger>(
     alloc: Global,
     graph: &mut Graph<WebRules>,
     plain: &mut Plain,
     random: &mut Random,
     steps: &mut Steps<L>,
-) -> Result<Option<(usize, usize)>, AllocError>
+) -> Result<Option<Taken>, AllocError>
     requires { graph.old.revision < 2 ^ 62 }
     ensures { OnOk result (graph.new.revision ≡ graph.old.revision + 1) }
 {
     edits(graph, plain, random)?;
-    if !demands(graph, plain, random, steps)? {
+    let Some(refused) = demands(graph, plain, random, steps)? else {
         return Ok(None);
-    }
+    };
     let ran = graph.runs().len();
     if random.below(3) > 0 {
-        return Ok(Some((ran, 0)));
+        let removed = 0;
+        return Ok(Some(Taken {
+            ran,
+            removed,
+            refused,
+        }));
     }
     let roots = some_roots(alloc, random)?;
     match sweep_both(graph, plain, &roots)? {
-        Some(removed) => Ok(Some((ran, removed))),
+        Some(removed) => Ok(Some(Taken {
+            ran,
+            removed,
+            refused,
+        })),
         None => Ok(None),
     }
 }
@@ -234,22 +275,17 @@ pub fn compare<L: Ledger>(
         agreed: 0,
         ran: 0,
         removed: 0,
+        refused: 0,
     };
     for _ in 0..turns {
-        let Some((ran, removed)) = take_turn(
-            alloc,
-            &mut graph,
-            &mut plain,
-            &mut random,
-            &mut steps,
-        )?
-        else {
+        let Some(taken) = take_turn(alloc, &mut graph, &mut plain, &mut random, &mut steps)? else {
             return Ok(all);
         };
         all = Opinions {
             agreed: all.agreed.saturating_add(1),
-            ran: all.ran.saturating_add(ran),
-            removed: all.removed.saturating_add(removed),
+            ran: all.ran.saturating_add(taken.ran),
+            removed: all.removed.saturating_add(taken.removed),
+            refused: all.refused.saturating_add(taken.refused),
         };
     }
     Ok(all)

@@ -84,6 +84,48 @@ pub fn edit_all<L: Ledger>(
     make_edits(alloc, &mut graph, edits, &mut steps)
 }
 
+/// Begins a revision, sets the input, demands the roots and sweeps: how many cells ran.
+fn edit_once<L: Ledger>(
+    graph: &mut Graph<CellRules>,
+    edit: &Edit,
+    roots: &[Cell],
+    steps: &mut Steps<L>,
+) -> Result<usize, AllocError>
+    requires { graph.old.revision < 2 ^ 62 }
+    ensures { OnOk result (graph.new.revision ≡ graph.old.revision + 1) }
+{
+    graph.next_revision();
+    graph.set_input(Cell::Input(edit.input), edit.value)?;
+    demand_all(graph, &CellRules {}, roots, steps)?;
+    let runs = graph.runs().len();
+    graph.sweep(roots)?;
+    Ok(runs)
+}
+
+/// Demands the roots on a graph with no input set, then makes the edits one after the other, each with a demand of all roots and a sweep.
+/// Gives how many cells ran for each edit; what an edit says to demand is not asked.
+pub fn edit_under<L: Ledger>(
+    alloc: Global,
+    blank: Blank,
+    roots: &[Cell],
+    edits: &[Edit],
+) -> Result<Vec<usize>, AllocError>
+    requires name { blank.name ≡ L.name }
+    requires parts { blank.parts ≡ L.parts }
+    requires some { 0 < L.parts }
+    requires few { length edits.now < 1000 }
+{
+    let mut steps = Steps::<L>::open(blank);
+    let mut graph = Graph::new(alloc);
+    let mut runs = Vec::new(alloc);
+    demand_all(&mut graph, &CellRules {}, roots, &mut steps)?;
+    for next in edits {
+        let one = edit_once(&mut graph, next, roots, &mut steps)?;
+        runs.push(one)?;
+    }
+    Ok(runs)
+}
+
 /// Sets the first input and demands these cells in one revision: how many of them and of what they read ran.
 pub fn demand_together<L: Ledger>(
     alloc: Global,

@@ -23,9 +23,11 @@ impl TryCopy for Knot {
     }
 }
 
-/// The rules of the web.
+/// The rules of the web. The knot of one number is refused memory: its run, or the value of the input that isn't set.
 #[derive(Drop)]
-pub struct WebRules {}
+pub struct WebRules {
+    pub refused: u32,
+}
 
 fn ask(alloc: Global, key: Knot) -> Result<Step<Knot, u32>, AllocError>
     ensures { IfOk result (λ s. s ≡ Ask (key ∷ [])) }
@@ -83,7 +85,10 @@ impl Rules for WebRules {
         key.number < 8
     }
 
-    fn unset(&self, _alloc: Global, _key: &Knot) -> Result<u32, AllocError> {
+    fn unset(&self, _alloc: Global, key: &Knot) -> Result<u32, AllocError> {
+        if key.number == self.refused {
+            return Err(AllocError);
+        }
         Ok(0)
     }
 
@@ -99,6 +104,9 @@ impl Rules for WebRules {
         answers: &Answers<'_, Knot, u32>,
         steps: &mut Steps<L>,
     ) -> Result<Step<Knot, u32>, AllocError> {
+        if key.number == self.refused {
+            return Err(AllocError);
+        }
         let number = first_of(key.number);
         let before = Knot { number };
         let Some(first) = answers.get(&before) else {

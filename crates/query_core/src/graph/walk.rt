@@ -1,6 +1,6 @@
 // The walk of a demand, on a path of its own.
 
-ghost use Rattle.std.specs.Prelude.{◌≡◌, ℕ, ◌+◌, ◌<◌, ◌≤◌, ◌++◌, ◌∷◌, [], slice_get, true, false, None, Some, Ok, Err, OnOk, OnErr, IfSome, IsSome, IfOk, IsOk, Option, length};
+ghost use Rattle.std.specs.Prelude.{if◌then◌else◌, ◌≡◌, ℕ, ◌+◌, ◌<◌, ◌≤◌, ◌++◌, ◌∷◌, [], slice_get, true, false, None, Some, Ok, Err, OnOk, OnErr, IfSome, IsSome, IfOk, IsOk, Option, length};
 ghost use Rattle.query_core.specs.Stored.{seen};
 ghost use Rattle.query_core.specs.Graph.{at, node_of, record_of, is_current, is_verified};
 ghost use Rattle.query_core.specs.Soundness.{IsSound, IsUnswept, kept};
@@ -19,6 +19,15 @@ use std::alloc::{AllocError, Global};
 use std::sync::ledger::Ledger;
 use steps::Steps;
 
+/// How many roots were demanded in order, after a key that has this node, where this was the next one's.
+fn past_root(demanded: usize, next: Option<u32>, found: Option<u32>) -> usize {
+    if next == found {
+        demanded.saturating_add(1)
+    } else {
+        demanded
+    }
+}
+
 impl<R: Rules> Graph<R> {
     /// Whether the record was verified now.
     fn is_current(&self, rules: &R, node: &Seen<'_, R::Key, R::Value>) -> bool
@@ -29,7 +38,7 @@ impl<R: Rules> Graph<R> {
 
     /// Where the record of a key stands that has this node.
     #[tactic(auto, using(crate::proofs::Reading::verified_is))]
-    fn stands(&self, rules: &R, key: &R::Key, node: Option<usize>) -> Found
+    fn stands(&self, rules: &R, key: &R::Key, node: Option<u32>) -> Found
         requires { node_of R.queries self.now key.now ≡ node }
         ensures { IsFound R.queries self.now key.now result }
     {
@@ -47,7 +56,12 @@ impl<R: Rules> Graph<R> {
     }
 
     /// The node of a key; where it is one of those that are expected, a look at that record tells it.
-    fn find(&self, key: &R::Key, expected: Option<usize>, finished: Option<usize>) -> Option<usize>
+    pub(super) fn find(
+        &self,
+        key: &R::Key,
+        expected: Option<u32>,
+        finished: Option<u32>,
+    ) -> Option<u32>
         ensures value { result ≡ node_of R.queries self.now key.now }
         ensures sound { IsSound R.queries self.now }
     {
@@ -55,7 +69,7 @@ impl<R: Rules> Graph<R> {
     }
 
     /// How the work on a key that isn't verified begins.
-    fn first_stage(&self, rules: &R, key: &R::Key, at_node: Option<usize>) -> Stage<R::Key, R::Run>
+    fn first_stage(&self, rules: &R, key: &R::Key, at_node: Option<u32>) -> Stage<R::Key, R::Run>
         requires stale { is_verified R.queries self.now key.now ≡ false }
         requires numbered { node_of R.queries self.now key.now ≡ at_node }
         ensures { IsStage R.queries R.has_read self.now key.now result }
@@ -72,7 +86,7 @@ impl<R: Rules> Graph<R> {
     }
 
     /// A frame for a key that isn't verified.
-    fn begin(&self, rules: &R, key: R::Key, at_node: Option<usize>) -> Frame<R::Key, R::Run>
+    fn begin(&self, rules: &R, key: R::Key, at_node: Option<u32>) -> Frame<R::Key, R::Run>
         requires stale { is_verified R.queries self.now key ≡ false }
         requires numbered { node_of R.queries self.now key ≡ at_node }
         ensures key { result.key ≡ key }
@@ -83,7 +97,7 @@ impl<R: Rules> Graph<R> {
     }
 
     /// Looks at one read of a record that was last verified in the revision `since`.
-    fn look_at(&self, rules: &R, node: usize, since: u64) -> Look
+    fn look_at(&self, rules: &R, node: u32, since: u64) -> Look
         requires { IsSome (at self.now node) }
         ensures { IsLookAt R.queries self.now since node result }
     {
@@ -101,7 +115,7 @@ impl<R: Rules> Graph<R> {
     }
 
     /// Looks at the reads of a record from a place on: each one only after all earlier ones are verified and unchanged.
-    fn look(&self, rules: &R, node: usize, place: usize) -> Checked
+    fn look(&self, rules: &R, node: u32, place: usize) -> Checked
         requires stands { IsSome (at self.now node) }
         requires so_far { (r : Node R.Key R.Value) → at self.now node ≡ Some r → IsSettledTo R.queries self.now r place }
         ensures look { (r : Node R.Key R.Value) → at self.now node ≡ Some r → IsLook R.queries self.now r result }
@@ -122,7 +136,7 @@ impl<R: Rules> Graph<R> {
     }
 
     /// The key of a read of a record, and its node.
-    fn read_key(&self, node: usize, place: usize) -> Result<(R::Key, usize), AllocError>
+    fn read_key(&self, node: u32, place: usize) -> Result<(R::Key, u32), AllocError>
         requires { (r : Node R.Key R.Value) × ((at self.now node ≡ Some r) × (place < length r.reads)) }
         ensures { IfOk result (λ read. (r d : Node R.Key R.Value) (j : ℕ) → at self.now node ≡ Some r → slice_get r.reads place ≡ Some j → at self.now j ≡ Some d → (d.key ≡ read.0) × (j ≡ read.1)) }
     {
@@ -140,7 +154,7 @@ impl<R: Rules> Graph<R> {
     }
 
     /// The node of a read of a record, where there is one.
-    fn read_at(&self, node: Option<usize>, place: usize) -> Option<usize> {
+    fn read_at(&self, node: Option<u32>, place: usize) -> Option<u32> {
         let kept = self.node(node?)?;
         kept.reads.get(place).copied()
     }
@@ -153,7 +167,7 @@ impl<R: Rules> Graph<R> {
         hints: Hints,
         asked: &Keys<R::Key>,
         answered: &mut Answered,
-    ) -> Result<Option<(R::Key, Option<usize>)>, AllocError>
+    ) -> Result<Option<(R::Key, Option<u32>)>, AllocError>
         requires { AreAnswered R.queries self.now asked.now answered.old }
         ensures { IfOk result (IsCollected R.queries self.now asked.now answered.new) }
     {
@@ -194,7 +208,7 @@ impl<R: Rules> Graph<R> {
     }
 
     /// Marks the record of a key as verified: all its reads are verified and unchanged.
-    fn touch(&mut self, key: &R::Key, node: usize)
+    fn touch(&mut self, key: &R::Key, node: u32)
         requires no_input { R.queries.is_input key.now ≡ false }
         requires stale { is_verified R.queries self.old key.now ≡ false }
         requires numbered { node_of R.queries self.old key.now ≡ Some node }
@@ -211,7 +225,7 @@ impl<R: Rules> Graph<R> {
     }
 
     /// Makes the record of an input that isn't set.
-    fn add_unset(&mut self, rules: &R, key: R::Key) -> Result<usize, AllocError>
+    fn add_unset(&mut self, rules: &R, key: R::Key) -> Result<u32, AllocError>
         requires input { R.queries.is_input key ≡ true }
         requires absent { record_of R.queries self.old key ≡ None }
         requires unswept { IsUnswept R.queries self.old }
@@ -241,10 +255,10 @@ impl<R: Rules> Graph<R> {
     fn enter(
         &mut self,
         key: R::Key,
-        at_node: Option<usize>,
+        at_node: Option<u32>,
         value: R::Value,
         reads: Reads,
-    ) -> Result<usize, AllocError>
+    ) -> Result<u32, AllocError>
         requires numbered { node_of R.queries self.old key ≡ at_node }
         requires entry { IsEntry R.queries self.old key value reads }
         requires unswept { IsUnswept R.queries self.old }
@@ -368,7 +382,7 @@ impl<R: Rules> Graph<R> {
         &mut self,
         rules: &R,
         key: R::Key,
-        node: Option<usize>,
+        node: Option<u32>,
         steps: &mut Steps<L>,
     ) -> Result<Moved<R::Key, R::Run>, AllocError>
         requires stale { is_verified R.queries self.old key ≡ false }
@@ -394,7 +408,7 @@ impl<R: Rules> Graph<R> {
         &mut self,
         rules: &R,
         key: R::Key,
-        node: usize,
+        node: u32,
         place: usize,
         steps: &mut Steps<L>,
     ) -> Result<Moved<R::Key, R::Run>, AllocError>
@@ -424,7 +438,7 @@ impl<R: Rules> Graph<R> {
         &mut self,
         rules: &R,
         frame: Frame<R::Key, R::Run>,
-        finished: Option<usize>,
+        finished: Option<u32>,
         steps: &mut Steps<L>,
     ) -> Result<Moved<R::Key, R::Run>, AllocError>
         requires frame { IsFrame R.queries R.has_read self.old frame }
@@ -459,7 +473,7 @@ impl<R: Rules> Graph<R> {
         &mut self,
         rules: &R,
         key: R::Key,
-        at_node: Option<usize>,
+        at_node: Option<u32>,
         steps: &mut Steps<L>,
     ) -> Result<NodeId, AllocError>
         requires stale { is_verified R.queries self.old key ≡ false }
@@ -467,6 +481,7 @@ impl<R: Rules> Graph<R> {
         requires unswept { IsUnswept R.queries self.old }
         requires fresh { self.old.demanded_at ≡ self.old.revision }
         ensures walked { Walked R.queries self.old key self.new }
+        ensures fresh { self.new.demanded_at ≡ self.new.revision }
         ensures ok { IfOk result (λ id. IsHolding R.queries self.old self.new key id × (steps.new ≡ steps.old + length (ran self.old self.new))) }
         ensures err { OnErr result ((steps.old + length (ran self.old self.new) ≤ steps.new) × (steps.new ≤ steps.old + length (ran self.old self.new) + 1)) }
     {
@@ -510,12 +525,13 @@ impl<R: Rules> Graph<R> {
         &mut self,
         rules: &R,
         key: R::Key,
-        at_node: Option<usize>,
+        at_node: Option<u32>,
         steps: &mut Steps<L>,
     ) -> Result<NodeId, AllocError>
         requires numbered { node_of R.queries self.old key ≡ at_node }
         requires unswept { IsUnswept R.queries self.old }
         ensures walked { Walked R.queries self.old key self.new }
+        ensures fresh { self.new.demanded_at ≡ self.new.revision }
         ensures ok { IfOk result (λ id. IsHolding R.queries self.old self.new key id × (steps.new ≡ steps.old + length (ran self.old self.new))) }
         ensures err { OnErr result ((steps.old + length (ran self.old self.new) ≤ steps.new) × (steps.new ≤ steps.old + length (ran self.old self.new) + 1)) }
     {
@@ -547,9 +563,12 @@ impl<R: Rules> Graph<R> {
         ensures once { IsOnce self.new.runs }
         ensures counted { OnOk result (steps.new ≡ steps.old + length (ran self.old self.new)) }
         ensures given_up { OnErr result ((steps.old + length (ran self.old self.new) ≤ steps.new) × (steps.new ≤ steps.old + length (ran self.old self.new) + 1)) }
+        ensures demanded { self.new.demanded_at ≡ (if is_verified R.queries self.old key then self.old.demanded_at else self.old.revision) }
         ensures again { is_verified R.queries self.old key ≡ true → IsOk result × (self.new ≡ self.old) × (steps.new ≡ steps.old) }
     {
-        let found = self.node_of(&key);
+        let next = self.store.root_at(self.demanded);
+        let found = self.find(&key, next, None);
+        self.demanded = past_root(self.demanded, next, found);
         match self.stands(rules, &key, found) {
             Found::Current(index) => Ok(NodeId { index }),
             Found::Behind(node) => self.catch_up(rules, key, node, steps),

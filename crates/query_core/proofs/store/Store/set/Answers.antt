@@ -1,5 +1,5 @@
 use Rattle.std.proofs.Common.{refl, false, cond}
-use Rattle.query_core.proofs.Reached.{named_written}
+use Rattle.query_core.proofs.Removing.{known_written}
 use Rattle.std.proofs.Common.{IsSome, sym, subst}
 use Rattle.query_core.specs.Stored.{node_at}
 use Rattle.query_core.proofs.store.Store.set.Goals as goal
@@ -18,6 +18,6 @@ returns-clause-marks g c =
 
 pub invariant_of-self : goal.invariant_of-self
 invariant_of-self g c =
-    named_written c.self.inside.readers c.self.inside.nodes.slots c.set_value.new.nodes.slots c.args.node c.self.invariant
-    (λ x. record x { value = c.args.value; clean = false; verified_at = c.args.now; changed_at = cond (g.V.PartialEq.eq x.value c.args.value) x.changed_at c.args.now }) (λ x. refl) (λ x e. (c.set_value.ensures.some x e).changed) c.set_value.ensures.none
+    known_written c.self.inside.readers c.self.inside.tallies c.self.inside.nodes.slots c.set_value.new.nodes.slots c.args.node c.self.inside.roots.items c.self.invariant
+    (λ x. record x { value = c.args.value; clean = false; verified_at = c.args.now; changed_at = cond (g.V.PartialEq.eq x.value c.args.value) x.changed_at c.args.now }) (λ x. refl) (λ x. refl) (λ x e. (c.set_value.ensures.some x e).changed) c.set_value.ensures.none
     (λ x e. (c.set_value.ensures.some x e).others)

@@ -1,5 +1,5 @@
 use Rattle.std.proofs.Common.{refl, true}
-use Rattle.query_core.proofs.Reached.{named_written}
+use Rattle.query_core.proofs.Removing.{known_written}
 use Rattle.std.proofs.Common.{◌≡◌, IsSome, sym, subst}
 use Rattle.query_core.specs.Stored.{node_at}
 use Rattle.query_core.proofs.store.Store.verify.Goals as goal
@@ -17,5 +17,5 @@ returns-clause-marks g c =
 
 pub invariant_of-self : goal.invariant_of-self
 invariant_of-self g c =
-    named_written c.self.inside.readers c.self.inside.nodes.slots c.mark_clean.new.nodes.slots c.args.node c.self.invariant (λ x. record x { clean = true }) (λ x. refl) (λ x e. (c.mark_clean.ensures.some x e).changed) c.mark_clean.ensures.none
+    known_written c.self.inside.readers c.self.inside.tallies c.self.inside.nodes.slots c.mark_clean.new.nodes.slots c.args.node c.self.inside.roots.items c.self.invariant (λ x. record x { clean = true }) (λ x. refl) (λ x. refl) (λ x e. (c.mark_clean.ensures.some x e).changed) c.mark_clean.ensures.none
     (λ x e. (c.mark_clean.ensures.some x e).others)

@@ -1,0 +1,11 @@
+use Rattle.std.proofs.Common.{◌<◌, length, ap, arith}
+use Rattle.std.specs.Vec.{vec_capacity}
+use Rattle.query_core.proofs.Counting.{rewritten, tally_is, set_long}
+use Rattle.query_core.proofs.tallies.Tallies.take.Goals as goal
+
+pub invariant_of-self : goal.invariant_of-self
+invariant_of-self c =
+    let lt : c.args.node < length c.self.inside.tallies.items = (let h = c.if-node-len.false in let e = c.len.ensures in let o = c.self.inside.tallies.ok.0 in omega arith) in
+    rewritten c.self.inside.tallies.items c.self.inside.unread.items (vec_capacity c.self.inside.unread) c.args.node (record { reads = c.saturating_sub-reads.result; listed = c.index_mut.result.now.listed }) c.self.invariant lt
+    (ap (λ t. t.listed) (tally_is c.self.inside.tallies.items c.args.node c.index_mut.result.now lt c.index_mut.ensures.value))
+    (set_long c.self.inside.tallies.items c.args.node (record { reads = c.saturating_sub-reads.result; listed = c.index_mut.result.now.listed }))
