@@ -1,8 +1,11 @@
 mod Fronts
+mod Generics
+mod Initials
 mod Joins
 mod KindLemmas
 mod Marks
 mod Numbers
+mod Openings
 mod Parsing
 mod Pushes
 mod Spans

@@ -1,8 +1,8 @@
 -- Kinds told apart.
 use Rattle.std.proofs.Common.{◌≡◌, refl, ap, sym, ◌∙◌, subst, ℕ, ◌<◌, List, arith, Bool, true, false, true≢false}
 use Rattle.c_parser.specs.declared.kinds.Kind.{Kind}
-use Rattle.c_parser.specs.declared.kinds.Kind.TheVariants.{Identifier, TypeName, TypeWord, Qualifier, Tag, AlignOf, Constant, Text, OpenParen, CloseParen, OpenBracket, CloseBracket, Member, Step, Ampersand, Star, Sign, Complement, SizeOf, Quotient, Shift, Relation, Equality, Caret, Bar, And, Or, Question, Colon, Assignment, Comma}
-use Rattle.c_parser.specs.Kinds.{kind_at, level_of, is_prefix, is_size, is_suffix, is_opening, is_specifying, starts_type}
+use Rattle.c_parser.specs.declared.kinds.Kind.TheVariants.{Identifier, TypeName, TypeWord, Qualifier, Tag, AlignOf, Constant, Text, OpenParen, CloseParen, OpenBracket, CloseBracket, Member, Step, Ampersand, Star, Sign, Complement, SizeOf, Quotient, Shift, Relation, Equality, Caret, Bar, And, Or, Question, Colon, Assignment, Comma, OpenBrace, CloseBrace, Dot, Equals, Generic, OffsetOf, Default}
+use Rattle.c_parser.specs.Kinds.{kind_at, level_of, is_prefix, is_size, is_suffix, is_opening, is_specifying, starts_type, is_dot, is_equals, is_member, is_designating}
 use Rattle.c_parser.specs.Reading.{Stops}
 
 abbrev pub code_of : Kind → ℕ
@@ -29,6 +29,13 @@ code_of TypeWord = 20
 code_of Qualifier = 21
 code_of Tag = 22
 code_of AlignOf = 23
+code_of OpenBrace = 24
+code_of CloseBrace = 25
+code_of Dot = 26
+code_of Equals = 27
+code_of Generic = 28
+code_of OffsetOf = 29
+code_of Default = 30
 code_of _ = 0
 
 -- no two kinds of these are the same
@@ -46,6 +53,7 @@ stops_at ks n at k e h = subst (λ x. level_of x < n) (sym e) h
 pub level_most : (k : Kind) → level_of k < 17
 level_most Comma = omega arith
 level_most Assignment = omega arith
+level_most Equals = omega arith
 level_most Question = omega arith
 level_most Or = omega arith
 level_most And = omega arith
@@ -61,12 +69,14 @@ level_most Quotient = omega arith
 level_most OpenBracket = omega arith
 level_most OpenParen = omega arith
 level_most Member = omega arith
+level_most Dot = omega arith
 level_most Step = omega arith
 level_most _ = omega arith
 
 pub level_gap : (k : Kind) → level_of k < 16 → level_of k < 14
 level_gap Comma h = omega arith
 level_gap Assignment h = omega arith
+level_gap Equals h = omega arith
 level_gap Question h = omega arith
 level_gap Or h = omega arith
 level_gap And h = omega arith
@@ -82,17 +92,20 @@ level_gap Quotient h = omega arith
 level_gap OpenBracket h = absurd (omega (arith, h))
 level_gap OpenParen h = absurd (omega (arith, h))
 level_gap Member h = absurd (omega (arith, h))
+level_gap Dot h = absurd (omega (arith, h))
 level_gap Step h = absurd (omega (arith, h))
 level_gap _ h = omega arith
 
 -- what isn't a bracket, a call or a member among postfix operators is `++` or `--`
-pub is_step : (k : Kind) → level_of k ≡ 16 → (k ≡ OpenBracket → ⊥) → (k ≡ OpenParen → ⊥) → (k ≡ Member → ⊥) → k ≡ Step
+pub is_step : (k : Kind) → level_of k ≡ 16 → (k ≡ OpenBracket → ⊥) → (k ≡ OpenParen → ⊥) → (is_member k ≡ true → ⊥) → k ≡ Step
 is_step OpenBracket h x y z = absurd (x refl)
 is_step OpenParen h x y z = absurd (y refl)
 is_step Member h x y z = absurd (z refl)
+is_step Dot h x y z = absurd (z refl)
 is_step Step h x y z = refl
 is_step Comma h x y z = absurd (omega (arith, h))
 is_step Assignment h x y z = absurd (omega (arith, h))
+is_step Equals h x y z = absurd (omega (arith, h))
 is_step Question h x y z = absurd (omega (arith, h))
 is_step Or h x y z = absurd (omega (arith, h))
 is_step And h x y z = absurd (omega (arith, h))
@@ -116,6 +129,7 @@ pub not_question : (k : Kind) → level_of k < 4 → (k ≡ Question → ⊥) �
 not_question Question h not = absurd (not refl)
 not_question Comma h not = omega arith
 not_question Assignment h not = omega arith
+not_question Equals h not = omega arith
 not_question Or h not = absurd (omega (arith, h))
 not_question And h not = absurd (omega (arith, h))
 not_question Bar h not = absurd (omega (arith, h))
@@ -130,29 +144,9 @@ not_question Quotient h not = absurd (omega (arith, h))
 not_question OpenBracket h not = absurd (omega (arith, h))
 not_question OpenParen h not = absurd (omega (arith, h))
 not_question Member h not = absurd (omega (arith, h))
+not_question Dot h not = absurd (omega (arith, h))
 not_question Step h not = absurd (omega (arith, h))
 not_question _ h not = omega arith
-
-pub not_assignment : (k : Kind) → level_of k < 3 → (k ≡ Assignment → ⊥) → level_of k < 2
-not_assignment Assignment h not = absurd (not refl)
-not_assignment Comma h not = omega arith
-not_assignment Question h not = absurd (omega (arith, h))
-not_assignment Or h not = absurd (omega (arith, h))
-not_assignment And h not = absurd (omega (arith, h))
-not_assignment Bar h not = absurd (omega (arith, h))
-not_assignment Caret h not = absurd (omega (arith, h))
-not_assignment Ampersand h not = absurd (omega (arith, h))
-not_assignment Equality h not = absurd (omega (arith, h))
-not_assignment Relation h not = absurd (omega (arith, h))
-not_assignment Shift h not = absurd (omega (arith, h))
-not_assignment Sign h not = absurd (omega (arith, h))
-not_assignment Star h not = absurd (omega (arith, h))
-not_assignment Quotient h not = absurd (omega (arith, h))
-not_assignment OpenBracket h not = absurd (omega (arith, h))
-not_assignment OpenParen h not = absurd (omega (arith, h))
-not_assignment Member h not = absurd (omega (arith, h))
-not_assignment Step h not = absurd (omega (arith, h))
-not_assignment _ h not = omega arith
 
 pub word_starts : (k : Kind) → is_specifying k ≡ true → starts_type k ≡ true
 word_starts TypeWord h = refl
@@ -174,6 +168,8 @@ is_start Sign = true
 is_start Complement = true
 is_start SizeOf = true
 is_start AlignOf = true
+is_start Generic = true
+is_start OffsetOf = true
 is_start _ = false
 
 pub prefix_starts : (k : Kind) → is_prefix k ≡ true → is_start k ≡ true
@@ -211,6 +207,7 @@ pub suffix_level : (k : Kind) → is_suffix k ≡ true → level_of k ≡ 16
 suffix_level OpenBracket h = refl
 suffix_level OpenParen h = refl
 suffix_level Member h = refl
+suffix_level Dot h = refl
 suffix_level Step h = refl
 suffix_level _ h = absurd (true≢false (sym h))
 
@@ -218,9 +215,11 @@ pub level_suffix : (k : Kind) → level_of k ≡ 16 → is_suffix k ≡ true
 level_suffix OpenBracket h = refl
 level_suffix OpenParen h = refl
 level_suffix Member h = refl
+level_suffix Dot h = refl
 level_suffix Step h = refl
 level_suffix Comma h = absurd (omega (arith, h))
 level_suffix Assignment h = absurd (omega (arith, h))
+level_suffix Equals h = absurd (omega (arith, h))
 level_suffix Question h = absurd (omega (arith, h))
 level_suffix Or h = absurd (omega (arith, h))
 level_suffix And h = absurd (omega (arith, h))
@@ -234,3 +233,30 @@ level_suffix Sign h = absurd (omega (arith, h))
 level_suffix Star h = absurd (omega (arith, h))
 level_suffix Quotient h = absurd (omega (arith, h))
 level_suffix _ h = absurd (omega (arith, h))
+
+pub start_designates_not : (k : Kind) → is_start k ≡ true → is_designating k ≡ false
+start_designates_not OpenBracket h = absurd (true≢false (sym h))
+start_designates_not Dot h = absurd (true≢false (sym h))
+start_designates_not _ h = refl
+
+pub dot_designates : (k : Kind) → is_dot k ≡ true → is_designating k ≡ true
+dot_designates Dot h = refl
+dot_designates _ h = absurd (true≢false (sym h))
+
+pub equals_designates_not : (k : Kind) → is_equals k ≡ true → is_designating k ≡ false
+equals_designates_not OpenBracket h = absurd (true≢false (sym h))
+equals_designates_not Dot h = absurd (true≢false (sym h))
+equals_designates_not _ h = refl
+
+pub member_not : {A : Type 0} → (k a : Kind) → is_member k ≡ true → k ≡ a → is_member a ≡ false → A
+member_not k a m e n = absurd (true≢false (sym m ∙ ap is_member e ∙ n))
+
+pub member_level : (k : Kind) → is_member k ≡ true → level_of k ≡ 16
+member_level Member h = refl
+member_level Dot h = refl
+member_level _ h = absurd (true≢false (sym h))
+
+pub member_none : (k : Kind) → (k ≡ Member → ⊥) → (k ≡ Dot → ⊥) → is_member k ≡ true → ⊥
+member_none Member m d h = m refl
+member_none Dot m d h = d refl
+member_none _ m d h = true≢false (sym h)

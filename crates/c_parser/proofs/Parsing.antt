@@ -1,19 +1,20 @@
 -- What a call of the parser found is the only tree there; where a part has none, the whole has none.
 use Rattle.std.proofs.Common.{◌≡◌, refl, ap, sym, ◌∙◌, subst, ℕ, ◌+◌, ◌<◌, ◌≤◌, List, [], ◌∷◌, ◌++◌, length, arith, true, false, true≢false, append_assoc, append-nil, Bool, ◌&&◌}
-use Rattle.tree_data.specs.Trees.{Tree, Name_of, Constant_of, Text_of, Paren_of, Postfix_of, Binary_of, Behind, Operand_of, Index_of, Call_of, Call_with_of, Member_of, Step_of, Behinds, None_behind, Behind_then, behinds, Of_type}
+use Rattle.tree_data.specs.Trees.{Tree, Name_of, Constant_of, Text_of, Paren_of, Postfix_of, Binary_of, Behind, Operand_of, Index_of, Call_of, Call_with_of, Member_of, Step_of, Behinds, None_behind, Behind_then, behinds}
 use Rattle.c_parser.specs.declared.answers.Stop.{Stop}
 use Rattle.c_parser.specs.declared.kinds.Kind.{Kind}
-use Rattle.c_parser.specs.declared.kinds.Kind.TheVariants.{Identifier, Constant, Text, OpenParen, CloseParen, OpenBracket, CloseBracket, Member, Step, SizeOf, AlignOf}
+use Rattle.c_parser.specs.declared.kinds.Kind.TheVariants.{Identifier, Constant, Text, OpenParen, CloseParen, OpenBracket, CloseBracket, Step, Generic, OffsetOf}
 use Rattle.c_parser.specs.Joining.{followed}
-use Rattle.c_parser.specs.Kinds.{kind_at, level_at, is_word, is_size, is_suffix, ends_type}
+use Rattle.c_parser.specs.Kinds.{kind_at, level_at, is_word, is_size, is_member, is_opening, starts_type, type_at, size_at}
 use Rattle.c_parser.specs.Levels.{IsBinary, behinds_level, rank}
-use Rattle.c_parser.specs.Reading.{HoldTexts, HoldsBehind, HoldBehinds, Reads, Stops, Found, FoundTexts, FoundBehind, FoundBehinds, IsWant, FoundType}
+use Rattle.c_parser.specs.Reading.{HoldTexts, HoldsBehind, HoldBehinds, Reads, Stops, Found, FoundTexts, FoundBehind, FoundBehinds, IsWant}
 use Rattle.tree_data.specs.Names.{Naming}
-use Rattle.c_parser.specs.Grammar.{IsMore, goes_on}
+use Rattle.c_parser.specs.Grammar.{goes_on}
 use Rattle.c_parser.specs.TypeNames.{HoldsType}
-use Rattle.c_parser.proofs.Marks.{clash, suffix_level, level_suffix, size_is}
+use Rattle.c_parser.proofs.Marks.{clash}
+use Rattle.c_parser.proofs.Types.{type_starts}
 use Rattle.c_parser.proofs.Uniqueness.{Only, OnlyBehinds, reads_only, behinds_only, behind_only, any_stop, closed, index_closes}
-use Rattle.c_parser.proofs.Views.{lowered, loosely, Following, Primary, a_name, a_constant, a_text, a_paren, primary_view, index_view, Calling, no_arguments, arguments, call_view, member_view, operand_view, a_size, postfix_view, begins}
+use Rattle.c_parser.proofs.Views.{lowered, loosely, Following, Primary, a_name, a_constant, a_text, a_paren, a_size, a_compound, a_generic, an_offset, primary_view, index_view, Calling, no_arguments, arguments, call_view, member_view, operand_view, begins}
 
 -- no tree of this level, whose call gave e, but for want of memory
 abbrev pub Fails : List Kind → ℕ → ℕ → Stop → Type 0
@@ -24,6 +25,10 @@ FailsBehind ks l a e = (x : Behind) → (b : ℕ) → HoldsBehind ks l x a b →
 
 abbrev pub FailsBehinds : List Kind → ℕ → ℕ → Stop → Type 0
 FailsBehinds ks l a e = (xs : Behinds) → (b : ℕ) → HoldBehinds ks l xs a b → Stops ks l b → IsWant e
+
+both_true : (p q : Bool) → p ≡ true → q ≡ true → (p && q) ≡ true
+both_true true q h g = g
+both_true false q h g = absurd (true≢false (sym h))
 
 pub found_only : (ks : List Kind) → (n a : ℕ) → (t : Tree) → (b : ℕ) → 1 ≤ n → Found ks n a t b → Only ks n a t b
 found_only ks n a t b low f = reads_only ks n t a b low f.reads f.stops
@@ -94,79 +99,13 @@ binary_found ks l a i f m xs b x y =
     let two : m ≤ b = y.forth in
     record { reads = binary_made ks l a i f m xs b x.reads y.reads; stops = y.stops; forth = omega arith; inside = y.inside }
 
--- the size of a type is closed: no postfix operator goes on behind it
-size_goes_not : (ks : List Kind) → (f : Tree) → (a m : ℕ) → (is_size (kind_at ks a) && is_suffix (kind_at ks m)) ≡ false
-    → level_at ks m ≡ 16 → Primary ks f a m → goes_on f ≡ true
-size_goes_not ks f a m h l (a_name e k g) = ap goes_on e
-size_goes_not ks f a m h l (a_constant e k g) = ap goes_on e
-size_goes_not ks f a m h l (a_text ns e k g) = ap goes_on e
-size_goes_not ks f a m h l (a_paren u c e k r x g) = ap goes_on e
-size_goes_not ks f a m h l (a_size y c e k o i x g) =
-    absurd
-    (true≢false
-    (sym (ap (λ p. p && is_suffix (kind_at ks m)) k ∙ level_suffix (kind_at ks m) l) ∙ h))
-
-sized_stays : (ks : List Kind) → (f : Tree) → (a m : ℕ) → is_size (kind_at ks a) ≡ true → Primary ks f a m → goes_on f ≡ false
-sized_stays ks f a m h (a_name e k g) = absurd (true≢false (sym h ∙ ap is_size k))
-sized_stays ks f a m h (a_constant e k g) = absurd (true≢false (sym h ∙ ap is_size k))
-sized_stays ks f a m h (a_text ns e k g) = absurd (true≢false (sym h ∙ ap is_size k))
-sized_stays ks f a m h (a_paren u c e k r x g) = absurd (true≢false (sym h ∙ ap is_size k))
-sized_stays ks f a m h (a_size y c e k o i x g) = ap goes_on e
-
-closed_more : (ks : List Kind) → (f : Tree) → (a m : ℕ) → (xs : Behinds) → (b : ℕ) → is_size (kind_at ks a) ≡ true → level_at ks m ≡ 16
-    → Reads ks 17 f a m → (IsMore xs → goes_on f ≡ true) → HoldBehinds ks 16 xs m b → Stops ks 16 b → ⊥
-closed_more ks f a m None_behind b h l r fit g s =
-    let low : level_at ks m < 16 = subst (λ x. level_at ks x < 16) g s in
-    absurd (omega arith)
-closed_more ks f a m (Behind_then x xs) b h l r fit g s =
-    true≢false (sym (fit tt) ∙ sized_stays ks f a m h (primary_view ks f a m r))
-
-both_left : (p q : Bool) → (p && q) ≡ true → p ≡ true
-both_left true q h = refl
-both_left false q h = absurd (true≢false (sym h))
-
-both_right : (p q : Bool) → (p && q) ≡ true → q ≡ true
-both_right true q h = h
-both_right false q h = absurd (true≢false (sym h))
-
-pub closed_fails : (ks : List Kind) → (a : ℕ) → (f : Tree) → (m : ℕ) → Found ks 17 a f m
-    → (is_size (kind_at ks a) && is_suffix (kind_at ks m)) ≡ true → (t : Tree) → (b : ℕ) → Reads ks 16 t a b → Stops ks 16 b → ⊥
-closed_fails ks a f m found h t b r s =
-    let v = postfix_view ks t a b r in
-    let one = found_only ks 17 a f m (omega arith) found v.first v.behind v.reads (any_stop ks v.behind) in
-    let size = both_left (is_size (kind_at ks a)) (is_suffix (kind_at ks m)) h in
-    let level = suffix_level (kind_at ks m) (both_right (is_size (kind_at ks a)) (is_suffix (kind_at ks m)) h) in
-    closed_more
-    ks
-    v.first
-    a
-    v.behind
-    v.more
-    b
-    size
-    (ap (λ x. level_at ks x) (sym one.1) ∙ level)
-    v.reads
-    (v.fit refl)
-    v.goes
-    s
-
 pub postfix_found : (ks : List Kind) → (a : ℕ) → (f : Tree) → (m : ℕ) → (xs : Behinds) → (b : ℕ)
-    → (is_size (kind_at ks a) && is_suffix (kind_at ks m)) ≡ false → Found ks 17 a f m → FoundBehinds ks 16 m xs b → Found ks 16 a (followed Postfix_of f xs) b
-postfix_found ks a f m xs b e x y =
+    → (level_at ks m ≡ 16 → goes_on f ≡ true) → Found ks 17 a f m → FoundBehinds ks 16 m xs b → Found ks 16 a (followed Postfix_of f xs) b
+postfix_found ks a f m xs b fit x y =
     let one : a < m = x.forth in
     let two : m ≤ b = y.forth in
     record {
-      reads =
-          postfix_made
-          ks
-          a
-          f
-          m
-          xs
-          b
-          (λ l. size_goes_not ks f a m e l (primary_view ks f a m x.reads))
-          x.reads
-          y.reads;
+      reads = postfix_made ks a f m xs b fit x.reads y.reads;
       stops = y.stops;
       forth = omega arith;
       inside = y.inside;
@@ -357,7 +296,7 @@ pub call_left_open : (ks : List Kind) → (at : ℕ) → kind_at ks at ≡ OpenP
 call_left_open ks at o k f not t m xs c last found more e not' x b h =
     call_open ks at k f not t m xs c last found more e not' x b (call_view ks x at b o h)
 
-pub member_found : (ks : List Kind) → (at : ℕ) → kind_at ks at ≡ Member → is_word (kind_at ks (at + 1)) ≡ true → at + 1 < length ks
+pub member_found : (ks : List Kind) → (at : ℕ) → is_member (kind_at ks at) ≡ true → is_word (kind_at ks (at + 1)) ≡ true → at + 1 < length ks
     → FoundBehind ks 16 at (Member_of at (at + 1)) (at + 2)
 member_found ks at k w i =
     let e : at + 2 ≡ (at + 1) + 1 = omega arith in
@@ -368,7 +307,7 @@ member_found ks at k w i =
       inside = omega arith;
     }
 
-pub member_unnamed : (ks : List Kind) → (at : ℕ) → kind_at ks at ≡ Member → is_word (kind_at ks (at + 1)) ≡ false
+pub member_unnamed : (ks : List Kind) → (at : ℕ) → is_member (kind_at ks at) ≡ true → is_word (kind_at ks (at + 1)) ≡ false
     → (x : Behind) → (b : ℕ) → HoldsBehind ks 16 x at b → ⊥
 member_unnamed ks at k w x b h =
     let v = member_view ks x at b k h in
@@ -427,6 +366,19 @@ paren_found ks at k t c found l i =
       inside = omega arith;
     }
 
+-- the tests of what stands there
+pub typed_here : (ks : List Kind) → (y : Naming) → (a c : ℕ) → kind_at ks a ≡ OpenParen → HoldsType ks y (a + 1) c → type_at ks a ≡ true
+unfolding type_at
+typed_here ks y a c k h =
+    both_true (is_opening (kind_at ks a)) (starts_type (kind_at ks (a + 1))) (ap is_opening k) (type_starts ks y (a + 1) c h)
+
+pub sized_here : (ks : List Kind) → (y : Naming) → (a c : ℕ) → is_size (kind_at ks a) ≡ true → kind_at ks (a + 1) ≡ OpenParen
+    → HoldsType ks y (a + 2) c → size_at ks a ≡ true
+unfolding size_at
+sized_here ks y a c s k h =
+    let two : a + 2 ≡ (a + 1) + 1 = omega arith in
+    both_true (is_size (kind_at ks a)) (type_at ks (a + 1)) s (typed_here ks y (a + 1) c k (subst (λ x. HoldsType ks y x c) two h))
+
 -- in parentheses stands an expression
 record Enclosed (ks : List Kind) (a b : ℕ) : Type 0 where
   inner : Tree
@@ -434,90 +386,43 @@ record Enclosed (ks : List Kind) (a b : ℕ) : Type 0 where
   reads : Reads ks 1 inner (a + 1) closing
   closes : kind_at ks closing ≡ CloseParen
 
-enclosed : (ks : List Kind) → (t : Tree) → (a b : ℕ) → kind_at ks a ≡ OpenParen → Primary ks t a b → Enclosed ks a b
-enclosed ks t a b k (a_name e k' f) = clash (kind_at ks a) OpenParen Identifier k k' (λ x. omega (arith, x))
-enclosed ks t a b k (a_constant e k' f) = clash (kind_at ks a) OpenParen Constant k k' (λ x. omega (arith, x))
-enclosed ks t a b k (a_text ns e k' f) = clash (kind_at ks a) OpenParen Text k k' (λ x. omega (arith, x))
-enclosed ks t a b k (a_size y c e k' o h l f) = absurd (true≢false (sym k' ∙ ap is_size k))
-enclosed ks t a b k (a_paren u c e k' r l f) = record { inner = u; closing = c; reads = r; closes = l }
+enclosed : (ks : List Kind) → (t : Tree) → (a b : ℕ) → kind_at ks a ≡ OpenParen → type_at ks a ≡ false → Primary ks t a b → Enclosed ks a b
+enclosed ks t a b k n (a_name e k' f) = clash (kind_at ks a) OpenParen Identifier k k' (λ x. omega (arith, x))
+enclosed ks t a b k n (a_constant e k' f) = clash (kind_at ks a) OpenParen Constant k k' (λ x. omega (arith, x))
+enclosed ks t a b k n (a_text ns e k' f) = clash (kind_at ks a) OpenParen Text k k' (λ x. omega (arith, x))
+enclosed ks t a b k n (a_size y c e k' o h l f u) = absurd (true≢false (sym k' ∙ ap is_size k))
+enclosed ks t a b k n (a_paren u c e k' r l f) = record { inner = u; closing = c; reads = r; closes = l }
+enclosed ks t a b k n (a_compound y c i e k' h l g) = absurd (true≢false (sym (typed_here ks y a c k' h) ∙ n))
+enclosed ks t a b k n (a_generic k' v) = clash (kind_at ks a) OpenParen Generic k k' (λ x. omega (arith, x))
+enclosed ks t a b k n (an_offset k' v) = clash (kind_at ks a) OpenParen OffsetOf k k' (λ x. omega (arith, x))
 
-pub paren_fails : (ks : List Kind) → (at : ℕ) → kind_at ks at ≡ OpenParen → (e : Stop) → Fails ks 1 (at + 1) e → Fails ks 17 at e
-paren_fails ks at k e fails t b h s =
-    let v = enclosed ks t at b k (primary_view ks t at b h) in
+pub paren_fails : (ks : List Kind) → (at : ℕ) → kind_at ks at ≡ OpenParen → type_at ks at ≡ false → (e : Stop) → Fails ks 1 (at + 1) e → Fails ks 17 at e
+paren_fails ks at k n e fails t b h s =
+    let v = enclosed ks t at b k n (primary_view ks t at b h) in
     fails v.inner v.closing v.reads (closed ks v.closing v.closes)
 
-pub paren_left_open : (ks : List Kind) → (at : ℕ) → kind_at ks at ≡ OpenParen → (u : Tree) → (c : ℕ) → (last : Kind)
+pub paren_left_open : (ks : List Kind) → (at : ℕ) → kind_at ks at ≡ OpenParen → type_at ks at ≡ false → (u : Tree) → (c : ℕ) → (last : Kind)
     → Found ks 1 (at + 1) u c → last ≡ kind_at ks c → (last ≡ CloseParen → ⊥)
     → (t : Tree) → (b : ℕ) → Reads ks 17 t at b → Stops ks 17 b → ⊥
-paren_left_open ks at k u c last found e not t b h s =
-    let v = enclosed ks t at b k (primary_view ks t at b h) in
+paren_left_open ks at k n u c last found e not t b h s =
+    let v = enclosed ks t at b k n (primary_view ks t at b h) in
     let one = found_only ks 1 (at + 1) u c (omega arith) found v.inner v.closing v.reads (closed ks v.closing v.closes) in
     not (e ∙ ap (λ y. kind_at ks y) one.1 ∙ v.closes)
 
-other_first : (ks : List Kind) → (at : ℕ) → (k : Kind) → k ≡ kind_at ks at → (k ≡ Identifier → ⊥) → (k ≡ Constant → ⊥) → (k ≡ Text → ⊥)
-    → (k ≡ OpenParen → ⊥) → (k ≡ SizeOf → ⊥) → (k ≡ AlignOf → ⊥) → (t : Tree) → (b : ℕ) → Primary ks t at b → ⊥
-other_first ks at k e w x y z u v t b (a_name e' k' f) = w (e ∙ k')
-other_first ks at k e w x y z u v t b (a_constant e' k' f) = x (e ∙ k')
-other_first ks at k e w x y z u v t b (a_text ns e' k' f) = y (e ∙ k')
-other_first ks at k e w x y z u v t b (a_paren i c e' k' r l f) = z (e ∙ k')
-other_first ks at k e w x y z u v t b (a_size i c e' k' o h l f) = size_is k (ap is_size e ∙ k') u v
+other_first : (ks : List Kind) → (at : ℕ) → (k : Kind) → k ≡ kind_at ks at → size_at ks at ≡ false → (k ≡ Identifier → ⊥) → (k ≡ Constant → ⊥)
+    → (k ≡ Text → ⊥) → (k ≡ OpenParen → ⊥) → (k ≡ Generic → ⊥) → (k ≡ OffsetOf → ⊥) → (t : Tree) → (b : ℕ) → Primary ks t at b → ⊥
+other_first ks at k e n w x y z p q t b (a_name e' k' f) = w (e ∙ k')
+other_first ks at k e n w x y z p q t b (a_constant e' k' f) = x (e ∙ k')
+other_first ks at k e n w x y z p q t b (a_text ns e' k' f) = y (e ∙ k')
+other_first ks at k e n w x y z p q t b (a_paren i c e' k' r l f) = z (e ∙ k')
+other_first ks at k e n w x y z p q t b (a_size i c e' k' o h l f u) = true≢false (sym (sized_here ks i at c k' o h) ∙ n)
+other_first ks at k e n w x y z p q t b (a_compound i c j e' k' h l g) = z (e ∙ k')
+other_first ks at k e n w x y z p q t b (a_generic k' v) = p (e ∙ k')
+other_first ks at k e n w x y z p q t b (an_offset k' v) = q (e ∙ k')
 
-pub other_fails : (ks : List Kind) → (at : ℕ) → (k : Kind) → k ≡ kind_at ks at → (k ≡ Identifier → ⊥) → (k ≡ Constant → ⊥) → (k ≡ Text → ⊥)
-    → (k ≡ OpenParen → ⊥) → (k ≡ SizeOf → ⊥) → (k ≡ AlignOf → ⊥) → (t : Tree) → (b : ℕ) → Reads ks 17 t at b → Stops ks 17 b → ⊥
-other_fails ks at k e w x y z u v t b h s = other_first ks at k e w x y z u v t b (primary_view ks t at b h)
-
--- the size or alignment of a type
-record Sized (ks : List Kind) (t : Tree) (a b : ℕ) : Type 0 where
-  name : Naming
-  closing : ℕ
-  opens : kind_at ks (a + 1) ≡ OpenParen
-  holds : HoldsType ks name (a + 2) closing
-  closes : kind_at ks closing ≡ CloseParen
-
-sized : (ks : List Kind) → (t : Tree) → (a b : ℕ) → is_size (kind_at ks a) ≡ true → Primary ks t a b → Sized ks t a b
-sized ks t a b h (a_name e k f) = absurd (true≢false (sym h ∙ ap is_size k))
-sized ks t a b h (a_constant e k f) = absurd (true≢false (sym h ∙ ap is_size k))
-sized ks t a b h (a_text ns e k f) = absurd (true≢false (sym h ∙ ap is_size k))
-sized ks t a b h (a_paren u c e k r l f) = absurd (true≢false (sym h ∙ ap is_size k))
-sized ks t a b h (a_size y c e k o i l f) = record { name = y; closing = c; opens = o; holds = i; closes = l }
-
--- what a call that reads the name of a type answers where there is none
-abbrev pub FailsType : List Kind → ℕ → Stop → Type 0
-FailsType ks a e = (y : Naming) → (c : ℕ) → HoldsType ks y a c → ends_type (kind_at ks c) ≡ true → IsWant e
-
-abbrev pub OnlyType : List Kind → ℕ → Naming → ℕ → Type 0
-OnlyType ks a y c = (y' : Naming) → (c' : ℕ) → HoldsType ks y' a c' → ends_type (kind_at ks c') ≡ true → (y ≡ y') × (c ≡ c')
-
-pub size_unopened : (ks : List Kind) → (at : ℕ) → is_size (kind_at ks at) ≡ true → (k : Kind) → k ≡ kind_at ks (at + 1)
-    → (k ≡ OpenParen → ⊥) → (t : Tree) → (b : ℕ) → Reads ks 17 t at b → Stops ks 17 b → ⊥
-size_unopened ks at h k e not t b r s =
-    let v = sized ks t at b h (primary_view ks t at b r) in
-    not (e ∙ v.opens)
-
-pub size_fails : (ks : List Kind) → (at : ℕ) → is_size (kind_at ks at) ≡ true → (e : Stop) → FailsType ks (at + 2) e → Fails ks 17 at e
-size_fails ks at h e fails t b r s =
-    let v = sized ks t at b h (primary_view ks t at b r) in
-    fails v.name v.closing v.holds (ap ends_type v.closes)
-
-pub size_left_open : (ks : List Kind) → (at : ℕ) → is_size (kind_at ks at) ≡ true → (y : Naming) → (c : ℕ) → (last : Kind)
-    → OnlyType ks (at + 2) y c → last ≡ kind_at ks c → (last ≡ CloseParen → ⊥)
-    → (t : Tree) → (b : ℕ) → Reads ks 17 t at b → Stops ks 17 b → ⊥
-size_left_open ks at h y c last only e not t b r s =
-    let v = sized ks t at b h (primary_view ks t at b r) in
-    let one = only v.name v.closing v.holds (ap ends_type v.closes) in
-    not (e ∙ ap (λ x. kind_at ks x) one.1 ∙ v.closes)
-
-pub size_found : (ks : List Kind) → (at : ℕ) → is_size (kind_at ks at) ≡ true → kind_at ks (at + 1) ≡ OpenParen → (y : Naming) → (c : ℕ)
-    → FoundType ks (at + 2) y c → kind_at ks c ≡ CloseParen → c < length ks → Found ks 17 at (Of_type at (at + 1) y c) (c + 1)
-size_found ks at h o y c found l i =
-    let more : at + 2 < c = found.forth in
-    let two : at + 2 ≡ (at + 1) + 1 = omega arith in
-    record {
-      reads = (omega arith, (refl, h, refl, o, subst (λ x. HoldsType ks y x c) two found.reads, l, refl));
-      stops = any_stop ks (c + 1);
-      forth = omega arith;
-      inside = omega arith;
-    }
+pub other_fails : (ks : List Kind) → (at : ℕ) → (k : Kind) → k ≡ kind_at ks at → size_at ks at ≡ false → (k ≡ Identifier → ⊥) → (k ≡ Constant → ⊥)
+    → (k ≡ Text → ⊥) → (k ≡ OpenParen → ⊥) → (k ≡ Generic → ⊥) → (k ≡ OffsetOf → ⊥) → (t : Tree) → (b : ℕ) → Reads ks 17 t at b → Stops ks 17 b → ⊥
+other_fails ks at k e n w x y z p q t b h s = other_first ks at k e n w x y z p q t b (primary_view ks t at b h)
 
 -- what the loop over string literals keeps
 pub record Pieces (ks : List Kind) (start : ℕ) (done : List ℕ) (at : ℕ) : Type 0 where

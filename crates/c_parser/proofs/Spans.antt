@@ -1,15 +1,28 @@
 -- A tree holds from one place to another exactly where it is formed and spells the numbers between them.
-use Rattle.std.proofs.Common.{◌≡◌, refl, ap, sym, ◌∙◌, subst, ℕ, ◌+◌, List, [], ◌∷◌, ◌++◌, length, arith}
-use Rattle.tree_data.specs.Trees.{Tree, Name_of, Constant_of, Text_of, Paren_of, Postfix_of, Unary_of, Binary_of, Conditional_of, Assign_of, Of_type, Behind, Operand_of, Index_of, Call_of, Call_with_of, Member_of, Step_of, Behinds, None_behind, Behind_then, Front, Operator_of, Cast_of, Choice_of, Left_of, Fronts, None_before, Front_then}
+use Rattle.std.proofs.Common.{◌≡◌, refl, ap, sym, ◌∙◌, subst, ℕ, ◌+◌, List, [], ◌∷◌, ◌++◌, length, arith, Option, Some, None}
+use Rattle.tree_data.specs.Trees.{Tree, Name_of, Constant_of, Text_of, Paren_of, Postfix_of, Unary_of, Binary_of, Conditional_of, Assign_of, Of_type, Compound_of, Behind, Operand_of, Index_of, Call_of, Call_with_of, Member_of, Step_of, Behinds, None_behind, Behind_then, Front, Operator_of, Cast_of, Choice_of, Left_of, Fronts, None_before, Front_then, Braces, Braces_of, Initial, Value_of, List_of, Piece, Plain_of, Designated_of, Pieces, No_pieces, Piece_then, Designator, Element_of, Field_of, Designators, No_designators, Designator_then, Generic_of, Offset_of, Association, Typed_of, Default_of, Associations, No_associations, Association_then}
 use Rattle.c_parser.specs.declared.kinds.Kind.{Kind}
-use Rattle.c_parser.specs.declared.kinds.Kind.TheVariants.{Text}
-use Rattle.c_parser.specs.Grammar.{spell, spell_behind, spell_behinds, spell_front, spell_fronts, IsFormed, IsBehind, AreBehind, IsInFront, AreInFront, GoOn, IsExpression, numbers}
-use Rattle.c_parser.specs.Kinds.{kind_at, level_at, is_size, operator_at, casts_at}
+use Rattle.c_parser.specs.declared.kinds.Kind.TheVariants.{Text, OpenBrace}
+use Rattle.c_parser.specs.Grammar.{spell, spell_behind, spell_behinds, spell_front, spell_fronts, IsFormed, IsBehind, AreBehind, IsInFront, AreInFront, GoOn, IsExpression, numbers, spell_comma, spell_braces, spell_initial, spell_piece, spell_pieces, spell_designator, spell_designators, IsComma, AreBraced, IsInitial, IsPiece, ArePieces, IsDesignator, AreDesignators, spell_association, spell_associations, IsAssociated, AreAssociated}
+use Rattle.c_parser.specs.Kinds.{kind_at, level_at, is_prefix, is_size, casts_at, is_dot, is_member}
 use Rattle.c_parser.specs.Levels.{behinds_level}
 use Rattle.c_parser.specs.TypeNames.{spell_type, HoldsType}
 use Rattle.c_parser.proofs.Numbers.{Spans, spans_join, spans_split, numbers_span, span_numbers}
 use Rattle.c_parser.proofs.Types.{type_formed, type_spanned, type_held}
-use Rattle.c_parser.specs.Reading.{HoldTexts, Holds, HoldsBehind, HoldBehinds, HoldsFront, HoldFronts, Reads}
+use Rattle.c_parser.specs.Reading.{HoldTexts, Holds, HoldsBehind, HoldBehinds, HoldsFront, HoldFronts, Reads, HoldsComma, HoldBraces, HoldsInitial, HoldsPiece, HoldPieces, HoldsDesignator, HoldDesignators, HoldsAssociation, HoldAssociations}
+
+-- a comma that may be left out
+comma_formed : (ks : List Kind) → (t : Option ℕ) → (a b : ℕ) → HoldsComma ks t a b → IsComma ks t
+comma_formed ks None a b h = tt
+comma_formed ks (Some o) a b h = ap (λ x. kind_at ks x) h.0 ∙ h.1
+
+comma_spanned : (ks : List Kind) → (t : Option ℕ) → (a b : ℕ) → HoldsComma ks t a b → Spans (spell_comma t) a b
+comma_spanned ks None a b h = h
+comma_spanned ks (Some o) a b h = (h.0, h.2)
+
+comma_held : (ks : List Kind) → (t : Option ℕ) → (a b : ℕ) → IsComma ks t → Spans (spell_comma t) a b → HoldsComma ks t a b
+comma_held ks None a b f s = s
+comma_held ks (Some o) a b f s = (s.0, ap (λ x. kind_at ks x) (sym s.0) ∙ f, s.1)
 
 -- what holds is formed
 texts_go : (ks : List Kind) → (n : ℕ) → (ns : List ℕ) → (b : ℕ) → HoldTexts ks ns (n + 1) b → GoOn ks n ns
@@ -29,7 +42,28 @@ mutual
   formed ks (Paren_of o t c) a b h = (ap (λ x. kind_at ks x) h.0 ∙ h.1, h.2, formed ks t (a + 1) c h.3, h.4)
   formed ks (Postfix_of f bs) a b h = (h.1, h.5, h.2, formed ks f a h.0 h.3, formed_behinds ks 16 bs h.0 b h.4)
   formed ks (Of_type k o t c) a b h =
-      (ap (λ x. is_size (kind_at ks x)) h.0 ∙ h.1, h.3, type_formed ks t (o + 1) c h.4, h.5)
+      (ap (λ x. is_size (kind_at ks x)) h.0 ∙ h.1, h.3, type_formed ks t (o + 1) c h.4, h.5, subst (λ x. kind_at ks x ≡ OpenBrace → ⊥) h.6 h.7)
+  formed ks (Compound_of o t c i) a b h =
+      (ap (λ x. kind_at ks x) h.0 ∙ h.1, type_formed ks t (a + 1) c h.2, h.3, formed_braces ks i (c + 1) b h.4)
+  formed ks (Generic_of k o t gs c) a b h = (
+    ap (λ x. kind_at ks x) h.1 ∙ h.2,
+    h.4,
+    h.5,
+    formed ks t (o + 1) h.0 h.6,
+    h.7,
+    formed_associations ks gs h.0 c h.8,
+    h.9,
+  )
+  formed ks (Offset_of k o t m n bs c) a b h = (
+    ap (λ x. kind_at ks x) h.0 ∙ h.1,
+    h.3,
+    type_formed ks t (o + 1) m h.4,
+    h.5,
+    h.7,
+    h.8,
+    formed_behinds ks 16 bs (n + 1) c h.9,
+    h.10,
+  )
   formed ks (Unary_of fs t) a b h = (h.1, formed_fronts ks 15 fs a h.0 h.2, h.3, formed ks t h.0 b h.4)
   formed ks (Binary_of f bs) a b h =
       (h.1, h.2, h.3, formed ks f a h.0 h.4, formed_behinds ks (behinds_level ks bs) bs h.0 b h.5)
@@ -50,7 +84,7 @@ mutual
     formed_behinds ks 1 bs h.0 c h.6,
     h.7,
   )
-  formed_behind ks l (Member_of o n) a b h = (h.0, ap (λ x. kind_at ks x) h.1 ∙ h.2, h.4)
+  formed_behind ks l (Member_of o n) a b h = (h.0, ap (λ x. is_member (kind_at ks x)) h.1 ∙ h.2, h.4)
   formed_behind ks l (Step_of o) a b h = (h.0, ap (λ x. kind_at ks x) h.1 ∙ h.2)
 
   formed_behinds : (ks : List Kind) → (l : ℕ) → (xs : Behinds) → (a b : ℕ) → HoldBehinds ks l xs a b → AreBehind ks l xs
@@ -58,13 +92,15 @@ mutual
   formed_behinds ks l (Behind_then x xs) a b h = (formed_behind ks l x a h.0 h.1, formed_behinds ks l xs h.0 b h.2)
 
   formed_front : (ks : List Kind) → (l : ℕ) → (x : Front) → (a b : ℕ) → HoldsFront ks l x a b → IsInFront ks l x
-  formed_front ks l (Operator_of o) a b h = (h.0, ap (λ x. operator_at ks x) h.1 ∙ h.2)
+  formed_front ks l (Operator_of o) a b h =
+      (h.0, ap (λ x. is_prefix (kind_at ks x)) h.1 ∙ h.2)
   formed_front ks l (Cast_of o t c) a b h = (
     h.0,
     ap (λ x. kind_at ks x) h.1 ∙ h.2,
     ap (λ x. casts_at ks x) h.1 ∙ h.3,
     type_formed ks t (a + 1) c h.4,
     h.5,
+    subst (λ x. kind_at ks x ≡ OpenBrace → ⊥) h.6 h.7,
   )
   formed_front ks l (Choice_of t q e c) a b h =
       (h.0, h.1, formed ks t a q h.2, h.3, h.4, formed ks e (q + 1) c h.5, h.6)
@@ -73,6 +109,49 @@ mutual
   formed_fronts : (ks : List Kind) → (l : ℕ) → (xs : Fronts) → (a b : ℕ) → HoldFronts ks l xs a b → AreInFront ks l xs
   formed_fronts ks l None_before a b h = tt
   formed_fronts ks l (Front_then x xs) a b h = (formed_front ks l x a h.0 h.1, formed_fronts ks l xs h.0 b h.2)
+
+  formed_braces : (ks : List Kind) → (x : Braces) → (a b : ℕ) → HoldBraces ks x a b → AreBraced ks x
+  formed_braces ks (Braces_of o p ps t c) a b h = (
+    ap (λ x. kind_at ks x) h.2 ∙ h.3,
+    formed_piece ks p (a + 1) h.0 h.4,
+    formed_pieces ks ps h.0 h.1 h.5,
+    comma_formed ks t h.1 c h.6,
+    h.7,
+  )
+
+  formed_initial : (ks : List Kind) → (x : Initial) → (a b : ℕ) → HoldsInitial ks x a b → IsInitial ks x
+  formed_initial ks (Value_of t) a b h = (h.0, formed ks t a b h.1)
+  formed_initial ks (List_of i) a b h = formed_braces ks i a b h
+
+  formed_piece : (ks : List Kind) → (x : Piece) → (a b : ℕ) → HoldsPiece ks x a b → IsPiece ks x
+  formed_piece ks (Plain_of i) a b h = formed_initial ks i a b h
+  formed_piece ks (Designated_of d ds e i) a b h =
+      (formed_designator ks d a h.0 h.1, formed_designators ks ds h.0 e h.2, h.3, formed_initial ks i (e + 1) b h.4)
+
+  formed_pieces : (ks : List Kind) → (xs : Pieces) → (a b : ℕ) → HoldPieces ks xs a b → ArePieces ks xs
+  formed_pieces ks No_pieces a b h = tt
+  formed_pieces ks (Piece_then o p ps) a b h =
+      (ap (λ x. kind_at ks x) h.1 ∙ h.2, formed_piece ks p (a + 1) h.0 h.3, formed_pieces ks ps h.0 b h.4)
+
+  formed_designator : (ks : List Kind) → (x : Designator) → (a b : ℕ) → HoldsDesignator ks x a b → IsDesignator ks x
+  formed_designator ks (Element_of o t c) a b h =
+      (ap (λ x. kind_at ks x) h.0 ∙ h.1, h.2, formed ks t (a + 1) c h.3, h.4)
+  formed_designator ks (Field_of o n) a b h = (ap (λ x. is_dot (kind_at ks x)) h.0 ∙ h.1, h.3)
+
+  formed_designators : (ks : List Kind) → (xs : Designators) → (a b : ℕ) → HoldDesignators ks xs a b → AreDesignators ks xs
+  formed_designators ks No_designators a b h = tt
+  formed_designators ks (Designator_then d ds) a b h =
+      (formed_designator ks d a h.0 h.1, formed_designators ks ds h.0 b h.2)
+
+  formed_association : (ks : List Kind) → (x : Association) → (a b : ℕ) → HoldsAssociation ks x a b → IsAssociated ks x
+  formed_association ks (Typed_of t c e) a b h = (type_formed ks t a c h.0, h.1, h.2, formed ks e (c + 1) b h.3)
+  formed_association ks (Default_of d c e) a b h =
+      (ap (λ x. kind_at ks x) h.0 ∙ h.1, h.3, h.4, formed ks e (c + 1) b h.5)
+
+  formed_associations : (ks : List Kind) → (xs : Associations) → (a b : ℕ) → HoldAssociations ks xs a b → AreAssociated ks xs
+  formed_associations ks No_associations a b h = tt
+  formed_associations ks (Association_then o x xs) a b h =
+      (ap (λ x. kind_at ks x) h.1 ∙ h.2, formed_association ks x (a + 1) h.0 h.3, formed_associations ks xs h.0 b h.4)
 
 -- what holds spells the numbers between
 texts_span : (ks : List Kind) → (ns : List ℕ) → (a b : ℕ) → HoldTexts ks ns a b → Spans ns a b
@@ -93,6 +172,59 @@ mutual
           (λ x. Spans (spell_type t ++ c ∷ []) x b)
           (ap (λ x. x + 1) h.2)
           (spans_join (spell_type t) (c ∷ []) (o + 1) c b (type_spanned ks t (o + 1) c h.4) (refl, h.6)),
+    ),
+  )
+  spanned ks (Compound_of o t c i) a b h = (
+    h.0,
+    spans_join
+        (spell_type t)
+        (c ∷ spell_braces i)
+        (a + 1)
+        c
+        b
+        (type_spanned ks t (a + 1) c h.2)
+        (refl, spanned_braces ks i (c + 1) b h.4),
+  )
+  spanned ks (Generic_of k o t gs c) a b h = (
+    h.1,
+    (
+      h.3,
+      subst
+          (λ x. Spans (spell t ++ (spell_associations gs ++ c ∷ [])) x b)
+          (ap (λ x. x + 1) h.3)
+          (spans_join
+          (spell t)
+          (spell_associations gs ++ c ∷ [])
+          (o + 1)
+          h.0
+          b
+          (spanned ks t (o + 1) h.0 h.6)
+          (spans_join (spell_associations gs) (c ∷ []) h.0 c b (spanned_associations ks gs h.0 c h.8) (refl, h.10))),
+    ),
+  )
+  spanned ks (Offset_of k o t m n bs c) a b h = (
+    h.0,
+    (
+      h.2,
+      subst
+          (λ x. Spans (spell_type t ++ (m ∷ n ∷ (spell_behinds bs ++ c ∷ []))) x b)
+          (ap (λ x. x + 1) h.2)
+          (spans_join
+          (spell_type t)
+          (m ∷ n ∷ (spell_behinds bs ++ c ∷ []))
+          (o + 1)
+          m
+          b
+          (type_spanned ks t (o + 1) m h.4) (
+            refl,
+            (
+              h.6,
+              subst
+                  (λ x. Spans (spell_behinds bs ++ c ∷ []) x b)
+                  (ap (λ x. x + 1) h.6)
+                  (spans_join (spell_behinds bs) (c ∷ []) (n + 1) c b (spanned_behinds ks 16 bs (n + 1) c h.9) (refl, h.11)),
+            ),
+          )),
     ),
   )
   spanned ks (Postfix_of f bs) a b h =
@@ -172,6 +304,100 @@ mutual
       (spanned_front ks l x a h.0 h.1)
       (spanned_fronts ks l xs h.0 b h.2)
 
+  spanned_braces : (ks : List Kind) → (x : Braces) → (a b : ℕ) → HoldBraces ks x a b → Spans (spell_braces x) a b
+  spanned_braces ks (Braces_of o p ps t c) a b h = (
+    h.2,
+    spans_join
+        (spell_piece p)
+        (spell_pieces ps ++ (spell_comma t ++ c ∷ []))
+        (a + 1)
+        h.0
+        b
+        (spanned_piece ks p (a + 1) h.0 h.4)
+        (spans_join
+        (spell_pieces ps)
+        (spell_comma t ++ c ∷ [])
+        h.0
+        h.1
+        b
+        (spanned_pieces ks ps h.0 h.1 h.5)
+        (spans_join (spell_comma t) (c ∷ []) h.1 c b (comma_spanned ks t h.1 c h.6) (refl, h.8))),
+  )
+
+  spanned_initial : (ks : List Kind) → (x : Initial) → (a b : ℕ) → HoldsInitial ks x a b → Spans (spell_initial x) a b
+  spanned_initial ks (Value_of t) a b h = spanned ks t a b h.1
+  spanned_initial ks (List_of i) a b h = spanned_braces ks i a b h
+
+  spanned_piece : (ks : List Kind) → (x : Piece) → (a b : ℕ) → HoldsPiece ks x a b → Spans (spell_piece x) a b
+  spanned_piece ks (Plain_of i) a b h = spanned_initial ks i a b h
+  spanned_piece ks (Designated_of d ds e i) a b h =
+      spans_join
+      (spell_designator d)
+      (spell_designators ds ++ (e ∷ spell_initial i))
+      a
+      h.0
+      b
+      (spanned_designator ks d a h.0 h.1)
+      (spans_join
+      (spell_designators ds)
+      (e ∷ spell_initial i)
+      h.0
+      e
+      b
+      (spanned_designators ks ds h.0 e h.2)
+      (refl, spanned_initial ks i (e + 1) b h.4))
+
+  spanned_pieces : (ks : List Kind) → (xs : Pieces) → (a b : ℕ) → HoldPieces ks xs a b → Spans (spell_pieces xs) a b
+  spanned_pieces ks No_pieces a b h = h
+  spanned_pieces ks (Piece_then o p ps) a b h = (
+    h.1,
+    spans_join
+        (spell_piece p)
+        (spell_pieces ps)
+        (a + 1)
+        h.0
+        b
+        (spanned_piece ks p (a + 1) h.0 h.3)
+        (spanned_pieces ks ps h.0 b h.4),
+  )
+
+  spanned_designator : (ks : List Kind) → (x : Designator) → (a b : ℕ) → HoldsDesignator ks x a b → Spans (spell_designator x) a b
+  spanned_designator ks (Element_of o t c) a b h =
+      (h.0, spans_join (spell t) (c ∷ []) (a + 1) c b (spanned ks t (a + 1) c h.3) (refl, h.5))
+  spanned_designator ks (Field_of o n) a b h = (h.0, (h.2, h.4 ∙ ap (λ x. x + 1) h.2))
+
+  spanned_designators : (ks : List Kind) → (xs : Designators) → (a b : ℕ) → HoldDesignators ks xs a b → Spans (spell_designators xs) a b
+  spanned_designators ks No_designators a b h = h
+  spanned_designators ks (Designator_then d ds) a b h =
+      spans_join
+      (spell_designator d)
+      (spell_designators ds)
+      a
+      h.0
+      b
+      (spanned_designator ks d a h.0 h.1)
+      (spanned_designators ks ds h.0 b h.2)
+
+  spanned_association : (ks : List Kind) → (x : Association) → (a b : ℕ) → HoldsAssociation ks x a b → Spans (spell_association x) a b
+  spanned_association ks (Typed_of t c e) a b h =
+      spans_join (spell_type t) (c ∷ spell e) a c b (type_spanned ks t a c h.0) (refl, spanned ks e (c + 1) b h.3)
+  spanned_association ks (Default_of d c e) a b h =
+      (h.0, (h.2, subst (λ x. Spans (spell e) x b) (ap (λ x. x + 1) h.2) (spanned ks e (c + 1) b h.5)))
+
+  spanned_associations : (ks : List Kind) → (xs : Associations) → (a b : ℕ) → HoldAssociations ks xs a b → Spans (spell_associations xs) a b
+  spanned_associations ks No_associations a b h = h
+  spanned_associations ks (Association_then o x xs) a b h = (
+    h.1,
+    spans_join
+        (spell_association x)
+        (spell_associations xs)
+        (a + 1)
+        h.0
+        b
+        (spanned_association ks x (a + 1) h.0 h.3)
+        (spanned_associations ks xs h.0 b h.4),
+  )
+
 -- what is formed holds where the numbers that it spells are
 texts_hold : (ks : List Kind) → (n : ℕ) → (ns : List ℕ) → (a b : ℕ) → n + 1 ≡ a → GoOn ks n ns → Spans ns a b → HoldTexts ks ns a b
 texts_hold ks n [] a b e g s = (s, subst (λ x. kind_at ks x ≡ Text → ⊥) e g)
@@ -210,6 +436,52 @@ mutual
             (subst (λ x. HoldsType ks t ((a + 1) + 1) x) (sym r.back.0) (type_held ks t ((a + 1) + 1) r.at f.2 r.front)),
         f.3,
         r.back.1 ∙ ap (λ x. x + 1) (sym r.back.0),
+        subst (λ x. kind_at ks x ≡ OpenBrace → ⊥) (sym (r.back.1 ∙ ap (λ x. x + 1) (sym r.back.0))) f.4,
+      )
+  held ks (Compound_of o t c i) a b f s =
+      let r = spans_split (spell_type t) (c ∷ spell_braces i) (a + 1) b s.1 in (
+        s.0,
+        ap (λ x. kind_at ks x) (sym s.0) ∙ f.0,
+        subst (λ x. HoldsType ks t (a + 1) x) (sym r.back.0) (type_held ks t (a + 1) r.at f.1 r.front),
+        f.2,
+        subst (λ x. HoldBraces ks i (x + 1) b) (sym r.back.0) (held_braces ks i (r.at + 1) b f.3 r.back.1),
+      )
+  held ks (Generic_of k o t gs c) a b f s =
+      let r = spans_split (spell t) (spell_associations gs ++ c ∷ []) ((a + 1) + 1) b s.1.1 in
+      let q = spans_split (spell_associations gs) (c ∷ []) r.at b r.back in (
+        r.at,
+        s.0,
+        ap (λ x. kind_at ks x) (sym s.0) ∙ f.0,
+        s.1.0,
+        f.1,
+        f.2,
+        subst (λ x. Holds ks t (x + 1) r.at) (sym s.1.0) (held ks t ((a + 1) + 1) r.at f.3 r.front),
+        f.4,
+        subst (λ x. HoldAssociations ks gs r.at x) (sym q.back.0) (held_associations ks gs r.at q.at f.5 q.front),
+        f.6,
+        q.back.1 ∙ ap (λ x. x + 1) (sym q.back.0),
+      )
+  held ks (Offset_of k o t m n bs c) a b f s =
+      let r = spans_split (spell_type t) (m ∷ n ∷ (spell_behinds bs ++ c ∷ [])) ((a + 1) + 1) b s.1.1 in
+      let q = spans_split (spell_behinds bs) (c ∷ []) ((r.at + 1) + 1) b r.back.1.1 in (
+        s.0,
+        ap (λ x. kind_at ks x) (sym s.0) ∙ f.0,
+        s.1.0,
+        f.1,
+        subst
+            (λ x. HoldsType ks t (x + 1) m)
+            (sym s.1.0)
+            (subst (λ x. HoldsType ks t ((a + 1) + 1) x) (sym r.back.0) (type_held ks t ((a + 1) + 1) r.at f.2 r.front)),
+        f.3,
+        r.back.1.0 ∙ ap (λ x. x + 1) (sym r.back.0),
+        f.4,
+        f.5,
+        subst
+            (λ x. HoldBehinds ks 16 bs (x + 1) c)
+            (sym r.back.1.0)
+            (subst (λ x. HoldBehinds ks 16 bs ((r.at + 1) + 1) x) (sym q.back.0) (held_behinds ks 16 bs ((r.at + 1) + 1) q.at f.6 q.front)),
+        f.7,
+        q.back.1 ∙ ap (λ x. x + 1) (sym q.back.0),
       )
   held ks (Unary_of fs t) a b f s =
       let r = spans_split (spell_fronts fs) (spell t) a b s in
@@ -253,7 +525,7 @@ mutual
         q.back.1 ∙ ap (λ x. x + 1) (sym q.back.0),
       )
   held_behind ks l (Member_of o n) a b f s =
-      (f.0, s.0, ap (λ x. kind_at ks x) (sym s.0) ∙ f.1, s.1.0, f.2, s.1.1 ∙ ap (λ x. x + 1) (sym s.1.0))
+      (f.0, s.0, ap (λ x. is_member (kind_at ks x)) (sym s.0) ∙ f.1, s.1.0, f.2, s.1.1 ∙ ap (λ x. x + 1) (sym s.1.0))
   held_behind ks l (Step_of o) a b f s = (f.0, s.0, ap (λ x. kind_at ks x) (sym s.0) ∙ f.1, s.1)
 
   held_behinds : (ks : List Kind) → (l : ℕ) → (xs : Behinds) → (a b : ℕ) → AreBehind ks l xs → Spans (spell_behinds xs) a b → HoldBehinds ks l xs a b
@@ -263,7 +535,8 @@ mutual
       (r.at, held_behind ks l x a r.at f.0 r.front, held_behinds ks l xs r.at b f.1 r.back)
 
   held_front : (ks : List Kind) → (l : ℕ) → (x : Front) → (a b : ℕ) → IsInFront ks l x → Spans (spell_front x) a b → HoldsFront ks l x a b
-  held_front ks l (Operator_of o) a b f s = (f.0, s.0, ap (λ x. operator_at ks x) (sym s.0) ∙ f.1, s.1)
+  held_front ks l (Operator_of o) a b f s =
+      (f.0, s.0, ap (λ x. is_prefix (kind_at ks x)) (sym s.0) ∙ f.1, s.1)
   held_front ks l (Cast_of o t c) a b f s =
       let r = spans_split (spell_type t) (c ∷ []) (a + 1) b s.1 in (
         f.0,
@@ -273,6 +546,7 @@ mutual
         subst (λ x. HoldsType ks t (a + 1) x) (sym r.back.0) (type_held ks t (a + 1) r.at f.3 r.front),
         f.4,
         r.back.1 ∙ ap (λ x. x + 1) (sym r.back.0),
+        subst (λ x. kind_at ks x ≡ OpenBrace → ⊥) (sym (r.back.1 ∙ ap (λ x. x + 1) (sym r.back.0))) f.5,
       )
   held_front ks l (Choice_of t q e c) a b f s =
       let r = spans_split (spell t) (q ∷ (spell e ++ c ∷ [])) a b s in
@@ -303,6 +577,98 @@ mutual
   held_fronts ks l (Front_then x xs) a b f s =
       let r = spans_split (spell_front x) (spell_fronts xs) a b s in
       (r.at, held_front ks l x a r.at f.0 r.front, held_fronts ks l xs r.at b f.1 r.back)
+
+  held_braces : (ks : List Kind) → (x : Braces) → (a b : ℕ) → AreBraced ks x → Spans (spell_braces x) a b → HoldBraces ks x a b
+  held_braces ks (Braces_of o p ps t c) a b f s =
+      let r = spans_split (spell_piece p) (spell_pieces ps ++ (spell_comma t ++ c ∷ [])) (a + 1) b s.1 in
+      let q = spans_split (spell_pieces ps) (spell_comma t ++ c ∷ []) r.at b r.back in
+      let u = spans_split (spell_comma t) (c ∷ []) q.at b q.back in (
+        r.at,
+        q.at,
+        s.0,
+        ap (λ x. kind_at ks x) (sym s.0) ∙ f.0,
+        held_piece ks p (a + 1) r.at f.1 r.front,
+        held_pieces ks ps r.at q.at f.2 q.front,
+        subst (λ x. HoldsComma ks t q.at x) (sym u.back.0) (comma_held ks t q.at u.at f.3 u.front),
+        f.4,
+        u.back.1 ∙ ap (λ x. x + 1) (sym u.back.0),
+      )
+
+  held_initial : (ks : List Kind) → (x : Initial) → (a b : ℕ) → IsInitial ks x → Spans (spell_initial x) a b → HoldsInitial ks x a b
+  held_initial ks (Value_of t) a b f s = (f.0, held ks t a b f.1 s)
+  held_initial ks (List_of i) a b f s = held_braces ks i a b f s
+
+  held_piece : (ks : List Kind) → (x : Piece) → (a b : ℕ) → IsPiece ks x → Spans (spell_piece x) a b → HoldsPiece ks x a b
+  held_piece ks (Plain_of i) a b f s = held_initial ks i a b f s
+  held_piece ks (Designated_of d ds e i) a b f s =
+      let r = spans_split (spell_designator d) (spell_designators ds ++ (e ∷ spell_initial i)) a b s in
+      let q = spans_split (spell_designators ds) (e ∷ spell_initial i) r.at b r.back in (
+        r.at,
+        held_designator ks d a r.at f.0 r.front,
+        subst (λ x. HoldDesignators ks ds r.at x) (sym q.back.0) (held_designators ks ds r.at q.at f.1 q.front),
+        f.2,
+        subst (λ x. HoldsInitial ks i (x + 1) b) (sym q.back.0) (held_initial ks i (q.at + 1) b f.3 q.back.1),
+      )
+
+  held_pieces : (ks : List Kind) → (xs : Pieces) → (a b : ℕ) → ArePieces ks xs → Spans (spell_pieces xs) a b → HoldPieces ks xs a b
+  held_pieces ks No_pieces a b f s = s
+  held_pieces ks (Piece_then o p ps) a b f s =
+      let r = spans_split (spell_piece p) (spell_pieces ps) (a + 1) b s.1 in (
+        r.at,
+        s.0,
+        ap (λ x. kind_at ks x) (sym s.0) ∙ f.0,
+        held_piece ks p (a + 1) r.at f.1 r.front,
+        held_pieces ks ps r.at b f.2 r.back,
+      )
+
+  held_designator : (ks : List Kind) → (x : Designator) → (a b : ℕ) → IsDesignator ks x → Spans (spell_designator x) a b → HoldsDesignator ks x a b
+  held_designator ks (Element_of o t c) a b f s =
+      let r = spans_split (spell t) (c ∷ []) (a + 1) b s.1 in (
+        s.0,
+        ap (λ x. kind_at ks x) (sym s.0) ∙ f.0,
+        f.1,
+        subst (λ x. Holds ks t (a + 1) x) (sym r.back.0) (held ks t (a + 1) r.at f.2 r.front),
+        f.3,
+        r.back.1 ∙ ap (λ x. x + 1) (sym r.back.0),
+      )
+  held_designator ks (Field_of o n) a b f s =
+      (s.0, ap (λ x. is_dot (kind_at ks x)) (sym s.0) ∙ f.0, s.1.0, f.1, s.1.1 ∙ ap (λ x. x + 1) (sym s.1.0))
+
+  held_designators : (ks : List Kind) → (xs : Designators) → (a b : ℕ) → AreDesignators ks xs → Spans (spell_designators xs) a b
+      → HoldDesignators ks xs a b
+  held_designators ks No_designators a b f s = s
+  held_designators ks (Designator_then d ds) a b f s =
+      let r = spans_split (spell_designator d) (spell_designators ds) a b s in
+      (r.at, held_designator ks d a r.at f.0 r.front, held_designators ks ds r.at b f.1 r.back)
+
+  held_association : (ks : List Kind) → (x : Association) → (a b : ℕ) → IsAssociated ks x → Spans (spell_association x) a b → HoldsAssociation ks x a b
+  held_association ks (Typed_of t c e) a b f s =
+      let r = spans_split (spell_type t) (c ∷ spell e) a b s in (
+        subst (λ x. HoldsType ks t a x) (sym r.back.0) (type_held ks t a r.at f.0 r.front),
+        f.1,
+        f.2,
+        subst (λ x. Holds ks e (x + 1) b) (sym r.back.0) (held ks e (r.at + 1) b f.3 r.back.1),
+      )
+  held_association ks (Default_of d c e) a b f s = (
+    s.0,
+    ap (λ x. kind_at ks x) (sym s.0) ∙ f.0,
+    s.1.0,
+    f.1,
+    f.2,
+    subst (λ x. Holds ks e (x + 1) b) (sym s.1.0) (held ks e ((a + 1) + 1) b f.3 s.1.1),
+  )
+
+  held_associations : (ks : List Kind) → (xs : Associations) → (a b : ℕ) → AreAssociated ks xs → Spans (spell_associations xs) a b
+      → HoldAssociations ks xs a b
+  held_associations ks No_associations a b f s = s
+  held_associations ks (Association_then o x xs) a b f s =
+      let r = spans_split (spell_association x) (spell_associations xs) (a + 1) b s.1 in (
+        r.at,
+        s.0,
+        ap (λ x. kind_at ks x) (sym s.0) ∙ f.0,
+        held_association ks x (a + 1) r.at f.1 r.front,
+        held_associations ks xs r.at b f.2 r.back,
+      )
 
 pub expression_reads : (ks : List Kind) → (t : Tree) → IsExpression ks t → Reads ks 1 t 0 (length ks)
 expression_reads ks t e =

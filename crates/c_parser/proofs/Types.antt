@@ -2,7 +2,7 @@
 use Rattle.std.proofs.Common.{◌≡◌, refl, ap, sym, ◌∙◌, subst, ℕ, ◌+◌, ◌<◌, ◌≤◌, List, [], ◌∷◌, ◌++◌, arith, Bool, true, false, true≢false, ◌||◌, length, append_assoc, append-nil}
 use Rattle.tree_data.specs.Names.{Specifying, Word_of, Typedef_of, Tag_of, Naming, Type_of}
 use Rattle.c_parser.specs.declared.kinds.Kind.{Kind}
-use Rattle.c_parser.specs.declared.kinds.Kind.TheVariants.{TypeName, Qualifier, Tag, Star, CloseParen, End}
+use Rattle.c_parser.specs.declared.kinds.Kind.TheVariants.{TypeName, Qualifier, Tag, Star, CloseParen, Colon, Comma, End}
 use Rattle.c_parser.specs.Kinds.{kind_at, is_word, is_specifying, starts_type, ends_type}
 use Rattle.c_parser.specs.TypeNames.{spell_specifying, spell_specifyings, spell_pointers, spell_type, has_type, IsSpecifying, AreSpecifying, AreQualifiers, ArePointers, AreSome, IsType, HoldSpecifying, HoldSpecifyings, HoldQualifiers, HoldPointers, HoldsType, typed_behind, NoMore, FoundSpecifiers, FoundQualifiers, FoundPointers}
 use Rattle.c_parser.specs.Reading.{FoundType}
@@ -127,6 +127,8 @@ type_starts ks (Type_of (s ∷ ss) ps) a b h = starting ks false s a h.2.0 h.2.1
 -- no type begins where one may end, nor does one go on
 starts_none : (k : Kind) → ends_type k ≡ true → starts_type k ≡ false
 starts_none CloseParen h = refl
+starts_none Colon h = refl
+starts_none Comma h = refl
 starts_none End h = refl
 starts_none _ h = absurd (true≢false (sym h))
 

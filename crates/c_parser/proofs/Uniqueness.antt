@@ -1,19 +1,19 @@
 -- No two trees of a level hold from one place on, where the level stops behind them.
-use Rattle.std.proofs.Common.{◌≡◌, refl, ap, sym, ◌∙◌, subst, ℕ, zero, suc, ◌+◌, ◌-◌, ◌<◌, ◌≤◌, List, [], ◌∷◌, length, arith, inl, inr, true, true≢false}
-use Rattle.tree_data.specs.Trees.{Tree, Name_of, Constant_of, Text_of, Paren_of, Postfix_of, Unary_of, Binary_of, Conditional_of, Assign_of, Of_type, Behind, Operand_of, Index_of, Call_of, Call_with_of, Member_of, Step_of, Behinds, None_behind, Behind_then, Front, Operator_of, Cast_of, Choice_of, Left_of, Fronts, None_before, Front_then}
+use Rattle.std.proofs.Common.{◌≡◌, refl, ap, sym, ◌∙◌, subst, ℕ, zero, suc, ◌+◌, ◌-◌, ◌<◌, ◌≤◌, List, [], ◌∷◌, length, arith, inl, inr, true, true≢false, Option, Some, None, false}
+use Rattle.tree_data.specs.Trees.{Tree, Name_of, Constant_of, Text_of, Paren_of, Postfix_of, Unary_of, Binary_of, Conditional_of, Assign_of, Of_type, Compound_of, Behind, Operand_of, Index_of, Call_of, Call_with_of, Member_of, Step_of, Behinds, None_behind, Behind_then, Front, Operator_of, Cast_of, Choice_of, Left_of, Fronts, None_before, Front_then, Braces, Braces_of, Initial, Value_of, List_of, Piece, Plain_of, Designated_of, Pieces, No_pieces, Piece_then, Designator, Element_of, Field_of, Designators, No_designators, Designator_then, Generic_of, Offset_of, Association, Typed_of, Default_of, Associations, No_associations, Association_then}
 use Rattle.c_parser.specs.declared.kinds.Kind.{Kind}
-use Rattle.c_parser.specs.declared.kinds.Kind.TheVariants.{Identifier, Constant, Text, OpenParen, CloseParen, OpenBracket, CloseBracket, Member, Step, Question, Colon, Assignment, End}
+use Rattle.c_parser.specs.declared.kinds.Kind.TheVariants.{Identifier, Constant, Text, OpenParen, CloseParen, OpenBracket, CloseBracket, Step, Question, Colon, End, OpenBrace, CloseBrace, Comma, Generic, OffsetOf}
 use Rattle.c_parser.specs.Grammar.{IsExpression}
 use Rattle.c_parser.specs.Joining.{followed, preceded}
-use Rattle.c_parser.specs.Kinds.{kind_at, level_at, is_size, operator_at, ends_type}
+use Rattle.c_parser.specs.Kinds.{kind_at, level_at, is_size, ends_type, is_prefix, is_dot, is_equals, is_member, is_designating, starts_type}
 use Rattle.c_parser.specs.Levels.{IsBinary, behinds_level, fronts_level, rank}
-use Rattle.c_parser.specs.Reading.{HoldTexts, Holds, HoldsBehind, HoldBehinds, HoldsFront, HoldFronts, Reads, Stops}
-use Rattle.c_parser.proofs.Marks.{clash, leveled, level_most, stops_at, is_start}
+use Rattle.c_parser.specs.Reading.{HoldTexts, Holds, HoldsBehind, HoldBehinds, HoldsFront, HoldFronts, Reads, Stops, HoldsComma, HoldBraces, HoldsInitial, HoldsPiece, HoldPieces, HoldsDesignator, HoldDesignators, HoldsAssociation, HoldAssociations}
+use Rattle.c_parser.proofs.Marks.{clash, leveled, level_most, stops_at, is_start, no_type, start_designates_not, dot_designates, equals_designates_not}
 use Rattle.c_parser.proofs.Spans.{expression_reads}
-use Rattle.c_parser.proofs.Views.{lowered, looser, loosely, begins, followed_more, preceded_more, parted, fronts_low, fronts_high, Following, Preceding, Primary, a_name, a_constant, a_text, a_paren, a_size, postfix_view, binary_view, unary_view, prefixed_view, conditional_view, assign_view, primary_view, starts, first_postfix, first_unary, begins_cast, index_view, Calling, no_arguments, arguments, call_view, member_view, step_view, operand_view, Prefixing, an_operator, a_cast, prefix_view, cast_here, no_cast_operator, choice_view, left_view}
+use Rattle.c_parser.proofs.Views.{lowered, looser, loosely, begins, followed_more, preceded_more, parted, fronts_low, fronts_high, Following, Preceding, Primary, a_name, a_constant, a_text, a_paren, a_size, postfix_view, binary_view, unary_view, prefixed_view, conditional_view, assign_view, primary_view, starts, first_postfix, first_unary, begins_cast, index_view, Calling, no_arguments, arguments, call_view, member_view, step_view, operand_view, Prefixing, an_operator, a_cast, prefix_view, cast_here, choice_view, left_view, a_compound, opened_prefix, a_generic, an_offset, Goes, size_clashes}
 use Rattle.tree_data.specs.Names.{Naming}
 use Rattle.c_parser.specs.TypeNames.{HoldsType}
-use Rattle.c_parser.proofs.Types.{type_only}
+use Rattle.c_parser.proofs.Types.{type_only, type_starts}
 use native.Mathlib.Decide.{dec_lt}
 
 -- each tree of this level that holds from a is this one
@@ -50,7 +50,10 @@ same_name ks t a b e k f t' b' (a_name e' k' f') = (e ∙ sym e', f ∙ sym f')
 same_name ks t a b e k f t' b' (a_constant e' k' f') = clash (kind_at ks a) Identifier Constant k k' (λ x. omega (arith, x))
 same_name ks t a b e k f t' b' (a_text ns e' k' f') = clash (kind_at ks a) Identifier Text k k' (λ x. omega (arith, x))
 same_name ks t a b e k f t' b' (a_paren u c e' k' r l f') = clash (kind_at ks a) Identifier OpenParen k k' (λ x. omega (arith, x))
-same_name ks t a b e k f t' b' (a_size y c e' k' o h l f') = absurd (true≢false (sym k' ∙ ap is_size k))
+same_name ks t a b e k f t' b' (a_size y c e' k' o h l f' n') = absurd (true≢false (sym k' ∙ ap is_size k))
+same_name ks t a b e k f t' b' (a_compound y c i e' k' h l g) = clash (kind_at ks a) Identifier OpenParen k k' (λ x. omega (arith, x))
+same_name ks t a b e k f t' b' (a_generic k' v) = clash (kind_at ks a) Identifier Generic k k' (λ x. omega (arith, x))
+same_name ks t a b e k f t' b' (an_offset k' v) = clash (kind_at ks a) Identifier OffsetOf k k' (λ x. omega (arith, x))
 
 same_constant : (ks : List Kind) → (t : Tree) → (a b : ℕ) → t ≡ Constant_of a → kind_at ks a ≡ Constant → b ≡ a + 1
     → (t' : Tree) → (b' : ℕ) → Primary ks t' a b' → (t ≡ t') × (b ≡ b')
@@ -58,7 +61,10 @@ same_constant ks t a b e k f t' b' (a_name e' k' f') = clash (kind_at ks a) Cons
 same_constant ks t a b e k f t' b' (a_constant e' k' f') = (e ∙ sym e', f ∙ sym f')
 same_constant ks t a b e k f t' b' (a_text ns e' k' f') = clash (kind_at ks a) Constant Text k k' (λ x. omega (arith, x))
 same_constant ks t a b e k f t' b' (a_paren u c e' k' r l f') = clash (kind_at ks a) Constant OpenParen k k' (λ x. omega (arith, x))
-same_constant ks t a b e k f t' b' (a_size y c e' k' o h l f') = absurd (true≢false (sym k' ∙ ap is_size k))
+same_constant ks t a b e k f t' b' (a_size y c e' k' o h l f' n') = absurd (true≢false (sym k' ∙ ap is_size k))
+same_constant ks t a b e k f t' b' (a_compound y c i e' k' h l g) = clash (kind_at ks a) Constant OpenParen k k' (λ x. omega (arith, x))
+same_constant ks t a b e k f t' b' (a_generic k' v) = clash (kind_at ks a) Constant Generic k k' (λ x. omega (arith, x))
+same_constant ks t a b e k f t' b' (an_offset k' v) = clash (kind_at ks a) Constant OffsetOf k k' (λ x. omega (arith, x))
 
 same_text : (ks : List Kind) → (t : Tree) → (a b : ℕ) → (ns : List ℕ) → t ≡ Text_of ns → kind_at ks a ≡ Text → HoldTexts ks ns a b
     → (t' : Tree) → (b' : ℕ) → Primary ks t' a b' → (t ≡ t') × (b ≡ b')
@@ -68,18 +74,25 @@ same_text ks t a b ns e k f t' b' (a_text ns' e' k' f') =
     let same = texts_only ks ns a b f ns' b' f' in
     (e ∙ ap Text_of same.0 ∙ sym e', same.1)
 same_text ks t a b ns e k f t' b' (a_paren u c e' k' r l f') = clash (kind_at ks a) Text OpenParen k k' (λ x. omega (arith, x))
-same_text ks t a b ns e k f t' b' (a_size y c e' k' o h l f') = absurd (true≢false (sym k' ∙ ap is_size k))
+same_text ks t a b ns e k f t' b' (a_size y c e' k' o h l f' n') = absurd (true≢false (sym k' ∙ ap is_size k))
+same_text ks t a b ns e k f t' b' (a_compound y c i e' k' h l g) = clash (kind_at ks a) Text OpenParen k k' (λ x. omega (arith, x))
+same_text ks t a b ns e k f t' b' (a_generic k' v) = clash (kind_at ks a) Text Generic k k' (λ x. omega (arith, x))
+same_text ks t a b ns e k f t' b' (an_offset k' v) = clash (kind_at ks a) Text OffsetOf k k' (λ x. omega (arith, x))
 
 pub closed : (ks : List Kind) → (c : ℕ) → kind_at ks c ≡ CloseParen → Stops ks 1 c
 closed ks c e = stops_at ks 1 c CloseParen e (omega arith)
 
-same_paren : (ks : List Kind) → (a : ℕ) → (u : Tree) → (c : ℕ) → kind_at ks a ≡ OpenParen → Only ks 1 (a + 1) u c
+same_paren : (ks : List Kind) → (a : ℕ) → (u : Tree) → (c : ℕ) → kind_at ks a ≡ OpenParen → is_start (kind_at ks (a + 1)) ≡ true → Only ks 1 (a + 1) u c
     → (t' : Tree) → (b' : ℕ) → Primary ks t' a b' → (Paren_of a u c ≡ t') × (c + 1 ≡ b')
-same_paren ks a u c k only t' b' (a_name e' k' f') = clash (kind_at ks a) OpenParen Identifier k k' (λ x. omega (arith, x))
-same_paren ks a u c k only t' b' (a_constant e' k' f') = clash (kind_at ks a) OpenParen Constant k k' (λ x. omega (arith, x))
-same_paren ks a u c k only t' b' (a_text ns e' k' f') = clash (kind_at ks a) OpenParen Text k k' (λ x. omega (arith, x))
-same_paren ks a u c k only t' b' (a_size y d e' k' o h l f') = absurd (true≢false (sym k' ∙ ap is_size k))
-same_paren ks a u c k only t' b' (a_paren u' c' e' k' r l f') =
+same_paren ks a u c k begun only t' b' (a_name e' k' f') = clash (kind_at ks a) OpenParen Identifier k k' (λ x. omega (arith, x))
+same_paren ks a u c k begun only t' b' (a_constant e' k' f') = clash (kind_at ks a) OpenParen Constant k k' (λ x. omega (arith, x))
+same_paren ks a u c k begun only t' b' (a_text ns e' k' f') = clash (kind_at ks a) OpenParen Text k k' (λ x. omega (arith, x))
+same_paren ks a u c k begun only t' b' (a_generic k' v) = clash (kind_at ks a) OpenParen Generic k k' (λ x. omega (arith, x))
+same_paren ks a u c k begun only t' b' (an_offset k' v) = clash (kind_at ks a) OpenParen OffsetOf k k' (λ x. omega (arith, x))
+same_paren ks a u c k begun only t' b' (a_size y d e' k' o h l f' n') = absurd (true≢false (sym k' ∙ ap is_size k))
+same_paren ks a u c k begun only t' b' (a_compound y d i e' k' h l g) =
+    absurd (true≢false (sym (type_starts ks y (a + 1) d h) ∙ no_type (kind_at ks (a + 1)) begun))
+same_paren ks a u c k begun only t' b' (a_paren u' c' e' k' r l f') =
     let same = only u' c' r (closed ks c' l) in
     (ap (λ x. Paren_of a x c) same.0 ∙ ap (λ x. Paren_of a u' x) same.1 ∙ sym e', ap (λ x. x + 1) same.1 ∙ sym f')
 
@@ -89,11 +102,93 @@ same_size : (ks : List Kind) → (t : Tree) → (a b : ℕ) → (y : Naming) →
 same_size ks t a b y c e k h l f t' b' (a_name e' k' f') = absurd (true≢false (sym k ∙ ap is_size k'))
 same_size ks t a b y c e k h l f t' b' (a_constant e' k' f') = absurd (true≢false (sym k ∙ ap is_size k'))
 same_size ks t a b y c e k h l f t' b' (a_text ns e' k' f') = absurd (true≢false (sym k ∙ ap is_size k'))
+same_size ks t a b y c e k h l f t' b' (a_generic k' v) = absurd (true≢false (sym k ∙ ap is_size k'))
+same_size ks t a b y c e k h l f t' b' (an_offset k' v) = absurd (true≢false (sym k ∙ ap is_size k'))
 same_size ks t a b y c e k h l f t' b' (a_paren u d e' k' r l' f') = absurd (true≢false (sym k ∙ ap is_size k'))
-same_size ks t a b y c e k h l f t' b' (a_size y' c' e' k' o h' l' f') =
+same_size ks t a b y c e k h l f t' b' (a_compound y' c' i' e' k' h' l' g') = absurd (true≢false (sym k ∙ ap is_size k'))
+same_size ks t a b y c e k h l f t' b' (a_size y' c' e' k' o h' l' f' n') =
     let same = type_only ks y (a + 2) c h (ap ends_type l) y' c' h' (ap ends_type l') in (
       e ∙ ap (λ x. Of_type a (a + 1) x c) same.0 ∙ ap (λ x. Of_type a (a + 1) y' x) same.1 ∙ sym e',
       f ∙ ap (λ x. x + 1) same.1 ∙ sym f',
+    )
+
+abbrev pub OnlyBraces : List Kind → ℕ → Braces → ℕ → Type 0
+OnlyBraces ks a x b = (x' : Braces) → (b' : ℕ) → HoldBraces ks x' a b' → (x ≡ x') × (b ≡ b')
+
+same_compound : (ks : List Kind) → (a : ℕ) → (y : Naming) → (c : ℕ) → (i : Braces) → (b : ℕ) → kind_at ks a ≡ OpenParen
+    → HoldsType ks y (a + 1) c → kind_at ks c ≡ CloseParen → OnlyBraces ks (c + 1) i b
+    → (t' : Tree) → (b' : ℕ) → Primary ks t' a b' → (Compound_of a y c i ≡ t') × (b ≡ b')
+same_compound ks a y c i b k h l only t' b' (a_name e' k' f') = clash (kind_at ks a) OpenParen Identifier k k' (λ x. omega (arith, x))
+same_compound ks a y c i b k h l only t' b' (a_constant e' k' f') = clash (kind_at ks a) OpenParen Constant k k' (λ x. omega (arith, x))
+same_compound ks a y c i b k h l only t' b' (a_text ns e' k' f') = clash (kind_at ks a) OpenParen Text k k' (λ x. omega (arith, x))
+same_compound ks a y c i b k h l only t' b' (a_generic k' v) = clash (kind_at ks a) OpenParen Generic k k' (λ x. omega (arith, x))
+same_compound ks a y c i b k h l only t' b' (an_offset k' v) = clash (kind_at ks a) OpenParen OffsetOf k k' (λ x. omega (arith, x))
+same_compound ks a y c i b k h l only t' b' (a_size y' d e' k' o h' l' f' n') = absurd (true≢false (sym k' ∙ ap is_size k))
+same_compound ks a y c i b k h l only t' b' (a_paren u d e' k' r l' f') =
+    absurd (true≢false (sym (type_starts ks y (a + 1) c h) ∙ no_type (kind_at ks (a + 1)) (starts ks u (a + 1) d r.1)))
+same_compound ks a y c i b k h l only t' b' (a_compound y' c' i' e' k' h' l' g') =
+    let same = type_only ks y (a + 1) c h (ap ends_type l) y' c' h' (ap ends_type l') in
+    let more = only i' b' (subst (λ x. HoldBraces ks i' (x + 1) b') (sym same.1) g') in (
+      ap (λ x. Compound_of a x c i) same.0
+          ∙ ap (λ x. Compound_of a y' x i) same.1
+          ∙ ap (λ x. Compound_of a y' c' x) more.0
+          ∙ sym e',
+      more.1,
+    )
+
+abbrev pub OnlyAssociations : List Kind → ℕ → Associations → ℕ → Type 0
+OnlyAssociations ks a xs b =
+    (xs' : Associations) → (b' : ℕ) → HoldAssociations ks xs' a b' → kind_at ks b' ≡ CloseParen → (xs ≡ xs') × (b ≡ b')
+
+-- where an association stands there is its comma, and behind the last one the `)`
+pub associations_begin : (ks : List Kind) → (xs : Associations) → (a b : ℕ) → HoldAssociations ks xs a b → kind_at ks b ≡ CloseParen → Stops ks 2 a
+associations_begin ks No_associations a b h l = stops_at ks 2 a CloseParen (ap (λ x. kind_at ks x) (sym h) ∙ l) (omega arith)
+associations_begin ks (Association_then o x xs) a b h l = stops_at ks 2 a Comma h.2 (omega arith)
+
+same_generic : (ks : List Kind) → (a : ℕ) → (u : Tree) → (m : ℕ) → (gs : Associations) → (c : ℕ) → kind_at ks a ≡ Generic
+    → Only ks 2 (a + 2) u m → OnlyAssociations ks m gs c
+    → (t' : Tree) → (b' : ℕ) → Primary ks t' a b' → (Generic_of a (a + 1) u gs c ≡ t') × (c + 1 ≡ b')
+same_generic ks a u m gs c k one more t' b' (a_name e' k' f') = clash (kind_at ks a) Generic Identifier k k' (λ x. omega (arith, x))
+same_generic ks a u m gs c k one more t' b' (a_constant e' k' f') = clash (kind_at ks a) Generic Constant k k' (λ x. omega (arith, x))
+same_generic ks a u m gs c k one more t' b' (a_text ns e' k' f') = clash (kind_at ks a) Generic Text k k' (λ x. omega (arith, x))
+same_generic ks a u m gs c k one more t' b' (a_paren v d e' k' r l f') = clash (kind_at ks a) Generic OpenParen k k' (λ x. omega (arith, x))
+same_generic ks a u m gs c k one more t' b' (a_size y d e' k' o h l f' n') = absurd (true≢false (sym k' ∙ ap is_size k))
+same_generic ks a u m gs c k one more t' b' (a_compound y d i e' k' h l g) = clash (kind_at ks a) Generic OpenParen k k' (λ x. omega (arith, x))
+same_generic ks a u m gs c k one more t' b' (an_offset k' v) = clash (kind_at ks a) Generic OffsetOf k k' (λ x. omega (arith, x))
+same_generic ks a u m gs c k one more t' b' (a_generic k' v) =
+    let first = one v.control v.behind v.reads (associations_begin ks v.choices v.behind v.closing v.holds v.closes) in
+    let rest = more v.choices v.closing (subst (λ x. HoldAssociations ks v.choices x v.closing) (sym first.1) v.holds) v.closes in (
+      ap (λ x. Generic_of a (a + 1) x gs c) first.0
+          ∙ ap (λ x. Generic_of a (a + 1) v.control x c) rest.0
+          ∙ ap (λ x. Generic_of a (a + 1) v.control v.choices x) rest.1
+          ∙ sym v.is,
+      ap (λ x. x + 1) rest.1 ∙ sym v.ends,
+    )
+
+same_offset : (ks : List Kind) → (a : ℕ) → (y : Naming) → (m : ℕ) → (bs : Behinds) → (c : ℕ) → kind_at ks a ≡ OffsetOf
+    → HoldsType ks y (a + 2) m → kind_at ks m ≡ Comma → OnlyBehinds ks 16 (m + 2) bs c
+    → (t' : Tree) → (b' : ℕ) → Primary ks t' a b' → (Offset_of a (a + 1) y m (m + 1) bs c ≡ t') × (c + 1 ≡ b')
+same_offset ks a y m bs c k h p only t' b' (a_name e' k' f') = clash (kind_at ks a) OffsetOf Identifier k k' (λ x. omega (arith, x))
+same_offset ks a y m bs c k h p only t' b' (a_constant e' k' f') = clash (kind_at ks a) OffsetOf Constant k k' (λ x. omega (arith, x))
+same_offset ks a y m bs c k h p only t' b' (a_text ns e' k' f') = clash (kind_at ks a) OffsetOf Text k k' (λ x. omega (arith, x))
+same_offset ks a y m bs c k h p only t' b' (a_paren v d e' k' r l f') = clash (kind_at ks a) OffsetOf OpenParen k k' (λ x. omega (arith, x))
+same_offset ks a y m bs c k h p only t' b' (a_size z d e' k' o g l f' n') = absurd (true≢false (sym k' ∙ ap is_size k))
+same_offset ks a y m bs c k h p only t' b' (a_compound z d i e' k' g l q) = clash (kind_at ks a) OffsetOf OpenParen k k' (λ x. omega (arith, x))
+same_offset ks a y m bs c k h p only t' b' (a_generic k' v) = clash (kind_at ks a) OffsetOf Generic k k' (λ x. omega (arith, x))
+same_offset ks a y m bs c k h p only t' b' (an_offset k' v) =
+    let first = type_only ks y (a + 2) m h (ap ends_type p) v.name v.comma v.holds (ap ends_type v.parts) in
+    let rest =
+    only
+    v.steps
+    v.closing
+    (subst (λ x. HoldBehinds ks 16 v.steps (x + 2) v.closing) (sym first.1) v.goes)
+    (stops_at ks 16 v.closing CloseParen v.closes (omega arith)) in (
+      ap (λ x. Offset_of a (a + 1) x m (m + 1) bs c) first.0
+          ∙ ap (λ x. Offset_of a (a + 1) v.name x (x + 1) bs c) first.1
+          ∙ ap (λ x. Offset_of a (a + 1) v.name v.comma (v.comma + 1) x c) rest.0
+          ∙ ap (λ x. Offset_of a (a + 1) v.name v.comma (v.comma + 1) v.steps x) rest.1
+          ∙ sym v.is,
+      ap (λ x. x + 1) rest.1 ∙ sym v.ends,
     )
 
 -- a level from the next one
@@ -137,6 +232,10 @@ choice_first ks a t b only s x m h =
     let e : level_at ks b ≡ 3 = ap (λ k. level_at ks k) same.1 ∙ leveled (kind_at ks v.question) Question v.asks in
     absurd (omega arith)
 
+-- an operator of assignment stands behind a conditional expression
+pub below : (ks : List Kind) → (o : ℕ) → level_at ks o ≡ 2 → Stops ks 3 o
+below ks o e = omega (arith, e)
+
 left_first : {A : Type 0} → (ks : List Kind) → (a : ℕ) → (t : Tree) → (b : ℕ) → Only ks 3 a t b → Stops ks 2 b
     → (x : Front) → (m : ℕ) → HoldsFront ks 2 x a m → A
 left_first ks a t b only s x m h =
@@ -146,27 +245,28 @@ left_first ks a t b only s x m h =
     v.place
     v.operator
     (lowered ks 3 15 v.place a v.operator (omega arith) v.reads)
-    (stops_at ks 3 v.operator Assignment v.assigns (omega arith)) in
+    (below ks v.operator v.assigns) in
     let low : level_at ks b < 2 = s in
-    let e : level_at ks b ≡ 2 = ap (λ k. level_at ks k) same.1 ∙ leveled (kind_at ks v.operator) Assignment v.assigns in
+    let e : level_at ks b ≡ 2 = ap (λ k. level_at ks k) same.1 ∙ v.assigns in
     absurd (omega arith)
 
 prefix_first : {A : Type 0} → (ks : List Kind) → (a : ℕ) → (t : Tree) → (b : ℕ) → Reads ks 16 t a b
-    → (x : Front) → (m : ℕ) → Prefixing ks x a m → A
-prefix_first ks a t b h x m (an_operator e k f) = absurd (true≢false (sym k ∙ (first_postfix ks t a b h).no_operator))
-prefix_first ks a t b h x m (a_cast y c e k z g l f) =
-    absurd (true≢false (sym (cast_here ks y a c k g) ∙ (first_postfix ks t a b h).no_cast))
+    → (x : Front) → (m : ℕ) → Goes ks 15 m → Prefixing ks x a m → A
+prefix_first ks a t b h x m g (an_operator e k f) =
+    size_clashes ks a ((first_postfix ks t a b h).no_operator k) k (subst (λ y. Goes ks 15 y) f g)
+prefix_first ks a t b h x m g (a_cast y c e k z i l f u) =
+    absurd ((first_postfix ks t a b h).no_cast (cast_here ks y a c m k i l f u))
 
 operator_first : {A : Type 0} → (ks : List Kind) → (a : ℕ) → (t : Tree) → (b : ℕ) → Reads ks 16 t a b
-    → (x : Front) → (m : ℕ) → HoldsFront ks 15 x a m → A
-operator_first ks a t b h x m g = prefix_first ks a t b h x m (prefix_view ks x a m g)
+    → (x : Front) → (m : ℕ) → Goes ks 15 m → HoldsFront ks 15 x a m → A
+operator_first ks a t b h x m g f = prefix_first ks a t b h x m g (prefix_view ks x a m f)
 
 -- where an expression of the next level stands, nothing stands in front
 not_first : {A : Type 0} → (ks : List Kind) → (l a : ℕ) → (t : Tree) → (b : ℕ) → Fronting l → Reads ks (l + 1) t a b
-    → Only ks (l + 1) a t b → Stops ks l b → (x : Front) → (m : ℕ) → HoldsFront ks l x a m → A
-not_first ks l a t b (by_operators e) r only s x m h =
-    operator_first ks a t b (subst (λ k. Reads ks (k + 1) t a b) e r) x m (subst (λ k. HoldsFront ks k x a m) e h)
-not_first ks l a t b (by_choices e) r only s x m h =
+    → Only ks (l + 1) a t b → Stops ks l b → (x : Front) → (m : ℕ) → Goes ks l m → HoldsFront ks l x a m → A
+not_first ks l a t b (by_operators e) r only s x m g h =
+    operator_first ks a t b (subst (λ k. Reads ks (k + 1) t a b) e r) x m (subst (λ k. Goes ks k m) e g) (subst (λ k. HoldsFront ks k x a m) e h)
+not_first ks l a t b (by_choices e) r only s x m g h =
     choice_first
     ks
     a
@@ -177,7 +277,7 @@ not_first ks l a t b (by_choices e) r only s x m h =
     x
     m
     (subst (λ k. HoldsFront ks k x a m) e h)
-not_first ks l a t b (by_places e) r only s x m h =
+not_first ks l a t b (by_places e) r only s x m g h =
     left_first
     ks
     a
@@ -194,7 +294,21 @@ pub none_before : (ks : List Kind) → (l a : ℕ) → (t : Tree) → (b : ℕ) 
 none_before ks l a t b f r only s None_before m' t' b' h' r' s' =
     let same = only t' b' (subst (λ k. Reads ks (l + 1) t' k b') h' r') (looser ks l (l + 1) b' (omega arith) s') in
     (refl, same.0, same.1)
-none_before ks l a t b f r only s (Front_then x xs) m' t' b' h' r' s' = not_first ks l a t b f r only s x h'.0 h'.1
+none_before ks l a t b f r only s (Front_then x xs) m' t' b' h' r' s' =
+    not_first
+    ks
+    l
+    a
+    t
+    b
+    f
+    r
+    only
+    s
+    x
+    h'.0
+    (record { more = xs; behind = m'; last = t'; end = b'; goes = h'.2; reads = r' })
+    h'.1
 
 -- from a level to those below it
 data Level (n : ℕ) : Type 0 where
@@ -286,7 +400,7 @@ postfix_step ks a t b only s =
 cast_step : (ks : List Kind) → (a : ℕ) → (t : Tree) → (b : ℕ) → Reads ks 15 t a b → Only ks 15 a t b → Only ks 14 a t b
 cast_step ks a t b r only t' b' h s =
     elim (parted ks 14 t' a b' h) [
-      | inl e ↦ absurd (true≢false (sym (begins_cast ks t' a b' e h.1) ∙ first_unary ks t a b r))
+      | inl e ↦ absurd (first_unary ks t a b r (begins_cast ks t' a b' e h.1))
       | inr q ↦ only t' b' q (looser ks 14 15 b' (omega arith) s)
     ]
 
@@ -351,6 +465,9 @@ rank_most ks (Unary_of fs t) a b h =
     let most : fronts_level fs ≤ 15 = fronts_high fs in
     omega arith
 rank_most ks (Of_type k o y c) a b h = omega arith
+rank_most ks (Compound_of o y c i) a b h = omega arith
+rank_most ks (Generic_of k o u gs c) a b h = omega arith
+rank_most ks (Offset_of k o y m n bs c) a b h = omega arith
 rank_most ks (Binary_of f bs) a b h =
     let most : behinds_level ks bs ≤ 13 = h.2.1 in
     omega arith
@@ -364,27 +481,27 @@ placed ks n t a b low h s only =
     let own : rank ks t ≤ rank ks t = omega arith in
     lower ks (rank ks t) n a t b low h.0 (rank_most ks t a b h.1) (own, h.1) only s
 
--- what stands in front, and no expression of the next level
+-- what stands in front, and no expression of the next level where such a one stands behind it
 pub record OnlyFront (ks : List Kind) (l a : ℕ) (x : Front) (m : ℕ) : Type 0 where
   pub same : (x' : Front) → (m' : ℕ) → HoldsFront ks l x' a m' → (x ≡ x') × (m ≡ m')
-  pub not_next : (t : Tree) → (b : ℕ) → Reads ks (l + 1) t a b → Stops ks l b → ⊥
+  pub not_next : Goes ks l m → (t : Tree) → (b : ℕ) → Reads ks (l + 1) t a b → Stops ks l b → ⊥
 
-same_operator : (ks : List Kind) → (o a m : ℕ) → o ≡ a → operator_at ks a ≡ true → m ≡ a + 1
+same_operator : (ks : List Kind) → (o a m : ℕ) → o ≡ a → is_prefix (kind_at ks a) ≡ true → m ≡ a + 1
     → (x' : Front) → (m' : ℕ) → Prefixing ks x' a m' → (Operator_of o ≡ x') × (m ≡ m')
 same_operator ks o a m e k f x' m' (an_operator e' k' f') = (ap Operator_of e ∙ sym e', f ∙ sym f')
-same_operator ks o a m e k f x' m' (a_cast y c e' k' z h l f') = absurd (true≢false (sym k ∙ no_cast_operator ks a k'))
+same_operator ks o a m e k f x' m' (a_cast y c e' k' z h l f' u) = opened_prefix ks a k k'
 
 operator_only : (ks : List Kind) → (o a m : ℕ) → HoldsFront ks 15 (Operator_of o) a m → OnlyFront ks 15 a (Operator_of o) m
 operator_only ks o a m h = record {
   same = λ x' m' h'. same_operator ks o a m h.1 h.2 h.3 x' m' (prefix_view ks x' a m' h');
-  not_next = λ t b r s. operator_first ks a t b r (Operator_of o) m h;
+  not_next = λ g t b r s. operator_first ks a t b r (Operator_of o) m g h;
 }
 
 same_cast : (ks : List Kind) → (o : ℕ) → (y : Naming) → (c a m : ℕ) → o ≡ a → kind_at ks a ≡ OpenParen → HoldsType ks y (a + 1) c
     → kind_at ks c ≡ CloseParen → m ≡ c + 1
     → (x' : Front) → (m' : ℕ) → Prefixing ks x' a m' → (Cast_of o y c ≡ x') × (m ≡ m')
-same_cast ks o y c a m e k h l f x' m' (an_operator e' k' f') = absurd (true≢false (sym k' ∙ no_cast_operator ks a k))
-same_cast ks o y c a m e k h l f x' m' (a_cast y' c' e' k' z h' l' f') =
+same_cast ks o y c a m e k h l f x' m' (an_operator e' k' f') = opened_prefix ks a k' k
+same_cast ks o y c a m e k h l f x' m' (a_cast y' c' e' k' z h' l' f' u') =
     let same = type_only ks y (a + 1) c h (ap ends_type l) y' c' h' (ap ends_type l') in (
       ap (λ x. Cast_of x y c) e ∙ ap (λ x. Cast_of a x c) same.0 ∙ ap (λ x. Cast_of a y' x) same.1 ∙ sym e',
       f ∙ ap (λ x. x + 1) same.1 ∙ sym f',
@@ -393,7 +510,7 @@ same_cast ks o y c a m e k h l f x' m' (a_cast y' c' e' k' z h' l' f') =
 cast_only : (ks : List Kind) → (o : ℕ) → (y : Naming) → (c a m : ℕ) → HoldsFront ks 15 (Cast_of o y c) a m → OnlyFront ks 15 a (Cast_of o y c) m
 cast_only ks o y c a m h = record {
   same = λ x' m' h'. same_cast ks o y c a m h.1 h.2 h.4 h.5 h.6 x' m' (prefix_view ks x' a m' h');
-  not_next = λ t b r s. operator_first ks a t b r (Cast_of o y c) m h;
+  not_next = λ g t b r s. operator_first ks a t b r (Cast_of o y c) m g h;
 }
 
 choice_only : (ks : List Kind) → (t : Tree) → (q : ℕ) → (e : Tree) → (c a m : ℕ) → HoldsFront ks 3 (Choice_of t q e c) a m
@@ -415,7 +532,7 @@ choice_only ks t q e c a m h x y = record {
             ∙ sym v.is,
         h.7 ∙ ap (λ k. k + 1) two.1 ∙ sym v.ends,
       );
-  not_next = λ u b r s.
+  not_next = λ g u b r s.
       let one = x u b r (looser ks 3 4 b (omega arith) s) in
       let low : level_at ks b < 3 = s in
       let same : level_at ks b ≡ 3 = ap (λ k. level_at ks k) (sym one.1) ∙ leveled (kind_at ks q) Question h.3 in
@@ -432,22 +549,22 @@ left_only ks t o a m h x = record {
       v.place
       v.operator
       (lowered ks 3 15 v.place a v.operator (omega arith) v.reads)
-      (stops_at ks 3 v.operator Assignment v.assigns (omega arith)) in (
+      (below ks v.operator v.assigns) in (
         ap (λ k. Left_of k o) one.0 ∙ ap (λ k. Left_of v.place k) one.1 ∙ sym v.is,
         h.4 ∙ ap (λ k. k + 1) one.1 ∙ sym v.ends,
       );
-  not_next = λ u b r s.
+  not_next = λ g u b r s.
       let one = x u b r (looser ks 2 3 b (omega arith) s) in
       let low : level_at ks b < 2 = s in
-      let same : level_at ks b ≡ 2 = ap (λ k. level_at ks k) (sym one.1) ∙ leveled (kind_at ks o) Assignment h.3 in
+      let same : level_at ks b ≡ 2 = ap (λ k. level_at ks k) (sym one.1) ∙ h.3 in
       absurd (omega arith);
 }
 
 fronts_with : (ks : List Kind) → (l : ℕ) → (x : Front) → (xs : Fronts) → (a k m : ℕ) → (t : Tree) → (b : ℕ)
-    → OnlyFront ks l a x k → OnlyFronts ks l k xs t b → OnlyFronts ks l a (Front_then x xs) t b
-fronts_with ks l x xs a k m t b one more None_before m' t' b' h' r' s' =
-    absurd (one.not_next t' b' (subst (λ y. Reads ks (l + 1) t' y b') h' r') s')
-fronts_with ks l x xs a k m t b one more (Front_then x' xs') m' t' b' h' r' s' =
+    → Goes ks l k → OnlyFront ks l a x k → OnlyFronts ks l k xs t b → OnlyFronts ks l a (Front_then x xs) t b
+fronts_with ks l x xs a k m t b g one more None_before m' t' b' h' r' s' =
+    absurd (one.not_next g t' b' (subst (λ y. Reads ks (l + 1) t' y b') h' r') s')
+fronts_with ks l x xs a k m t b g one more (Front_then x' xs') m' t' b' h' r' s' =
     let first = one.same x' h'.0 h'.1 in
     let rest = more xs' m' t' b' (subst (λ y. HoldFronts ks l xs' y m') (sym first.1) h'.2) r' s' in
     (ap (λ y. Front_then y xs) first.0 ∙ ap (λ y. Front_then x' y) rest.0, rest.1, rest.2)
@@ -512,7 +629,7 @@ pub call_with_only : (ks : List Kind) → (a : ℕ) → kind_at ks a ≡ OpenPar
 call_with_only ks a k t m bs c h x y x' m' h' s' =
     same_arguments ks a t m bs c h x y x' m' (call_view ks x' a m' k h')
 
-pub member_only : (ks : List Kind) → (a : ℕ) → kind_at ks a ≡ Member → OnlyBehind ks 16 a (Member_of a (a + 1)) (a + 2)
+pub member_only : (ks : List Kind) → (a : ℕ) → is_member (kind_at ks a) ≡ true → OnlyBehind ks 16 a (Member_of a (a + 1)) (a + 2)
 member_only ks a k x' m' h' s' =
     let v = member_view ks x' a m' k h' in
     (sym v.is, sym v.ends)
@@ -532,6 +649,51 @@ suffix_at ks l a x y m k e f g only x' m' h' s' =
 call_end : (a c m : ℕ) → c ≡ a + 1 → m ≡ c + 1 → m ≡ a + 2
 call_end a c m e f = omega (arith, e, f)
 
+-- what stands behind a piece of an initializer list
+pub comma_begins : (ks : List Kind) → (t : Option ℕ) → (k c : ℕ) → HoldsComma ks t k c → kind_at ks c ≡ CloseBrace → Stops ks 2 k
+comma_begins ks None k c h e = stops_at ks 2 k CloseBrace (ap (λ x. kind_at ks x) (sym h) ∙ e) (omega arith)
+comma_begins ks (Some o) k c h e = stops_at ks 2 k Comma h.1 (omega arith)
+
+pub pieces_begin : (ks : List Kind) → (ps : Pieces) → (m k : ℕ) → (t : Option ℕ) → (c : ℕ) → HoldPieces ks ps m k → HoldsComma ks t k c
+    → kind_at ks c ≡ CloseBrace → Stops ks 2 m
+pieces_begin ks No_pieces m k t c h g e = subst (λ x. Stops ks 2 x) h (comma_begins ks t k c g e)
+pieces_begin ks (Piece_then o p ps) m k t c h g e = stops_at ks 2 m Comma h.2 (omega arith)
+
+pub comma_only : (ks : List Kind) → (t : Option ℕ) → (k c : ℕ) → HoldsComma ks t k c → kind_at ks c ≡ CloseBrace
+    → (t' : Option ℕ) → (c' : ℕ) → HoldsComma ks t' k c' → kind_at ks c' ≡ CloseBrace → (t ≡ t') × (c ≡ c')
+comma_only ks None k c h e None c' h' e' = (refl, h ∙ sym h')
+comma_only ks None k c h e (Some o) c' h' e' =
+    clash (kind_at ks k) CloseBrace Comma (ap (λ x. kind_at ks x) (sym h) ∙ e) h'.1 (λ x. omega (arith, x))
+comma_only ks (Some o) k c h e None c' h' e' =
+    clash (kind_at ks k) Comma CloseBrace h.1 (ap (λ x. kind_at ks x) (sym h') ∙ e') (λ x. omega (arith, x))
+comma_only ks (Some o) k c h e (Some o') c' h' e' = (ap Some (h.0 ∙ sym h'.0), h.2 ∙ sym h'.2)
+
+-- what pieces begin with
+pub braces_begin : (ks : List Kind) → (x : Braces) → (a b : ℕ) → HoldBraces ks x a b → kind_at ks a ≡ OpenBrace
+braces_begin ks (Braces_of o p ps t c) a b h = h.3
+
+pub initial_begins : (ks : List Kind) → (x : Initial) → (a b : ℕ) → HoldsInitial ks x a b → is_designating (kind_at ks a) ≡ false
+initial_begins ks (Value_of t) a b h = start_designates_not (kind_at ks a) (starts ks t a b h.1)
+initial_begins ks (List_of i) a b h = ap is_designating (braces_begin ks i a b h)
+
+pub designator_begins : (ks : List Kind) → (x : Designator) → (a b : ℕ) → HoldsDesignator ks x a b → is_designating (kind_at ks a) ≡ true
+designator_begins ks (Element_of o t c) a b h = ap is_designating h.1
+designator_begins ks (Field_of o n) a b h = dot_designates (kind_at ks a) h.1
+
+initial_closes_not : (ks : List Kind) → (x : Initial) → (a b : ℕ) → HoldsInitial ks x a b → kind_at ks a ≡ CloseBrace → ⊥
+initial_closes_not ks (Value_of t) a b h e = true≢false (sym (starts ks t a b h.1) ∙ ap is_start e)
+initial_closes_not ks (List_of i) a b h e = clash (kind_at ks a) OpenBrace CloseBrace (braces_begin ks i a b h) e (λ x. omega (arith, x))
+
+pub piece_closes_not : (ks : List Kind) → (x : Piece) → (a b : ℕ) → HoldsPiece ks x a b → kind_at ks a ≡ CloseBrace → ⊥
+piece_closes_not ks (Plain_of i) a b h e = initial_closes_not ks i a b h e
+piece_closes_not ks (Designated_of d ds q i) a b h e = true≢false (sym (designator_begins ks d a h.0 h.1) ∙ ap is_designating e)
+
+-- no piece stands behind the last comma
+no_piece : {A : Type 0} → (ks : List Kind) → (t : Option ℕ) → (k c : ℕ) → HoldsComma ks t k c → kind_at ks c ≡ CloseBrace
+    → kind_at ks k ≡ Comma → (p : Piece) → (m : ℕ) → HoldsPiece ks p (k + 1) m → A
+no_piece ks None k c h e f p m g = clash (kind_at ks k) CloseBrace Comma (ap (λ x. kind_at ks x) (sym h) ∙ e) f (λ x. omega (arith, x))
+no_piece ks (Some o) k c h e f p m g = absurd (piece_closes_not ks p (k + 1) m g (ap (λ x. kind_at ks x) (sym h.2) ∙ e))
+
 mutual
   own_only : (ks : List Kind) → (t : Tree) → (a b : ℕ) → Holds ks t a b → Stops ks (rank ks t) b → Only ks (rank ks t) a t b
   own_only ks (Name_of n) a b h s = λ t' b' h' s'.
@@ -545,7 +707,7 @@ mutual
       let inner =
       placed ks 1 t (a + 1) c (omega arith) (h.2, h.3) end
       (own_only ks t (a + 1) c h.3 (looser ks 1 (rank ks t) c h.2 end)) in
-      let same = same_paren ks a t c h.1 inner t' b' (primary_view ks t' a b' h') in
+      let same = same_paren ks a t c h.1 (starts ks t (a + 1) c h.3) inner t' b' (primary_view ks t' a b' h') in
       (ap (λ x. Paren_of x t c) h.0 ∙ same.0, h.5 ∙ same.1)
   own_only ks (Postfix_of f bs) a b h s =
       let first =
@@ -572,6 +734,46 @@ mutual
       t'
       b'
       (primary_view ks t' a b' h')
+  own_only ks (Compound_of o y c i) a b h s = λ t' b' h' s'.
+      let same = same_compound ks a y c i b h.1 h.2 h.3 (braces_only ks i (c + 1) b h.4) t' b' (primary_view ks t' a b' h') in
+      (ap (λ x. Compound_of x y c i) h.0 ∙ same.0, same.1)
+  own_only ks (Generic_of k o u gs c) a b h s = λ t' b' h' s'.
+      let two : (a + 1) + 1 ≡ a + 2 = omega arith in
+      let reads : Holds ks u (a + 2) h.0 = subst (λ x. Holds ks u x h.0) (ap (λ x. x + 1) h.3 ∙ two) h.6 in
+      let end = associations_begin ks gs h.0 c h.8 h.9 in
+      let first =
+      placed ks 2 u (a + 2) h.0 (omega arith) (h.5, reads) end (own_only ks u (a + 2) h.0 reads (looser ks 2 (rank ks u) h.0 h.5 end)) in
+      let same = same_generic ks a u h.0 gs c h.2 first (associations_only ks gs h.0 c h.8 h.9) t' b' (primary_view ks t' a b' h') in (
+        ap (λ x. Generic_of x o u gs c) h.1 ∙ ap (λ x. Generic_of a x u gs c) h.3 ∙ same.0,
+        h.10 ∙ same.1,
+      )
+  own_only ks (Offset_of k o y m n bs c) a b h s = λ t' b' h' s'.
+      let two : (a + 1) + 1 ≡ a + 2 = omega arith in
+      let more : (m + 1) + 1 ≡ m + 2 = omega arith in
+      let same =
+      same_offset
+      ks
+      a
+      y
+      m
+      bs
+      c
+      h.1
+      (subst (λ x. HoldsType ks y x m) (ap (λ x. x + 1) h.2 ∙ two) h.4)
+      h.5
+      (subst
+      (λ x. OnlyBehinds ks 16 x bs c)
+      (ap (λ x. x + 1) h.6 ∙ more)
+      (behinds_only ks 16 bs (n + 1) c h.9 (stops_at ks 16 c CloseParen h.10 (omega arith))))
+      t'
+      b'
+      (primary_view ks t' a b' h') in (
+        ap (λ x. Offset_of x o y m n bs c) h.0
+            ∙ ap (λ x. Offset_of a x y m n bs c) h.2
+            ∙ ap (λ x. Offset_of a (a + 1) y m x bs c) h.6
+            ∙ same.0,
+        h.11 ∙ same.1,
+      )
   own_only ks (Unary_of fs t) a b h s =
       let end' = looser ks (fronts_level fs) 15 b (fronts_high fs) s in
       let end = looser ks 15 16 b (omega arith) end' in
@@ -651,6 +853,206 @@ mutual
       t
       b
       (fronts_only ks 2 (by_places refl) fs a h.0 t b h.2 (h.3, h.4) last s))
+
+  pub braces_only : (ks : List Kind) → (x : Braces) → (a b : ℕ) → HoldBraces ks x a b → OnlyBraces ks a x b
+  braces_only ks (Braces_of o p ps t c) a b h (Braces_of o' p' ps' t' c') b' h' =
+      let one =
+      piece_only
+      ks
+      p
+      (a + 1)
+      h.0
+      h.4
+      (pieces_begin ks ps h.0 h.1 t c h.5 h.6 h.7)
+      p'
+      h'.0
+      h'.4
+      (pieces_begin ks ps' h'.0 h'.1 t' c' h'.5 h'.6 h'.7) in
+      let two =
+      pieces_only
+      ks
+      ps
+      h.0
+      h.1
+      t
+      c
+      h.5
+      h.6
+      h.7
+      ps'
+      h'.1
+      t'
+      c'
+      (subst (λ x. HoldPieces ks ps' x h'.1) (sym one.1) h'.5)
+      h'.6
+      h'.7 in (
+        ap (λ x. Braces_of x p ps t c) (h.2 ∙ sym h'.2)
+            ∙ ap (λ x. Braces_of o' x ps t c) one.0
+            ∙ ap (λ x. Braces_of o' p' x t c) two.0
+            ∙ ap (λ x. Braces_of o' p' ps' x c) two.1
+            ∙ ap (λ x. Braces_of o' p' ps' t' x) two.2,
+        h.8 ∙ ap (λ x. x + 1) two.2 ∙ sym h'.8,
+      )
+
+  pub pieces_only : (ks : List Kind) → (xs : Pieces) → (m k : ℕ) → (t : Option ℕ) → (c : ℕ) → HoldPieces ks xs m k → HoldsComma ks t k c
+      → kind_at ks c ≡ CloseBrace → (xs' : Pieces) → (k' : ℕ) → (t' : Option ℕ) → (c' : ℕ) → HoldPieces ks xs' m k' → HoldsComma ks t' k' c'
+      → kind_at ks c' ≡ CloseBrace → (xs ≡ xs') × (t ≡ t') × (c ≡ c')
+  pieces_only ks No_pieces m k t c h g e No_pieces k' t' c' h' g' e' =
+      let same =
+      comma_only
+      ks
+      t
+      m
+      c
+      (subst (λ x. HoldsComma ks t x c) h g)
+      e
+      t'
+      c'
+      (subst (λ x. HoldsComma ks t' x c') h' g')
+      e' in
+      (refl, same.0, same.1)
+  pieces_only ks No_pieces m k t c h g e (Piece_then o p ps) k' t' c' h' g' e' =
+      no_piece ks t m c (subst (λ x. HoldsComma ks t x c) h g) e h'.2 p h'.0 h'.3
+  pieces_only ks (Piece_then o p ps) m k t c h g e No_pieces k' t' c' h' g' e' =
+      no_piece ks t' m c' (subst (λ x. HoldsComma ks t' x c') h' g') e' h.2 p h.0 h.3
+  pieces_only ks (Piece_then o p ps) m k t c h g e (Piece_then o' p' ps') k' t' c' h' g' e' =
+      let one =
+      piece_only
+      ks
+      p
+      (m + 1)
+      h.0
+      h.3
+      (pieces_begin ks ps h.0 k t c h.4 g e)
+      p'
+      h'.0
+      h'.3
+      (pieces_begin ks ps' h'.0 k' t' c' h'.4 g' e') in
+      let two = pieces_only ks ps h.0 k t c h.4 g e ps' k' t' c' (subst (λ x. HoldPieces ks ps' x k') (sym one.1) h'.4) g' e' in (
+        ap (λ x. Piece_then x p ps) (h.1 ∙ sym h'.1)
+            ∙ ap (λ x. Piece_then o' x ps) one.0
+            ∙ ap (λ x. Piece_then o' p' x) two.0,
+        two.1,
+        two.2,
+      )
+
+  pub piece_only : (ks : List Kind) → (x : Piece) → (a b : ℕ) → HoldsPiece ks x a b → Stops ks 2 b
+      → (x' : Piece) → (b' : ℕ) → HoldsPiece ks x' a b' → Stops ks 2 b' → (x ≡ x') × (b ≡ b')
+  piece_only ks (Plain_of i) a b h s (Plain_of i') b' h' s' =
+      let same = initial_only ks i a b h s i' b' h' s' in
+      (ap Plain_of same.0, same.1)
+  piece_only ks (Plain_of i) a b h s (Designated_of d ds e i') b' h' s' =
+      absurd (true≢false (sym (designator_begins ks d a h'.0 h'.1) ∙ initial_begins ks i a b h))
+  piece_only ks (Designated_of d ds e i) a b h s (Plain_of i') b' h' s' =
+      absurd (true≢false (sym (designator_begins ks d a h.0 h.1) ∙ initial_begins ks i' a b' h'))
+  piece_only ks (Designated_of d ds e i) a b h s (Designated_of d' ds' e' i') b' h' s' =
+      let one = designator_only ks d a h.0 h.1 d' h'.0 h'.1 in
+      let two = designators_only ks ds h.0 e h.2 h.3 ds' e' (subst (λ x. HoldDesignators ks ds' x e') (sym one.1) h'.2) h'.3 in
+      let three = initial_only ks i (e + 1) b h.4 s i' b' (subst (λ x. HoldsInitial ks i' (x + 1) b') (sym two.1) h'.4) s' in (
+        ap (λ x. Designated_of x ds e i) one.0
+            ∙ ap (λ x. Designated_of d' x e i) two.0
+            ∙ ap (λ x. Designated_of d' ds' x i) two.1
+            ∙ ap (λ x. Designated_of d' ds' e' x) three.0,
+        three.1,
+      )
+
+  pub initial_only : (ks : List Kind) → (x : Initial) → (a b : ℕ) → HoldsInitial ks x a b → Stops ks 2 b
+      → (x' : Initial) → (b' : ℕ) → HoldsInitial ks x' a b' → Stops ks 2 b' → (x ≡ x') × (b ≡ b')
+  initial_only ks (Value_of t) a b h s (Value_of t') b' h' s' =
+      let same =
+      placed ks 2 t a b (omega arith) (h.0, h.1) s (own_only ks t a b h.1 (looser ks 2 (rank ks t) b h.0 s)) t' b' (h'.0, h'.1) s' in
+      (ap Value_of same.0, same.1)
+  initial_only ks (Value_of t) a b h s (List_of i) b' h' s' =
+      absurd (true≢false (sym (starts ks t a b h.1) ∙ ap is_start (braces_begin ks i a b' h')))
+  initial_only ks (List_of i) a b h s (Value_of t) b' h' s' =
+      absurd (true≢false (sym (starts ks t a b' h'.1) ∙ ap is_start (braces_begin ks i a b h)))
+  initial_only ks (List_of i) a b h s (List_of i') b' h' s' =
+      let same = braces_only ks i a b h i' b' h' in
+      (ap List_of same.0, same.1)
+
+  pub designator_only : (ks : List Kind) → (x : Designator) → (a b : ℕ) → HoldsDesignator ks x a b
+      → (x' : Designator) → (b' : ℕ) → HoldsDesignator ks x' a b' → (x ≡ x') × (b ≡ b')
+  designator_only ks (Element_of o t c) a b h (Element_of o' t' c') b' h' =
+      let end = stops_at ks 3 c CloseBracket h.4 (omega arith) in
+      let end' = stops_at ks 3 c' CloseBracket h'.4 (omega arith) in
+      let same =
+      placed ks 3 t (a + 1) c (omega arith) (h.2, h.3) end (own_only ks t (a + 1) c h.3 (looser ks 3 (rank ks t) c h.2 end)) t' c' (h'.2, h'.3) end' in (
+        ap (λ x. Element_of x t c) (h.0 ∙ sym h'.0) ∙ ap (λ x. Element_of o' x c) same.0 ∙ ap (λ x. Element_of o' t' x) same.1,
+        h.5 ∙ ap (λ x. x + 1) same.1 ∙ sym h'.5,
+      )
+  designator_only ks (Element_of o t c) a b h (Field_of o' n) b' h' = absurd (true≢false (sym h'.1 ∙ ap is_dot h.1))
+  designator_only ks (Field_of o n) a b h (Element_of o' t c) b' h' = absurd (true≢false (sym h.1 ∙ ap is_dot h'.1))
+  designator_only ks (Field_of o n) a b h (Field_of o' n') b' h' =
+      let same : n ≡ n' = h.2 ∙ sym h'.2 in
+      (ap (λ x. Field_of x n) (h.0 ∙ sym h'.0) ∙ ap (λ x. Field_of o' x) same, h.4 ∙ ap (λ x. x + 1) same ∙ sym h'.4)
+
+  pub designators_only : (ks : List Kind) → (xs : Designators) → (a b : ℕ) → HoldDesignators ks xs a b → is_equals (kind_at ks b) ≡ true
+      → (xs' : Designators) → (b' : ℕ) → HoldDesignators ks xs' a b' → is_equals (kind_at ks b') ≡ true → (xs ≡ xs') × (b ≡ b')
+  designators_only ks No_designators a b h e No_designators b' h' e' = (refl, h ∙ sym h')
+  designators_only ks No_designators a b h e (Designator_then d ds) b' h' e' =
+      absurd
+      (true≢false
+      (sym (designator_begins ks d a h'.0 h'.1)
+      ∙ equals_designates_not (kind_at ks a) (ap (λ x. is_equals (kind_at ks x)) (sym h) ∙ e)))
+  designators_only ks (Designator_then d ds) a b h e No_designators b' h' e' =
+      absurd
+      (true≢false
+      (sym (designator_begins ks d a h.0 h.1)
+      ∙ equals_designates_not (kind_at ks a) (ap (λ x. is_equals (kind_at ks x)) (sym h') ∙ e')))
+  designators_only ks (Designator_then d ds) a b h e (Designator_then d' ds') b' h' e' =
+      let one = designator_only ks d a h.0 h.1 d' h'.0 h'.1 in
+      let two = designators_only ks ds h.0 b h.2 e ds' b' (subst (λ x. HoldDesignators ks ds' x b') (sym one.1) h'.2) e' in
+      (ap (λ x. Designator_then x ds) one.0 ∙ ap (λ x. Designator_then d' x) two.0, two.1)
+
+  pub association_only : (ks : List Kind) → (x : Association) → (a b : ℕ) → HoldsAssociation ks x a b → Stops ks 2 b
+      → (x' : Association) → (b' : ℕ) → HoldsAssociation ks x' a b' → Stops ks 2 b' → (x ≡ x') × (b ≡ b')
+  association_only ks (Typed_of t c e) a b h s (Typed_of t' c' e') b' h' s' =
+      let one = type_only ks t a c h.0 (ap ends_type h.1) t' c' h'.0 (ap ends_type h'.1) in
+      let two =
+      placed ks 2 e (c + 1) b (omega arith) (h.2, h.3) s (own_only ks e (c + 1) b h.3 (looser ks 2 (rank ks e) b h.2 s))
+      e' b' (h'.2, subst (λ x. Holds ks e' (x + 1) b') (sym one.1) h'.3) s' in (
+        ap (λ x. Typed_of x c e) one.0 ∙ ap (λ x. Typed_of t' x e) one.1 ∙ ap (λ x. Typed_of t' c' x) two.0,
+        two.1,
+      )
+  association_only ks (Typed_of t c e) a b h s (Default_of d c' e') b' h' s' =
+      absurd (true≢false (sym (type_starts ks t a c h.0) ∙ ap starts_type h'.1))
+  association_only ks (Default_of d c e) a b h s (Typed_of t' c' e') b' h' s' =
+      absurd (true≢false (sym (type_starts ks t' a c' h'.0) ∙ ap starts_type h.1))
+  association_only ks (Default_of d c e) a b h s (Default_of d' c' e') b' h' s' =
+      let one : c ≡ c' = h.2 ∙ sym h'.2 in
+      let two =
+      placed ks 2 e (c + 1) b (omega arith) (h.4, h.5) s (own_only ks e (c + 1) b h.5 (looser ks 2 (rank ks e) b h.4 s))
+      e' b' (h'.4, subst (λ x. Holds ks e' (x + 1) b') (sym one) h'.5) s' in (
+        ap (λ x. Default_of x c e) (h.0 ∙ sym h'.0) ∙ ap (λ x. Default_of d' x e) one ∙ ap (λ x. Default_of d' c' x) two.0,
+        two.1,
+      )
+
+  pub associations_only : (ks : List Kind) → (xs : Associations) → (a b : ℕ) → HoldAssociations ks xs a b → kind_at ks b ≡ CloseParen
+      → OnlyAssociations ks a xs b
+  associations_only ks No_associations a b h l No_associations b' h' l' = (refl, h ∙ sym h')
+  associations_only ks No_associations a b h l (Association_then o x xs) b' h' l' =
+      clash (kind_at ks a) CloseParen Comma (ap (λ x. kind_at ks x) (sym h) ∙ l) h'.2 (λ x. omega (arith, x))
+  associations_only ks (Association_then o x xs) a b h l No_associations b' h' l' =
+      clash (kind_at ks a) CloseParen Comma (ap (λ x. kind_at ks x) (sym h') ∙ l') h.2 (λ x. omega (arith, x))
+  associations_only ks (Association_then o x xs) a b h l (Association_then o' x' xs') b' h' l' =
+      let one =
+      association_only
+      ks
+      x
+      (a + 1)
+      h.0
+      h.3
+      (associations_begin ks xs h.0 b h.4 l)
+      x'
+      h'.0
+      h'.3
+      (associations_begin ks xs' h'.0 b' h'.4 l') in
+      let two = associations_only ks xs h.0 b h.4 l xs' b' (subst (λ y. HoldAssociations ks xs' y b') (sym one.1) h'.4) l' in (
+        ap (λ y. Association_then y x xs) (h.1 ∙ sym h'.1)
+            ∙ ap (λ y. Association_then o' y xs) one.0
+            ∙ ap (λ y. Association_then o' x' y) two.0,
+        two.1,
+      )
 
   pub behind_only : (ks : List Kind) → (l : ℕ) → (x : Behind) → (a m : ℕ) → HoldsBehind ks l x a m → Stops ks (l + 1) m → OnlyBehind ks l a x m
   behind_only ks l (Operand_of o t) a m h s =
@@ -762,7 +1164,7 @@ mutual
       subst
       (λ k. OnlyFront ks k a (Cast_of o y c) m)
       (sym h.0)
-      (cast_only ks o y c a m (refl, h.1, h.2, h.3, h.4, h.5, h.6))
+      (cast_only ks o y c a m (refl, h.1, h.2, h.3, h.4, h.5, h.6, h.7))
   front_only ks l (Choice_of t q e c) a m h =
       let one = stops_at ks 4 q Question h.3 (omega arith) in
       let two = stops_at ks 1 c Colon h.6 (omega arith) in
@@ -781,7 +1183,7 @@ mutual
       (placed ks 4 t a q (omega arith) (h.1, h.2) one (own_only ks t a q h.2 (looser ks 4 (rank ks t) q h.1 one)))
       (placed ks 1 e (q + 1) c (omega arith) (h.4, h.5) two (own_only ks e (q + 1) c h.5 (looser ks 1 (rank ks e) c h.4 two))))
   front_only ks l (Left_of t o) a m h =
-      let end = stops_at ks 3 o Assignment h.3 (omega arith) in
+      let end = below ks o h.3 in
       let low = lowered ks 3 15 t a o (omega arith) (h.1, h.2) in
       subst
       (λ k. OnlyFront ks k a (Left_of t o) m)
@@ -810,6 +1212,7 @@ mutual
       m
       t
       b
+      (record { more = xs; behind = m; last = t; end = b; goes = h.2; reads = r })
       (front_only ks l x a h.0 h.1)
       (fronts_only ks l f xs h.0 m t b h.2 r only s)
 

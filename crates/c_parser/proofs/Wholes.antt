@@ -18,7 +18,6 @@ use Rattle.c_parser.specs.Kinds.{kind_at, ends_type}
 use Rattle.c_parser.specs.TypeMeaning.{IsTypeName, IsTypeMeaning, IsTypeCause}
 use Rattle.c_parser.specs.TypeNames.{spell_type, HoldsType}
 use Rattle.c_parser.proofs.Numbers.{Spans, numbers_span, span_numbers}
-use Rattle.c_parser.proofs.Parsing.{FailsType, OnlyType}
 use Rattle.c_parser.proofs.Types.{type_formed, type_spanned, type_held, type_only}
 
 pub front_is : (e : Stop) → IsAtFront (at_front e)
@@ -59,7 +58,13 @@ deep_cause ks (told.Syntax at) h = absurd h
 deep_cause ks (told.TooDeep at) h = h
 deep_cause ks told.NoMemory h = tt
 
--- the same for the name of a type
+-- the same for the name of a type: what a call that reads one answers where there is none, and where there is one
+abbrev pub FailsType : List Kind → ℕ → Stop → Type 0
+FailsType ks a e = (y : Naming) → (c : ℕ) → HoldsType ks y a c → ends_type (kind_at ks c) ≡ true → IsWant e
+
+abbrev pub OnlyType : List Kind → ℕ → Naming → ℕ → Type 0
+OnlyType ks a y c = (y' : Naming) → (c' : ℕ) → HoldsType ks y' a c' → ends_type (kind_at ks c') ≡ true → (y ≡ y') × (c ≡ c')
+
 ends_at_end : (ks : List Kind) → ends_type (kind_at ks (length ks)) ≡ true
 ends_at_end ks = ap ends_type (past_end ks)
 

@@ -1,15 +1,20 @@
--- The grammar of expressions (ISO C11 6.5) without `_Generic` and compound literals: what a tree spells, and which trees are proper. A case a
--- production; productions that go on to the left or to the right by themselves are lists, of one part at least.
-use Rattle.std.specs.Prelude.{◌≡◌, Bool, false, ℕ, zero, suc, ◌+◌, ◌≤◌, List, [], ◌∷◌, ◌++◌, length, Some, None, true}
-use Rattle.tree_data.specs.Trees.{Tree, Name_of, Constant_of, Text_of, Paren_of, Postfix_of, Unary_of, Binary_of, Conditional_of, Assign_of, Of_type, Behind, Operand_of, Index_of, Call_of, Call_with_of, Member_of, Step_of, Behinds, None_behind, Behind_then, Front, Operator_of, Cast_of, Choice_of, Left_of, Fronts, None_before, Front_then}
+-- The grammar of expressions (ISO C11 6.5) and of initializers (6.7.9): what a tree spells, and which trees are proper. A
+-- case a production; productions that go on to the left or to the right by themselves are lists, of one part at least.
+use Rattle.std.specs.Prelude.{◌≡◌, Bool, false, ℕ, zero, suc, ◌+◌, ◌≤◌, List, [], ◌∷◌, ◌++◌, length, Option, Some, None, true}
+use Rattle.tree_data.specs.Trees.{Tree, Name_of, Constant_of, Text_of, Paren_of, Postfix_of, Unary_of, Binary_of, Conditional_of, Assign_of, Of_type, Compound_of, Behind, Operand_of, Index_of, Call_of, Call_with_of, Member_of, Step_of, Behinds, None_behind, Behind_then, Front, Operator_of, Cast_of, Choice_of, Left_of, Fronts, None_before, Front_then, Braces, Braces_of, Initial, Value_of, List_of, Piece, Plain_of, Designated_of, Pieces, No_pieces, Piece_then, Designator, Element_of, Field_of, Designators, No_designators, Designator_then, Generic_of, Offset_of, Association, Typed_of, Default_of, Associations, No_associations, Association_then}
 use Rattle.c_parser.specs.declared.answers.ParseError.{ParseError}
 use Rattle.c_parser.specs.declared.answers.ParseError.TheVariants.{Syntax, TooDeep, NoMemory}
 use Rattle.c_parser.specs.declared.kinds.Kind.{Kind}
-use Rattle.c_parser.specs.declared.kinds.Kind.TheVariants.{Identifier, Constant, Text, OpenParen, CloseParen, OpenBracket, CloseBracket, Member, Step, Question, Colon, Assignment}
+use Rattle.c_parser.specs.declared.kinds.Kind.TheVariants.{Identifier, Constant, Text, OpenParen, CloseParen, OpenBracket, CloseBracket, OpenBrace, CloseBrace, Step, Question, Colon, Comma, Generic, OffsetOf, Default}
 use Rattle.c_parser.specs.Brackets.{too_deep}
-use Rattle.c_parser.specs.Kinds.{kind_at, level_at, operator_at, casts_at, is_size, is_word}
+use Rattle.c_parser.specs.Kinds.{kind_at, level_at, is_prefix, casts_at, is_size, is_word, is_equals, is_dot, is_member}
 use Rattle.c_parser.specs.TypeNames.{spell_type, IsType}
 use Rattle.c_parser.specs.Levels.{expression, assignment_expression, conditional_expression, logical_OR_expression, unary_expression, postfix_expression, primary_expression, IsBinary, behinds_level, rank}
+
+-- of a comma that may be left out
+abbrev pub spell_comma : Option ℕ → List ℕ
+spell_comma None = []
+spell_comma (Some o) = o ∷ []
 
 -- the numbers of a tree's tokens, in order
 abbrev mutual
@@ -24,6 +29,9 @@ abbrev mutual
   spell (Conditional_of fs t) = spell_fronts fs ++ spell t
   spell (Assign_of fs t) = spell_fronts fs ++ spell t
   spell (Of_type k o t c) = k ∷ o ∷ (spell_type t ++ c ∷ [])
+  spell (Compound_of o t c i) = o ∷ (spell_type t ++ (c ∷ spell_braces i))
+  spell (Generic_of k o t gs c) = k ∷ o ∷ (spell t ++ (spell_associations gs ++ c ∷ []))
+  spell (Offset_of k o t m n bs c) = k ∷ o ∷ (spell_type t ++ (m ∷ n ∷ (spell_behinds bs ++ c ∷ [])))
 
   pub spell_behind : Behind → List ℕ
   spell_behind (Operand_of o t) = o ∷ spell t
@@ -47,9 +55,57 @@ abbrev mutual
   spell_fronts None_before = []
   spell_fronts (Front_then f fs) = spell_front f ++ spell_fronts fs
 
+  pub spell_braces : Braces → List ℕ
+  spell_braces (Braces_of o p ps t c) = o ∷ (spell_piece p ++ (spell_pieces ps ++ (spell_comma t ++ c ∷ [])))
+
+  pub spell_initial : Initial → List ℕ
+  spell_initial (Value_of t) = spell t
+  spell_initial (List_of i) = spell_braces i
+
+  pub spell_piece : Piece → List ℕ
+  spell_piece (Plain_of i) = spell_initial i
+  spell_piece (Designated_of d ds e i) = spell_designator d ++ (spell_designators ds ++ (e ∷ spell_initial i))
+
+  pub spell_pieces : Pieces → List ℕ
+  spell_pieces No_pieces = []
+  spell_pieces (Piece_then o p ps) = o ∷ (spell_piece p ++ spell_pieces ps)
+
+  pub spell_designator : Designator → List ℕ
+  spell_designator (Element_of o t c) = o ∷ (spell t ++ c ∷ [])
+  spell_designator (Field_of o n) = o ∷ n ∷ []
+
+  pub spell_designators : Designators → List ℕ
+  spell_designators No_designators = []
+  spell_designators (Designator_then d ds) = spell_designator d ++ spell_designators ds
+
+  pub spell_association : Association → List ℕ
+  spell_association (Typed_of t c e) = spell_type t ++ (c ∷ spell e)
+  spell_association (Default_of d c e) = d ∷ c ∷ spell e
+
+  pub spell_associations : Associations → List ℕ
+  spell_associations No_associations = []
+  spell_associations (Association_then o x xs) = o ∷ (spell_association x ++ spell_associations xs)
+
 abbrev pub IsMore : Behinds → Type 0
 IsMore None_behind = ⊥
 IsMore (Behind_then b bs) = Unit {0}
+
+abbrev pub IsAny : Associations → Type 0
+IsAny No_associations = ⊥
+IsAny (Association_then o x xs) = Unit {0}
+
+-- what selects within a member: . identifier, or [ expression ]
+abbrev pub IsStep : List Kind → Behind → Type 0
+IsStep kinds (Operand_of o t) = ⊥
+IsStep kinds (Index_of o t c) = Unit {0}
+IsStep kinds (Call_of o c) = ⊥
+IsStep kinds (Call_with_of o t bs c) = ⊥
+IsStep kinds (Member_of o n) = is_dot (kind_at kinds o) ≡ true
+IsStep kinds (Step_of o) = ⊥
+
+abbrev pub AreSteps : List Kind → Behinds → Type 0
+AreSteps kinds None_behind = Unit {0}
+AreSteps kinds (Behind_then b bs) = IsStep kinds b × AreSteps kinds bs
 
 abbrev pub IsBefore : Fronts → Type 0
 IsBefore None_before = ⊥
@@ -68,6 +124,10 @@ AreTexts kinds (n ∷ ns) = (kind_at kinds n ≡ Text) × GoOn kinds n ns
 abbrev pub goes_on : Tree → Bool
 goes_on (Of_type k o t c) = false
 goes_on _ = true
+
+abbrev pub IsComma : List Kind → Option ℕ → Type 0
+IsComma kinds None = Unit {0}
+IsComma kinds (Some o) = kind_at kinds o ≡ Comma
 
 -- each part of the tree is what the tree's production has there; `l ≤ rank kinds t` says that t is of the nonterminal l
 abbrev mutual
@@ -107,11 +167,37 @@ abbrev mutual
       IsBefore fs
       × AreInFront kinds assignment_expression fs
       × (conditional_expression ≤ rank kinds t) × IsFormed kinds t
-  -- 6.5.3 sizeof ( type-name ) | _Alignof ( type-name )
+  -- 6.5.3 sizeof ( type-name ) | _Alignof ( type-name ), where no `{` makes the front of a compound literal of it
   IsFormed kinds (Of_type k o t c) =
       (is_size (kind_at kinds k) ≡ true)
       × (kind_at kinds o ≡ OpenParen)
       × IsType kinds t
+      × (kind_at kinds c ≡ CloseParen)
+      × (kind_at kinds (c + 1) ≡ OpenBrace → ⊥)
+  -- 6.5.2 postfix-expression : ( type-name ) { initializer-list } | ( type-name ) { initializer-list , }
+  IsFormed kinds (Compound_of o t c i) =
+      (kind_at kinds o ≡ OpenParen)
+      × IsType kinds t
+      × (kind_at kinds c ≡ CloseParen)
+      × AreBraced kinds i
+  -- 6.5.1.1 generic-selection : _Generic ( assignment-expression , generic-assoc-list )
+  IsFormed kinds (Generic_of k o t gs c) =
+      (kind_at kinds k ≡ Generic)
+      × (kind_at kinds o ≡ OpenParen)
+      × (assignment_expression ≤ rank kinds t) × IsFormed kinds t
+      × IsAny gs
+      × AreAssociated kinds gs
+      × (kind_at kinds c ≡ CloseParen)
+  -- __offsetof ( type-name , member-designator ), which `offsetof` stands for (7.19): its member-designator is an identifier,
+  -- and . identifier and [ expression ] behind it
+  IsFormed kinds (Offset_of k o t m n bs c) =
+      (kind_at kinds k ≡ OffsetOf)
+      × (kind_at kinds o ≡ OpenParen)
+      × IsType kinds t
+      × (kind_at kinds m ≡ Comma)
+      × (is_word (kind_at kinds n) ≡ true)
+      × AreSteps kinds bs
+      × AreBehind kinds postfix_expression bs
       × (kind_at kinds c ≡ CloseParen)
 
   -- what an expression of the nonterminal l goes on with
@@ -140,7 +226,7 @@ abbrev mutual
   -- . identifier | -> identifier
   IsBehind kinds l (Member_of o n) =
       (l ≡ postfix_expression)
-      × (kind_at kinds o ≡ Member)
+      × (is_member (kind_at kinds o) ≡ true)
       × (is_word (kind_at kinds n) ≡ true)
   -- ++ | --
   IsBehind kinds l (Step_of o) =
@@ -156,14 +242,16 @@ abbrev mutual
   -- 6.5.3 ++ | -- | unary-operator | sizeof
   IsInFront kinds l (Operator_of o) =
       (l ≡ unary_expression)
-      × (operator_at kinds o ≡ true)
-  -- 6.5.4 ( type-name ), but not behind ++, -- and sizeof, whose operands are unary-expressions (6.5.3)
+      × (is_prefix (kind_at kinds o) ≡ true)
+  -- 6.5.4 ( type-name ), but not behind ++, -- and sizeof, whose operands are unary-expressions (6.5.3), and not in front
+  -- of a `{`, with which no operand begins
   IsInFront kinds l (Cast_of o t c) =
       (l ≡ unary_expression)
       × (kind_at kinds o ≡ OpenParen)
       × (casts_at kinds o ≡ true)
       × IsType kinds t
       × (kind_at kinds c ≡ CloseParen)
+      × (kind_at kinds (c + 1) ≡ OpenBrace → ⊥)
   -- 6.5.15 logical-OR-expression ? expression :
   IsInFront kinds l (Choice_of t q e c) =
       (l ≡ conditional_expression)
@@ -175,11 +263,70 @@ abbrev mutual
   IsInFront kinds l (Left_of t o) =
       (l ≡ assignment_expression)
       × (unary_expression ≤ rank kinds t) × IsFormed kinds t
-      × (kind_at kinds o ≡ Assignment)
+      × (level_at kinds o ≡ assignment_expression)
 
   pub AreInFront : List Kind → ℕ → Fronts → Type 0
   AreInFront kinds l None_before = Unit {0}
   AreInFront kinds l (Front_then f fs) = IsInFront kinds l f × AreInFront kinds l fs
+
+  -- 6.7.9 { initializer-list } | { initializer-list , }
+  pub AreBraced : List Kind → Braces → Type 0
+  AreBraced kinds (Braces_of o p ps t c) =
+      (kind_at kinds o ≡ OpenBrace)
+      × IsPiece kinds p
+      × ArePieces kinds ps
+      × IsComma kinds t
+      × (kind_at kinds c ≡ CloseBrace)
+
+  -- 6.7.9 initializer : assignment-expression | { initializer-list } | { initializer-list , }
+  pub IsInitial : List Kind → Initial → Type 0
+  IsInitial kinds (Value_of t) = (assignment_expression ≤ rank kinds t) × IsFormed kinds t
+  IsInitial kinds (List_of i) = AreBraced kinds i
+
+  -- 6.7.9 designation opt initializer, where designation : designator-list =
+  pub IsPiece : List Kind → Piece → Type 0
+  IsPiece kinds (Plain_of i) = IsInitial kinds i
+  IsPiece kinds (Designated_of d ds e i) =
+      IsDesignator kinds d
+      × AreDesignators kinds ds
+      × (is_equals (kind_at kinds e) ≡ true)
+      × IsInitial kinds i
+
+  -- 6.7.9 initializer-list : initializer-list , designation opt initializer
+  pub ArePieces : List Kind → Pieces → Type 0
+  ArePieces kinds No_pieces = Unit {0}
+  ArePieces kinds (Piece_then o p ps) = (kind_at kinds o ≡ Comma) × IsPiece kinds p × ArePieces kinds ps
+
+  -- 6.7.9 designator : [ constant-expression ] | . identifier
+  pub IsDesignator : List Kind → Designator → Type 0
+  IsDesignator kinds (Element_of o t c) =
+      (kind_at kinds o ≡ OpenBracket)
+      × (conditional_expression ≤ rank kinds t) × IsFormed kinds t
+      × (kind_at kinds c ≡ CloseBracket)
+  IsDesignator kinds (Field_of o n) =
+      (is_dot (kind_at kinds o) ≡ true)
+      × (is_word (kind_at kinds n) ≡ true)
+
+  pub AreDesignators : List Kind → Designators → Type 0
+  AreDesignators kinds No_designators = Unit {0}
+  AreDesignators kinds (Designator_then d ds) = IsDesignator kinds d × AreDesignators kinds ds
+
+  -- 6.5.1.1 generic-association : type-name : assignment-expression | default : assignment-expression
+  pub IsAssociated : List Kind → Association → Type 0
+  IsAssociated kinds (Typed_of t c e) =
+      IsType kinds t
+      × (kind_at kinds c ≡ Colon)
+      × (assignment_expression ≤ rank kinds e) × IsFormed kinds e
+  IsAssociated kinds (Default_of d c e) =
+      (kind_at kinds d ≡ Default)
+      × (kind_at kinds c ≡ Colon)
+      × (assignment_expression ≤ rank kinds e) × IsFormed kinds e
+
+  -- 6.5.1.1 generic-assoc-list : generic-association | generic-assoc-list , generic-association
+  pub AreAssociated : List Kind → Associations → Type 0
+  AreAssociated kinds No_associations = Unit {0}
+  AreAssociated kinds (Association_then o x xs) =
+      (kind_at kinds o ≡ Comma) × IsAssociated kinds x × AreAssociated kinds xs
 
 -- the tree is of the nonterminal n
 abbrev pub Proper : List Kind → ℕ → Tree → Type 0

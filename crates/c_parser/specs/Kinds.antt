@@ -1,13 +1,14 @@
 -- The kinds of tokens by their numbers, and what those of operators begin or go on with (ISO C11 6.5).
 use Rattle.std.specs.Prelude.{ℕ, ◌+◌, ◌-◌, ◌<◌, ◌&&◌, not, List, length, slice_index_or, Bool, true, false}
 use Rattle.c_parser.specs.declared.kinds.Kind.{Kind}
-use Rattle.c_parser.specs.declared.kinds.Kind.TheVariants.{Identifier, TypeName, OpenParen, CloseParen, OpenBracket, Member, Step, SizeOf, AlignOf, TypeWord, Qualifier, Tag, Complement, Question, Assignment, Comma, Or, And, Bar, Caret, Ampersand, Equality, Relation, Shift, Sign, Star, Quotient, End}
+use Rattle.c_parser.specs.declared.kinds.Kind.TheVariants.{Equals, Dot, Identifier, TypeName, OpenParen, CloseParen, OpenBracket, Member, Step, SizeOf, AlignOf, TypeWord, Qualifier, Tag, Complement, Question, Assignment, Comma, Or, And, Bar, Caret, Ampersand, Equality, Relation, Shift, Sign, Star, Quotient, Colon, End}
 
 -- the level of precedence at which an expression goes on with such a token behind it, 0 where it doesn't: 1 for `,`,
 -- 2 for assignment, 3 for `?`, from `||` at 4 to `*` at 13, 16 for postfix operators
 abbrev pub level_of : Kind → ℕ
 level_of Comma = 1
 level_of Assignment = 2
+level_of Equals = 2
 level_of Question = 3
 level_of Or = 4
 level_of And = 5
@@ -23,6 +24,7 @@ level_of Quotient = 13
 level_of OpenBracket = 16
 level_of OpenParen = 16
 level_of Member = 16
+level_of Dot = 16
 level_of Step = 16
 level_of _ = 0
 
@@ -41,6 +43,7 @@ abbrev pub is_suffix : Kind → Bool
 is_suffix OpenBracket = true
 is_suffix OpenParen = true
 is_suffix Member = true
+is_suffix Dot = true
 is_suffix Step = true
 is_suffix _ = false
 
@@ -55,6 +58,27 @@ abbrev pub is_tight : Kind → Bool
 is_tight Step = true
 is_tight SizeOf = true
 is_tight _ = false
+
+-- `=` among the assignment operators, and `.` of `.` and `->`, where an initializer is designated (6.7.9)
+abbrev pub is_equals : Kind → Bool
+is_equals Equals = true
+is_equals _ = false
+
+-- `.` and `->`, with a member behind them (6.5.2)
+abbrev pub is_member : Kind → Bool
+is_member Member = true
+is_member Dot = true
+is_member _ = false
+
+abbrev pub is_dot : Kind → Bool
+is_dot Dot = true
+is_dot _ = false
+
+-- what a designator begins with, and no initializer (6.7.9)
+abbrev pub is_designating : Kind → Bool
+is_designating OpenBracket = true
+is_designating Dot = true
+is_designating _ = false
 
 -- an identifier, whether or not it is a typedef name
 abbrev pub is_word : Kind → Bool
@@ -80,9 +104,11 @@ starts_type Tag = true
 starts_type TypeName = true
 starts_type _ = false
 
--- in front of such a token the name of a type may end: `)`, and behind all tokens
+-- in front of such a token the name of a type may end: `)`, `:`, `,`, and behind all tokens
 abbrev pub ends_type : Kind → Bool
 ends_type CloseParen = true
+ends_type Colon = true
+ends_type Comma = true
 ends_type End = true
 ends_type _ = false
 
@@ -101,9 +127,9 @@ is_opening _ = false
 unfoldable pub type_at : List Kind → ℕ → Bool
 type_at kinds at = is_opening (kind_at kinds at) && starts_type (kind_at kinds (at + 1))
 
--- a unary operator stands here, in front of an operand
-unfoldable pub operator_at : List Kind → ℕ → Bool
-operator_at kinds at = is_prefix (kind_at kinds at) && not (is_size (kind_at kinds at) && type_at kinds (at + 1))
+-- the size or alignment of a type name in parentheses begins here
+unfoldable pub size_at : List Kind → ℕ → Bool
+size_at kinds at = is_size (kind_at kinds at) && type_at kinds (at + 1)
 
 -- no operator stands in front of this token that takes a unary-expression
 unfoldable pub casts_at : List Kind → ℕ → Bool

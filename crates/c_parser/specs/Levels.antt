@@ -1,7 +1,7 @@
 -- The nonterminals of expressions (ISO C11 6.5.1 to 6.5.17) as levels of precedence: a tree of one is a tree of each lower
 -- one, as the productions `logical-AND-expression : inclusive-OR-expression` and their like say.
 use Rattle.std.specs.Prelude.{◌≡◌, ℕ, ◌≤◌, List}
-use Rattle.tree_data.specs.Trees.{Tree, Name_of, Constant_of, Text_of, Paren_of, Postfix_of, Unary_of, Binary_of, Conditional_of, Assign_of, Operand_of, Index_of, Call_of, Call_with_of, Member_of, Step_of, Behinds, None_behind, Behind_then, Fronts, None_before, Front_then, Operator_of, Cast_of, Choice_of, Left_of, Of_type}
+use Rattle.tree_data.specs.Trees.{Tree, Name_of, Constant_of, Text_of, Paren_of, Postfix_of, Unary_of, Binary_of, Conditional_of, Assign_of, Operand_of, Index_of, Call_of, Call_with_of, Member_of, Step_of, Behinds, None_behind, Behind_then, Fronts, None_before, Front_then, Operator_of, Cast_of, Choice_of, Left_of, Of_type, Compound_of, Generic_of, Offset_of}
 use Rattle.c_parser.specs.declared.kinds.Kind.{Kind}
 use Rattle.c_parser.specs.Kinds.{level_at}
 
@@ -70,3 +70,7 @@ rank kinds (Binary_of f bs) = behinds_level kinds bs
 rank kinds (Conditional_of fs t) = conditional_expression
 rank kinds (Assign_of fs t) = assignment_expression
 rank kinds (Of_type k o t c) = primary_expression
+-- a compound literal is a postfix-expression with which nothing else begins; operators may stand behind it as behind these
+rank kinds (Compound_of o t c i) = primary_expression
+rank kinds (Generic_of k o t gs c) = primary_expression
+rank kinds (Offset_of k o t m n bs c) = primary_expression

@@ -1,3 +1,4 @@
+pub mod Beginnings
 pub mod Brackets
 pub mod Grammar
 pub mod Joining

@@ -1,15 +1,15 @@
 -- A proper tree by the place at which its tokens begin and the place behind them, which is what the parser reads.
-use Rattle.std.specs.Prelude.{◌≡◌, ℕ, ◌+◌, ◌<◌, ◌≤◌, List, [], ◌∷◌, length, Result, Ok, Err, Some, true, false}
-use Rattle.tree_data.specs.Trees.{Tree, Name_of, Constant_of, Text_of, Paren_of, Postfix_of, Unary_of, Binary_of, Conditional_of, Assign_of, Of_type, Behind, Operand_of, Index_of, Call_of, Call_with_of, Member_of, Step_of, Behinds, None_behind, Behind_then, Front, Operator_of, Cast_of, Choice_of, Left_of, Fronts, None_before, Front_then}
+use Rattle.std.specs.Prelude.{◌≡◌, ℕ, ◌+◌, ◌<◌, ◌≤◌, List, [], ◌∷◌, length, Option, None, Result, Ok, Err, Some, true}
+use Rattle.tree_data.specs.Trees.{Tree, Name_of, Constant_of, Text_of, Paren_of, Postfix_of, Unary_of, Binary_of, Conditional_of, Assign_of, Of_type, Compound_of, Behind, Operand_of, Index_of, Call_of, Call_with_of, Member_of, Step_of, Behinds, None_behind, Behind_then, Front, Operator_of, Cast_of, Choice_of, Left_of, Fronts, None_before, Front_then, Braces, Braces_of, Initial, Value_of, List_of, Piece, Plain_of, Designated_of, Pieces, No_pieces, Piece_then, Designator, Element_of, Field_of, Designators, No_designators, Designator_then, Generic_of, Offset_of, Association, Typed_of, Default_of, Associations, No_associations, Association_then}
 use Rattle.c_parser.specs.declared.answers.ParseError.{ParseError}
 use Rattle.c_parser.specs.declared.answers.ParseError.TheVariants as told
 use Rattle.c_parser.specs.declared.answers.Stop.{Stop}
 use Rattle.c_parser.specs.declared.answers.Stop.TheVariants.{Syntax, NoMemory}
 use Rattle.c_parser.specs.declared.kinds.Kind.{Kind}
-use Rattle.c_parser.specs.declared.kinds.Kind.TheVariants.{Identifier, Constant, Text, OpenParen, CloseParen, OpenBracket, CloseBracket, Member, Step, Question, Colon, Assignment}
+use Rattle.c_parser.specs.declared.kinds.Kind.TheVariants.{Identifier, Constant, Text, OpenParen, CloseParen, OpenBracket, CloseBracket, OpenBrace, CloseBrace, Step, Question, Colon, Comma, Generic, OffsetOf, Default}
 use Rattle.c_parser.specs.Brackets.{too_deep}
-use Rattle.c_parser.specs.Grammar.{IsMore, IsBefore, goes_on}
-use Rattle.c_parser.specs.Kinds.{kind_at, level_at, operator_at, casts_at, type_at, is_size, is_word}
+use Rattle.c_parser.specs.Grammar.{IsMore, IsAny, IsBefore, AreSteps, goes_on}
+use Rattle.c_parser.specs.Kinds.{kind_at, level_at, is_prefix, casts_at, is_size, is_word, is_equals, is_dot, is_member}
 use Rattle.c_parser.specs.TypeNames.{HoldsType}
 use Rattle.tree_data.specs.Names.{Naming}
 use Rattle.c_parser.specs.Levels.{IsBinary, behinds_level, rank}
@@ -17,6 +17,11 @@ use Rattle.c_parser.specs.Levels.{IsBinary, behinds_level, rank}
 abbrev pub HoldTexts : List Kind → List ℕ → ℕ → ℕ → Type 0
 HoldTexts ks [] a b = (b ≡ a) × (kind_at ks a ≡ Text → ⊥)
 HoldTexts ks (n ∷ ns) a b = (n ≡ a) × (kind_at ks a ≡ Text) × HoldTexts ks ns (a + 1) b
+
+-- a comma that may be left out
+abbrev pub HoldsComma : List Kind → Option ℕ → ℕ → ℕ → Type 0
+HoldsComma ks None a b = b ≡ a
+HoldsComma ks (Some o) a b = (o ≡ a) × (kind_at ks a ≡ Comma) × (b ≡ a + 1)
 
 abbrev mutual
   pub Holds : List Kind → Tree → ℕ → ℕ → Type 0
@@ -44,6 +49,23 @@ abbrev mutual
       × (o ≡ a + 1) × (kind_at ks o ≡ OpenParen)
       × HoldsType ks t (o + 1) c
       × (kind_at ks c ≡ CloseParen) × (b ≡ c + 1)
+      × (kind_at ks b ≡ OpenBrace → ⊥)
+  Holds ks (Compound_of o t c i) a b =
+      (o ≡ a) × (kind_at ks a ≡ OpenParen)
+      × HoldsType ks t (a + 1) c
+      × (kind_at ks c ≡ CloseParen)
+      × HoldBraces ks i (c + 1) b
+  Holds ks (Generic_of k o t gs c) a b =
+      (m : ℕ) × (k ≡ a) × (kind_at ks a ≡ Generic) × (o ≡ a + 1) × (kind_at ks o ≡ OpenParen)
+      × (2 ≤ rank ks t) × Holds ks t (o + 1) m
+      × IsAny gs × HoldAssociations ks gs m c
+      × (kind_at ks c ≡ CloseParen) × (b ≡ c + 1)
+  Holds ks (Offset_of k o t m n bs c) a b =
+      (k ≡ a) × (kind_at ks a ≡ OffsetOf) × (o ≡ a + 1) × (kind_at ks o ≡ OpenParen)
+      × HoldsType ks t (o + 1) m
+      × (kind_at ks m ≡ Comma) × (n ≡ m + 1) × (is_word (kind_at ks n) ≡ true)
+      × AreSteps ks bs × HoldBehinds ks 16 bs (n + 1) c
+      × (kind_at ks c ≡ CloseParen) × (b ≡ c + 1)
 
   pub HoldsBehind : List Kind → ℕ → Behind → ℕ → ℕ → Type 0
   HoldsBehind ks l (Operand_of o t) a b =
@@ -60,7 +82,7 @@ abbrev mutual
       × HoldBehinds ks 1 bs m c
       × (kind_at ks c ≡ CloseParen) × (b ≡ c + 1)
   HoldsBehind ks l (Member_of o n) a b =
-      (l ≡ 16) × (o ≡ a) × (kind_at ks a ≡ Member) × (n ≡ a + 1) × (is_word (kind_at ks n) ≡ true) × (b ≡ n + 1)
+      (l ≡ 16) × (o ≡ a) × (is_member (kind_at ks a) ≡ true) × (n ≡ a + 1) × (is_word (kind_at ks n) ≡ true) × (b ≡ n + 1)
   HoldsBehind ks l (Step_of o) a b = (l ≡ 16) × (o ≡ a) × (kind_at ks a ≡ Step) × (b ≡ a + 1)
 
   pub HoldBehinds : List Kind → ℕ → Behinds → ℕ → ℕ → Type 0
@@ -69,21 +91,70 @@ abbrev mutual
 
   pub HoldsFront : List Kind → ℕ → Front → ℕ → ℕ → Type 0
   HoldsFront ks l (Operator_of o) a b =
-      (l ≡ 15) × (o ≡ a) × (operator_at ks a ≡ true) × (b ≡ a + 1)
+      (l ≡ 15) × (o ≡ a) × (is_prefix (kind_at ks a) ≡ true) × (b ≡ a + 1)
   HoldsFront ks l (Cast_of o t c) a b =
       (l ≡ 15) × (o ≡ a) × (kind_at ks a ≡ OpenParen) × (casts_at ks a ≡ true)
       × HoldsType ks t (a + 1) c
       × (kind_at ks c ≡ CloseParen) × (b ≡ c + 1)
+      × (kind_at ks b ≡ OpenBrace → ⊥)
   HoldsFront ks l (Choice_of t q e c) a b =
       (l ≡ 3) × (4 ≤ rank ks t) × Holds ks t a q × (kind_at ks q ≡ Question)
       × (1 ≤ rank ks e) × Holds ks e (q + 1) c
       × (kind_at ks c ≡ Colon) × (b ≡ c + 1)
   HoldsFront ks l (Left_of t o) a b =
-      (l ≡ 2) × (15 ≤ rank ks t) × Holds ks t a o × (kind_at ks o ≡ Assignment) × (b ≡ o + 1)
+      (l ≡ 2) × (15 ≤ rank ks t) × Holds ks t a o × (level_at ks o ≡ 2) × (b ≡ o + 1)
 
   pub HoldFronts : List Kind → ℕ → Fronts → ℕ → ℕ → Type 0
   HoldFronts ks l None_before a b = b ≡ a
   HoldFronts ks l (Front_then x xs) a b = (m : ℕ) × HoldsFront ks l x a m × HoldFronts ks l xs m b
+
+  pub HoldBraces : List Kind → Braces → ℕ → ℕ → Type 0
+  HoldBraces ks (Braces_of o p ps t c) a b =
+      (m : ℕ) × (k : ℕ) × (o ≡ a) × (kind_at ks a ≡ OpenBrace)
+      × HoldsPiece ks p (a + 1) m
+      × HoldPieces ks ps m k
+      × HoldsComma ks t k c
+      × (kind_at ks c ≡ CloseBrace) × (b ≡ c + 1)
+
+  pub HoldsInitial : List Kind → Initial → ℕ → ℕ → Type 0
+  HoldsInitial ks (Value_of t) a b = (2 ≤ rank ks t) × Holds ks t a b
+  HoldsInitial ks (List_of i) a b = HoldBraces ks i a b
+
+  pub HoldsPiece : List Kind → Piece → ℕ → ℕ → Type 0
+  HoldsPiece ks (Plain_of i) a b = HoldsInitial ks i a b
+  HoldsPiece ks (Designated_of d ds e i) a b =
+      (m : ℕ) × HoldsDesignator ks d a m × HoldDesignators ks ds m e
+      × (is_equals (kind_at ks e) ≡ true)
+      × HoldsInitial ks i (e + 1) b
+
+  pub HoldPieces : List Kind → Pieces → ℕ → ℕ → Type 0
+  HoldPieces ks No_pieces a b = b ≡ a
+  HoldPieces ks (Piece_then o p ps) a b =
+      (m : ℕ) × (o ≡ a) × (kind_at ks a ≡ Comma) × HoldsPiece ks p (a + 1) m × HoldPieces ks ps m b
+
+  pub HoldsDesignator : List Kind → Designator → ℕ → ℕ → Type 0
+  HoldsDesignator ks (Element_of o t c) a b =
+      (o ≡ a) × (kind_at ks a ≡ OpenBracket)
+      × (3 ≤ rank ks t) × Holds ks t (a + 1) c
+      × (kind_at ks c ≡ CloseBracket) × (b ≡ c + 1)
+  HoldsDesignator ks (Field_of o n) a b =
+      (o ≡ a) × (is_dot (kind_at ks a) ≡ true) × (n ≡ a + 1) × (is_word (kind_at ks n) ≡ true) × (b ≡ n + 1)
+
+  pub HoldDesignators : List Kind → Designators → ℕ → ℕ → Type 0
+  HoldDesignators ks No_designators a b = b ≡ a
+  HoldDesignators ks (Designator_then d ds) a b = (m : ℕ) × HoldsDesignator ks d a m × HoldDesignators ks ds m b
+
+  pub HoldsAssociation : List Kind → Association → ℕ → ℕ → Type 0
+  HoldsAssociation ks (Typed_of t c e) a b =
+      HoldsType ks t a c × (kind_at ks c ≡ Colon) × (2 ≤ rank ks e) × Holds ks e (c + 1) b
+  HoldsAssociation ks (Default_of d c e) a b =
+      (d ≡ a) × (kind_at ks a ≡ Default) × (c ≡ a + 1) × (kind_at ks c ≡ Colon)
+      × (2 ≤ rank ks e) × Holds ks e (c + 1) b
+
+  pub HoldAssociations : List Kind → Associations → ℕ → ℕ → Type 0
+  HoldAssociations ks No_associations a b = b ≡ a
+  HoldAssociations ks (Association_then o x xs) a b =
+      (m : ℕ) × (o ≡ a) × (kind_at ks a ≡ Comma) × HoldsAssociation ks x (a + 1) m × HoldAssociations ks xs m b
 
 -- a tree of the nonterminal n stands from a to b
 abbrev pub Reads : List Kind → ℕ → Tree → ℕ → ℕ → Type 0
@@ -117,16 +188,66 @@ pub record FoundBehinds (ks : List Kind) (l a : ℕ) (xs : Behinds) (b : ℕ) : 
   pub forth : a ≤ b
   pub inside : b ≤ length ks
 
+-- what stands in front of an operand, where no operand stands
 pub record FoundFront (ks : List Kind) (l a : ℕ) (x : Front) (b : ℕ) : Type 0 where
   pub reads : HoldsFront ks l x a b
+  pub bare : (t : Tree) → (c : ℕ) → Reads ks (l + 1) t a c → ⊥
   pub forth : a < b
   pub inside : b ≤ length ks
 
 -- all unary operators and casts that stand here
 pub record FoundPrefixes (ks : List Kind) (a : ℕ) (xs : Fronts) (b : ℕ) : Type 0 where
   pub reads : HoldFronts ks 15 xs a b
-  pub no_operator : operator_at ks b ≡ false
-  pub no_cast : type_at ks b ≡ false
+  pub forth : a ≤ b
+  pub inside : b ≤ length ks
+
+pub record FoundBraces (ks : List Kind) (a : ℕ) (x : Braces) (b : ℕ) : Type 0 where
+  pub reads : HoldBraces ks x a b
+  pub forth : a < b
+  pub inside : b ≤ length ks
+
+pub record FoundInitial (ks : List Kind) (a : ℕ) (x : Initial) (b : ℕ) : Type 0 where
+  pub reads : HoldsInitial ks x a b
+  pub forth : a < b
+  pub inside : b ≤ length ks
+
+pub record FoundPiece (ks : List Kind) (a : ℕ) (x : Piece) (b : ℕ) : Type 0 where
+  pub reads : HoldsPiece ks x a b
+  pub forth : a < b
+  pub inside : b ≤ length ks
+
+-- all pieces behind the first one, and the last comma
+pub record FoundPieces (ks : List Kind) (a : ℕ) (xs : Pieces) (t : Option ℕ) (b : ℕ) : Type 0 where
+  pub behind : ℕ
+  pub reads : HoldPieces ks xs a behind
+  pub comma : HoldsComma ks t behind b
+  pub forth : a ≤ b
+  pub inside : b ≤ length ks
+
+pub record FoundDesignator (ks : List Kind) (a : ℕ) (x : Designator) (b : ℕ) : Type 0 where
+  pub reads : HoldsDesignator ks x a b
+  pub forth : a < b
+  pub inside : b ≤ length ks
+
+pub record FoundDesignators (ks : List Kind) (a : ℕ) (xs : Designators) (b : ℕ) : Type 0 where
+  pub reads : HoldDesignators ks xs a b
+  pub forth : a ≤ b
+  pub inside : b ≤ length ks
+
+pub record FoundAssociation (ks : List Kind) (a : ℕ) (x : Association) (b : ℕ) : Type 0 where
+  pub reads : HoldsAssociation ks x a b
+  pub forth : a < b
+  pub inside : b ≤ length ks
+
+pub record FoundAssociations (ks : List Kind) (a : ℕ) (xs : Associations) (b : ℕ) : Type 0 where
+  pub reads : HoldAssociations ks xs a b
+  pub forth : a ≤ b
+  pub inside : b ≤ length ks
+
+-- what selects within a member
+pub record FoundSteps (ks : List Kind) (a : ℕ) (xs : Behinds) (b : ℕ) : Type 0 where
+  pub reads : HoldBehinds ks 16 xs a b
+  pub are : AreSteps ks xs
   pub forth : a ≤ b
   pub inside : b ≤ length ks
 

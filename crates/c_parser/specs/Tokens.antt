@@ -8,13 +8,13 @@ use Rattle.tok_data.specs.declared.tokens.PpKind.{PpKind}
 use Rattle.tok_data.specs.declared.tokens.PpKind.TheVariants as pp
 use Rattle.tok_data.specs.Keywords.{is_keyword}
 use Rattle.c_parser.specs.declared.kinds.Kind.{Kind}
-use Rattle.c_parser.specs.declared.kinds.Kind.TheVariants.{Identifier, TypeName, TypeWord, Qualifier, Tag, SizeOf, AlignOf, Constant, Text, OpenParen, CloseParen, OpenBracket, CloseBracket, OpenBrace, CloseBrace, Member, Step, Ampersand, Star, Sign, Complement, Quotient, Shift, Relation, Equality, Caret, Bar, And, Or, Question, Colon, Assignment, Comma, Other}
+use Rattle.c_parser.specs.declared.kinds.Kind.TheVariants.{Identifier, TypeName, TypeWord, Qualifier, Tag, SizeOf, AlignOf, Constant, Text, OpenParen, CloseParen, OpenBracket, CloseBracket, OpenBrace, CloseBrace, Member, Step, Ampersand, Star, Sign, Complement, Quotient, Shift, Relation, Equality, Caret, Bar, And, Or, Question, Colon, Assignment, Equals, Dot, Comma, Generic, OffsetOf, Default, Other}
 
 -- punctuators, digraphs as what they stand for
 unfoldable pub marks : List (List ℕ × Kind)
 marks =
-    (codes "(", OpenParen) ∷ (codes ")", CloseParen) ∷ (codes ",", Comma) ∷ (codes "=", Assignment)
-    ∷ (codes "->", Member) ∷ (codes ".", Member) ∷ (codes "[", OpenBracket) ∷ (codes "]", CloseBracket)
+    (codes "(", OpenParen) ∷ (codes ")", CloseParen) ∷ (codes ",", Comma) ∷ (codes "=", Equals)
+    ∷ (codes "->", Member) ∷ (codes ".", Dot) ∷ (codes "[", OpenBracket) ∷ (codes "]", CloseBracket)
     ∷ (codes "*", Star) ∷ (codes "&", Ampersand) ∷ (codes "+", Sign) ∷ (codes "-", Sign)
     ∷ (codes "==", Equality) ∷ (codes "!=", Equality) ∷ (codes "<", Relation) ∷ (codes ">", Relation)
     ∷ (codes "<=", Relation) ∷ (codes ">=", Relation) ∷ (codes "&&", And) ∷ (codes "||", Or)
@@ -41,7 +41,8 @@ words =
     ∷ (codes "int", TypeWord) ∷ (codes "long", TypeWord) ∷ (codes "float", TypeWord) ∷ (codes "double", TypeWord)
     ∷ (codes "signed", TypeWord) ∷ (codes "unsigned", TypeWord) ∷ (codes "_Bool", TypeWord)
     ∷ (codes "_Complex", TypeWord) ∷ (codes "_Imaginary", TypeWord) ∷ (codes "struct", Tag) ∷ (codes "union", Tag)
-    ∷ (codes "enum", Tag) ∷ []
+    ∷ (codes "enum", Tag) ∷ (codes "_Generic", Generic) ∷ (codes "__offsetof", OffsetOf)
+    ∷ (codes "default", Default) ∷ []
 
 unfoldable pub keyword_of : List ℕ → Kind
 keyword_of = lookup words

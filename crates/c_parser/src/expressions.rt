@@ -1,28 +1,31 @@
 // Expressions, from the comma down to primary expressions: a function a level of precedence, and loops where a production
 // goes on by itself. Each reads from left to right and says at which token it stopped.
-ghost use Rattle.std.specs.Prelude.{◌≡◌, ℕ, ◌+◌, ◌<◌, ◌≤◌, ◌&&◌, ◌||◌, length, true, IfOk, IfErr};
-ghost use Rattle.tree_data.specs.Seen.{tree_of, behind_of, operands_of, suffixes_of, prefixes_of};
-ghost use Rattle.tree_data.specs.Trees.{Tree, Behind, Behinds, Front, Fronts, None_behind, None_before, behinds, fronts};
-ghost use Rattle.tree_data.specs.Types.{prefix_of};
-ghost use Rattle.c_parser.specs.declared.kinds.Kind.TheVariants.{Text, OpenParen, OpenBracket, Member};
+ghost use Rattle.std.specs.Prelude.{◌≡◌, ℕ, ◌+◌, ◌<◌, ◌≤◌, length, true, false, IfOk, IfErr};
+ghost use Rattle.tree_data.specs.Seen.{tree_of, behind_of, operands_of, suffixes_of};
+ghost use Rattle.tree_data.specs.Trees.{Tree, Behind, Behinds, None_behind, behinds};
+ghost use Rattle.tree_data.specs.Types.{type_of};
+ghost use Rattle.c_parser.specs.declared.kinds.Kind.TheVariants.{Text, OpenParen, OpenBracket};
+ghost use Rattle.c_parser.specs.Beginnings.{start_of, Begins, IsPlain, IsSized, IsLiteral};
+ghost use Rattle.c_parser.specs.Grammar.{goes_on};
 ghost use Rattle.c_parser.specs.Kinds as spec;
-ghost use Rattle.c_parser.specs.Joining as joining;
 ghost use Rattle.c_parser.specs.Levels.{IsBinary};
-ghost use Rattle.c_parser.specs.Reading.{Reads, HoldsBehind, HoldBehinds, HoldsFront, HoldFronts, Stops, Found, FoundTexts, FoundBehind, FoundBehinds, FoundFront, FoundPrefixes, MustGive};
+ghost use Rattle.c_parser.specs.Reading.{Reads, HoldsBehind, HoldBehinds, Stops, Found, FoundTexts, FoundBehind, FoundBehinds, IsWant, MustGive};
 
 use crate::answers::Stop;
+use crate::before::{Begun, prefixes};
+use crate::initializers::braces;
 use crate::joining;
-use crate::kinds::{Kind, casts_at, kind_at, level_at, operator_at, prefix_at};
-use crate::type_names::type_name;
+use crate::kinds::{Kind, kind_at, level_at};
+use crate::selections::{generic, offset};
 use std::alloc::Global;
-use tree_data::{Choice, Expr, Prefix, Suffix};
+use tree_data::{Choice, Expr, Suffix, TypeName};
 
 // The levels of 6.5.17, 6.5.16, 6.5.15, 6.5.14 and 6.5.4.
 pub(crate) const EXPRESSION: u8 = 1;
 
-const ASSIGNMENT: u8 = 2;
+pub(crate) const ASSIGNMENT: u8 = 2;
 
-const CONDITIONAL: u8 = 3;
+pub(crate) const CONDITIONAL: u8 = 3;
 
 const LOGICAL_OR: u8 = 4;
 
@@ -65,33 +68,12 @@ fn text(alloc: Global, kinds: &[Kind], at: u32) -> Result<(Expr, u32), Stop>
     }
 }
 
-// `sizeof ( type-name )` or `_Alignof ( type-name )`.
-fn of_type(alloc: Global, kinds: &[Kind], at: u32) -> Result<(Expr, u32), Stop>
-    requires size { length kinds.now ≤ 2000000 }
-    requires inside { at < length kinds.now }
-    requires kind { spec.is_size (spec.kind_at kinds.now at) ≡ true }
-    ensures found { IfOk result (λ r. Found kinds.now 17 at (tree_of r.0) r.1) }
-    ensures only { (t : Tree) → (end : ℕ) → Reads kinds.now 17 t at end → Stops kinds.now 17 end
-        → MustGive result (λ r. (tree_of r.0 ≡ t) × (r.1 ≡ end)) }
-{
-    let Kind::OpenParen = kind_at(kinds, at + 1) else {
-        return Err(Stop::Syntax(at + 1));
-    };
-    let (name, closing) = match type_name(alloc, kinds, at + 2) {
-        Ok(found) => found,
-        Err(stop) => return Err(stop),
-    };
-    let Kind::CloseParen = kind_at(kinds, closing) else {
-        return Err(Stop::Syntax(closing));
-    };
-    Ok((Expr::of_type(at, at + 1, name, closing), closing + 1))
-}
-
 // `( expression )`.
 #[cycle(parser)]
 fn paren(alloc: Global, kinds: &[Kind], at: u32) -> Result<(Expr, u32), Stop>
     requires size { length kinds.now ≤ 2000000 }
     requires inside { at < length kinds.now }
+    requires untyped { spec.type_at kinds.now at ≡ false }
     requires kind { spec.kind_at kinds.now at ≡ OpenParen }
     ensures found { IfOk result (λ r. Found kinds.now 17 at (tree_of r.0) r.1) }
     ensures only { (t : Tree) → (end : ℕ) → Reads kinds.now 17 t at end → Stops kinds.now 17 end
@@ -110,11 +92,11 @@ fn paren(alloc: Global, kinds: &[Kind], at: u32) -> Result<(Expr, u32), Stop>
     }
 }
 
-// A primary expression (6.5.1), or the size or alignment of a type (6.5.3).
+// A primary expression (6.5.1).
 #[cycle(parser)]
 fn primary(alloc: Global, kinds: &[Kind], at: u32) -> Result<(Expr, u32), Stop>
     requires size { length kinds.now ≤ 2000000 }
-    requires inside { at ≤ length kinds.now }
+    requires plain { IsPlain kinds.now at }
     ensures found { IfOk result (λ r. Found kinds.now 17 at (tree_of r.0) r.1) }
     ensures only { (t : Tree) → (end : ℕ) → Reads kinds.now 17 t at end → Stops kinds.now 17 end
         → MustGive result (λ r. (tree_of r.0 ≡ t) × (r.1 ≡ end)) }
@@ -124,8 +106,8 @@ fn primary(alloc: Global, kinds: &[Kind], at: u32) -> Result<(Expr, u32), Stop>
         Kind::Constant => Ok((Expr::constant(at), at + 1)),
         Kind::Text => text(alloc, kinds, at),
         Kind::OpenParen => paren(alloc, kinds, at),
-        Kind::SizeOf => of_type(alloc, kinds, at),
-        Kind::AlignOf => of_type(alloc, kinds, at),
+        Kind::Generic => generic(alloc, kinds, at),
+        Kind::OffsetOf => offset(alloc, kinds, at),
         _ => Err(Stop::Syntax(at)),
     }
 }
@@ -187,7 +169,7 @@ fn call(alloc: Global, kinds: &[Kind], at: u32) -> Result<(Suffix, u32), Stop>
 fn member(kinds: &[Kind], at: u32) -> Result<(Suffix, u32), Stop>
     requires size { length kinds.now ≤ 2000000 }
     requires inside { at < length kinds.now }
-    requires kind { spec.kind_at kinds.now at ≡ Member }
+    requires kind { spec.is_member (spec.kind_at kinds.now at) ≡ true }
     ensures found { IfOk result (λ r. FoundBehind kinds.now 16 at (behind_of r.0) r.1) }
     ensures only { (x : Behind) → (end : ℕ) → HoldsBehind kinds.now 16 x at end
         → MustGive result (λ r. (behind_of r.0 ≡ x) × (r.1 ≡ end)) }
@@ -200,7 +182,7 @@ fn member(kinds: &[Kind], at: u32) -> Result<(Suffix, u32), Stop>
 
 // A postfix operator.
 #[cycle(parser)]
-fn suffix(alloc: Global, kinds: &[Kind], at: u32) -> Result<(Suffix, u32), Stop>
+pub(crate) fn suffix(alloc: Global, kinds: &[Kind], at: u32) -> Result<(Suffix, u32), Stop>
     requires size { length kinds.now ≤ 2000000 }
     requires inside { at < length kinds.now }
     requires kind { spec.level_at kinds.now at ≡ 16 }
@@ -211,7 +193,7 @@ fn suffix(alloc: Global, kinds: &[Kind], at: u32) -> Result<(Suffix, u32), Stop>
     match kind_at(kinds, at) {
         Kind::OpenBracket => index(alloc, kinds, at),
         Kind::OpenParen => call(alloc, kinds, at),
-        Kind::Member => member(kinds, at),
+        Kind::Member | Kind::Dot => member(kinds, at),
         _ => Ok((Suffix::step(at), at + 1)),
     }
 }
@@ -242,29 +224,89 @@ fn suffixes(alloc: Global, kinds: &[Kind], at: u32) -> Result<(Vec<Suffix>, u32)
     }
 }
 
-// Whether a postfix operator stands behind the size of a type, where none may.
-fn is_closed(first: Kind, next: Kind) -> bool
-    ensures { result ≡ (spec.is_size first && spec.is_suffix next) }
+// The size or alignment of a type, behind which no postfix operator may stand (6.5.3).
+fn sized(kinds: &[Kind], keyword: u32, name: TypeName, closing: u32) -> Result<(Expr, u32), Stop>
+    requires size { length kinds.now ≤ 2000000 }
+    requires sized { IsSized kinds.now keyword (type_of name) closing }
+    ensures found { IfOk result (λ r. Found kinds.now 17 keyword (tree_of r.0) r.1) }
+    ensures fits { IfOk result (λ r. spec.level_at kinds.now r.1 ≡ 16 → goes_on (tree_of r.0) ≡ true) }
+    ensures none { IfErr result (λ e. (t : Tree) → (end : ℕ) → Reads kinds.now 16 t keyword end → Stops kinds.now 16 end → IsWant e) }
 {
-    first.is_size() && next.is_suffix()
+    if kind_at(kinds, closing + 1).is_suffix() {
+        return Err(Stop::Syntax(closing + 1));
+    }
+    Ok((
+        Expr::of_type(keyword, keyword + 1, name, closing),
+        closing + 1,
+    ))
 }
 
-// A primary expression with the postfix operators behind it (6.5.2).
+// A compound literal (6.5.2.5), whose type was read.
 #[cycle(parser)]
-fn postfix(alloc: Global, kinds: &[Kind], at: u32) -> Result<(Expr, u32), Stop>
+fn compound(
+    alloc: Global,
+    kinds: &[Kind],
+    opening: u32,
+    name: TypeName,
+    closing: u32,
+) -> Result<(Expr, u32), Stop>
     requires size { length kinds.now ≤ 2000000 }
-    requires inside { at ≤ length kinds.now }
-    ensures found { IfOk result (λ r. Found kinds.now 16 at (tree_of r.0) r.1) }
-    ensures only { (t : Tree) → (end : ℕ) → Reads kinds.now 16 t at end → Stops kinds.now 16 end
-        → MustGive result (λ r. (tree_of r.0 ≡ t) × (r.1 ≡ end)) }
+    requires literal { IsLiteral kinds.now opening (type_of name) closing }
+    ensures found { IfOk result (λ r. Found kinds.now 17 opening (tree_of r.0) r.1) }
+    ensures fits { IfOk result (λ r. goes_on (tree_of r.0) ≡ true) }
+    ensures none { IfErr result (λ e. (t : Tree) → (end : ℕ) → Reads kinds.now 17 t opening end → Stops kinds.now 17 end → IsWant e) }
 {
-    let (first, behind) = match primary(alloc, kinds, at) {
+    let (list, end) = match braces(alloc, kinds, closing + 1) {
         Ok(found) => found,
         Err(stop) => return Err(stop),
     };
-    if is_closed(kind_at(kinds, at), kind_at(kinds, behind)) {
-        return Err(Stop::Syntax(behind));
+    match Expr::compound(alloc, opening, name, closing, list) {
+        Ok(expr) => Ok((expr, end)),
+        Err(_) => Err(Stop::NoMemory),
     }
+}
+
+// A primary expression, the size or alignment of a type, or a compound literal.
+#[cycle(parser)]
+fn begun_with(alloc: Global, kinds: &[Kind], begun: Begun) -> Result<(Expr, u32), Stop>
+    requires size { length kinds.now ≤ 2000000 }
+    requires begins { Begins kinds.now begun }
+    ensures found { IfOk result (λ r. Found kinds.now 17 (start_of begun) (tree_of r.0) r.1) }
+    ensures fits { IfOk result (λ r. spec.level_at kinds.now r.1 ≡ 16 → goes_on (tree_of r.0) ≡ true) }
+    ensures none { IfErr result (λ e. (t : Tree) → (end : ℕ) → Reads kinds.now 16 t (start_of begun) end
+        → Stops kinds.now 16 end → IsWant e) }
+{
+    match begun {
+        Begun::Plain(at) => match primary(alloc, kinds, at) {
+            Ok(found) => Ok(found),
+            Err(stop) => Err(stop),
+        },
+        Begun::Size(keyword, name, closing) => match sized(kinds, keyword, name, closing) {
+            Ok(found) => Ok(found),
+            Err(stop) => Err(stop),
+        },
+        Begun::Literal(opening, name, closing) => {
+            match compound(alloc, kinds, opening, name, closing) {
+                Ok(found) => Ok(found),
+                Err(stop) => Err(stop),
+            }
+        }
+    }
+}
+
+// What was begun, with the postfix operators behind it (6.5.2).
+#[cycle(parser)]
+fn postfix(alloc: Global, kinds: &[Kind], begun: Begun) -> Result<(Expr, u32), Stop>
+    requires size { length kinds.now ≤ 2000000 }
+    requires begins { Begins kinds.now begun }
+    ensures found { IfOk result (λ r. Found kinds.now 16 (start_of begun) (tree_of r.0) r.1) }
+    ensures only { (t : Tree) → (end : ℕ) → Reads kinds.now 16 t (start_of begun) end → Stops kinds.now 16 end
+        → MustGive result (λ r. (tree_of r.0 ≡ t) × (r.1 ≡ end)) }
+{
+    let (first, behind) = match begun_with(alloc, kinds, begun) {
+        Ok(found) => found,
+        Err(stop) => return Err(stop),
+    };
     let (more, end) = match suffixes(alloc, kinds, behind) {
         Ok(found) => found,
         Err(stop) => return Err(stop),
@@ -272,69 +314,6 @@ fn postfix(alloc: Global, kinds: &[Kind], at: u32) -> Result<(Expr, u32), Stop>
     match joining::postfix(alloc, first, more) {
         Ok(expr) => Ok((expr, end)),
         Err(stop) => Err(stop),
-    }
-}
-
-// A cast in front of an operand (6.5.4).
-fn cast(alloc: Global, kinds: &[Kind], at: u32) -> Result<(Prefix, u32), Stop>
-    requires size { length kinds.now ≤ 2000000 }
-    requires inside { at ≤ length kinds.now }
-    requires kind { spec.type_at kinds.now at ≡ true }
-    ensures found { IfOk result (λ r. FoundFront kinds.now 15 at (prefix_of r.0) r.1) }
-    ensures only { (x : Front) → (end : ℕ) → HoldsFront kinds.now 15 x at end
-        → MustGive result (λ r. (prefix_of r.0 ≡ x) × (r.1 ≡ end)) }
-{
-    if !casts_at(kinds, at) {
-        return Err(Stop::Syntax(at));
-    }
-    let (name, closing) = match type_name(alloc, kinds, at + 1) {
-        Ok(found) => found,
-        Err(stop) => return Err(stop),
-    };
-    let Kind::CloseParen = kind_at(kinds, closing) else {
-        return Err(Stop::Syntax(closing));
-    };
-    Ok((Prefix::cast(at, name, closing), closing + 1))
-}
-
-// What stands in front of an operand.
-fn prefix(alloc: Global, kinds: &[Kind], at: u32) -> Result<(Prefix, u32), Stop>
-    requires size { length kinds.now ≤ 2000000 }
-    requires inside { at ≤ length kinds.now }
-    requires kind { (spec.operator_at kinds.now at || spec.type_at kinds.now at) ≡ true }
-    ensures found { IfOk result (λ r. FoundFront kinds.now 15 at (prefix_of r.0) r.1) }
-    ensures only { (x : Front) → (end : ℕ) → HoldsFront kinds.now 15 x at end
-        → MustGive result (λ r. (prefix_of r.0 ≡ x) × (r.1 ≡ end)) }
-{
-    if operator_at(kinds, at) {
-        return Ok((Prefix::operator(at), at + 1));
-    }
-    cast(alloc, kinds, at)
-}
-
-// The unary operators and casts that stand here.
-fn prefixes(alloc: Global, kinds: &[Kind], at: u32) -> Result<(Vec<Prefix>, u32), Stop>
-    requires size { length kinds.now ≤ 2000000 }
-    requires inside { at ≤ length kinds.now }
-    ensures found { IfOk result (λ r. FoundPrefixes kinds.now at (fronts (prefixes_of r.0.items) None_before) r.1) }
-    ensures only { (xs : Fronts) → (m : ℕ) → (t : Tree) → (end : ℕ) → HoldFronts kinds.now 15 xs at m
-        → Reads kinds.now 16 t m end → Stops kinds.now 15 end
-        → MustGive result (λ r. (fronts (prefixes_of r.0.items) None_before ≡ xs) × (r.1 ≡ m)) }
-{
-    let mut prefixes = Vec::new(alloc);
-    let mut end = at;
-    'prefixes: loop {
-        if !prefix_at(kinds, end) {
-            return Ok((prefixes, end));
-        }
-        let (one, next) = match prefix(alloc, kinds, end) {
-            Ok(found) => found,
-            Err(stop) => return Err(stop),
-        };
-        let Ok(()) = prefixes.push(one) else {
-            return Err(Stop::NoMemory);
-        };
-        end = next;
     }
 }
 
@@ -347,11 +326,11 @@ fn unary(alloc: Global, kinds: &[Kind], at: u32) -> Result<(Expr, u32), Stop>
     ensures only { (t : Tree) → (end : ℕ) → Reads kinds.now 14 t at end → Stops kinds.now 14 end
         → MustGive result (λ r. (tree_of r.0 ≡ t) × (r.1 ≡ end)) }
 {
-    let (prefixes, behind) = match prefixes(alloc, kinds, at) {
+    let (prefixes, begun) = match prefixes(alloc, kinds, at) {
         Ok(found) => found,
         Err(stop) => return Err(stop),
     };
-    let (operand, end) = match postfix(alloc, kinds, behind) {
+    let (operand, end) = match postfix(alloc, kinds, begun) {
         Ok(found) => found,
         Err(stop) => return Err(stop),
     };
@@ -466,12 +445,12 @@ fn assignment(alloc: Global, kinds: &[Kind], at: u32) -> Result<(Expr, u32), Sto
             Ok(found) => found,
             Err(stop) => return Err(stop),
         };
-        let Kind::Assignment = kind_at(kinds, operator) else {
+        if level_at(kinds, operator) != ASSIGNMENT {
             match joining::assign(alloc, places, value) {
                 Ok(expr) => return Ok((expr, operator)),
                 Err(stop) => return Err(stop),
             }
-        };
+        }
         if !value.is_unary() {
             return Err(Stop::Syntax(operator));
         }

@@ -20,7 +20,9 @@ pub(crate) enum Kind {
     CloseBracket,
     OpenBrace,
     CloseBrace,
-    // `.` and `->`.
+    // `.`.
+    Dot,
+    // `->`.
     Member,
     // `++` and `--`.
     Step,
@@ -43,8 +45,15 @@ pub(crate) enum Kind {
     Or,
     Question,
     Colon,
+    // An operator of assignment but `=`.
     Assignment,
+    Equals,
     Comma,
+    // `_Generic`.
+    Generic,
+    // `__offsetof`.
+    OffsetOf,
+    Default,
     // Of no use in an expression.
     Other,
     // No token is left.
@@ -58,7 +67,7 @@ impl Kind {
     {
         match self {
             Kind::Comma => 1,
-            Kind::Assignment => 2,
+            Kind::Assignment | Kind::Equals => 2,
             Kind::Question => 3,
             Kind::Or => 4,
             Kind::And => 5,
@@ -70,7 +79,7 @@ impl Kind {
             Kind::Shift => 11,
             Kind::Sign => 12,
             Kind::Star | Kind::Quotient => 13,
-            Kind::OpenBracket | Kind::OpenParen | Kind::Member | Kind::Step => 16,
+            Kind::OpenBracket | Kind::OpenParen | Kind::Member | Kind::Dot | Kind::Step => 16,
             _ => 0,
         }
     }
@@ -91,7 +100,7 @@ impl Kind {
     {
         matches!(
             self,
-            Kind::OpenBracket | Kind::OpenParen | Kind::Member | Kind::Step
+            Kind::OpenBracket | Kind::OpenParen | Kind::Member | Kind::Dot | Kind::Step
         )
     }
 
@@ -117,6 +126,20 @@ impl Kind {
             self,
             Kind::TypeWord | Kind::Qualifier | Kind::Tag | Kind::TypeName
         )
+    }
+
+    // Whether a designator begins with it (6.7.9).
+    pub fn is_designating(self) -> bool
+        ensures { result ≡ spec.is_designating self }
+    {
+        matches!(self, Kind::OpenBracket | Kind::Dot)
+    }
+
+    // Whether a member stands behind it (6.5.2).
+    pub fn is_member(self) -> bool
+        ensures { result ≡ spec.is_member self }
+    {
+        matches!(self, Kind::Member | Kind::Dot)
     }
 
     pub fn is_opening(self) -> bool
@@ -161,14 +184,13 @@ pub(crate) fn type_at(kinds: &[Kind], at: u32) -> bool
     kind_at(kinds, at).is_opening() && kind_at(kinds, at + 1).starts_type()
 }
 
-// Whether this token is a unary operator in front of an operand.
-#[tactic(auto, unfolding(crate::specs::Kinds::operator_at))]
-pub(crate) fn operator_at(kinds: &[Kind], at: u32) -> bool
-    requires { at ≤ 2000000 }
-    ensures { result ≡ spec.operator_at kinds.now at }
+// Whether the size or alignment of a type name in parentheses begins at this token.
+#[tactic(auto, unfolding(crate::specs::Kinds::size_at))]
+pub(crate) fn size_at(kinds: &[Kind], at: u32) -> bool
+    requires { at ≤ 2000001 }
+    ensures { result ≡ spec.size_at kinds.now at }
 {
-    let kind = kind_at(kinds, at);
-    kind.is_prefix() && !(kind.is_size() && type_at(kinds, at + 1))
+    kind_at(kinds, at).is_size() && type_at(kinds, at + 1)
 }
 
 // Whether no operator stands in front of this token that takes a unary-expression.
@@ -177,12 +199,4 @@ pub(crate) fn casts_at(kinds: &[Kind], at: u32) -> bool
     ensures { result ≡ spec.casts_at kinds.now at }
 {
     !kind_at(kinds, at.saturating_sub(1)).is_tight()
-}
-
-// Whether a unary operator or a cast stands here in front of an operand.
-pub(crate) fn prefix_at(kinds: &[Kind], at: u32) -> bool
-    requires { at ≤ 2000000 }
-    ensures { result ≡ (spec.operator_at kinds.now at || spec.type_at kinds.now at) }
-{
-    operator_at(kinds, at) || type_at(kinds, at)
 }

@@ -1,12 +1,15 @@
-// Expressions of C read from the tokens of a unit (ISO C11 6.5), without `_Generic` and compound literals.
+// Expressions of C and the names of types read from the tokens of a unit (ISO C11 6.5, 6.7.7, 6.7.9).
 #![tactic(auto)]
 
 mod answers;
+mod before;
 mod brackets;
 mod expressions;
+mod initializers;
 mod joining;
 mod kinds;
 mod names;
+mod selections;
 mod tokens;
 mod type_names;
 mod whole;

@@ -14,9 +14,9 @@ static MARKS: [(&str, Kind); 48] = [
     ("(", Kind::OpenParen),
     (")", Kind::CloseParen),
     (",", Kind::Comma),
-    ("=", Kind::Assignment),
+    ("=", Kind::Equals),
     ("->", Kind::Member),
-    (".", Kind::Member),
+    (".", Kind::Dot),
     ("[", Kind::OpenBracket),
     ("]", Kind::CloseBracket),
     ("*", Kind::Star),
@@ -61,7 +61,7 @@ static MARKS: [(&str, Kind); 48] = [
     ("%>", Kind::CloseBrace),
 ];
 
-static WORDS: [(&str, Kind); 20] = [
+static WORDS: [(&str, Kind); 23] = [
     ("sizeof", Kind::SizeOf),
     ("_Alignof", Kind::AlignOf),
     ("const", Kind::Qualifier),
@@ -82,6 +82,9 @@ static WORDS: [(&str, Kind); 20] = [
     ("struct", Kind::Tag),
     ("union", Kind::Tag),
     ("enum", Kind::Tag),
+    ("_Generic", Kind::Generic),
+    ("__offsetof", Kind::OffsetOf),
+    ("default", Kind::Default),
 ];
 
 fn look_up(text: &str, table: &[(&str, Kind)]) -> Option<Kind>

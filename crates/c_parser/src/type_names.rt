@@ -109,7 +109,7 @@ fn pointers(alloc: Global, kinds: &[Kind], at: u32) -> Result<(Vec<Pointer>, u32
     }
 }
 
-// The name of a type, behind which a `)` or nothing has to stand.
+// The name of a type, behind which `)`, `:`, `,` or nothing has to stand.
 pub(crate) fn type_name(alloc: Global, kinds: &[Kind], at: u32) -> Result<(TypeName, u32), Stop>
     requires size { length kinds.now ≤ 2000000 }
     requires inside { at ≤ length kinds.now }

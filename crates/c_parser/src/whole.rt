@@ -68,10 +68,10 @@ fn shallow_kinds(
     Ok(kinds)
 }
 
-/// The one expression that the tokens spell, all of them (ISO C11 6.5). Compound literals, `_Generic` and `__offsetof` are
-/// not in its grammar yet; of type names (6.7.7) those are whose specifiers are keywords, qualifiers, a tag or a typedef
+/// The one expression that the tokens spell, all of them (ISO C11 6.5), with `__offsetof ( type-name , member-designator )`,
+/// which `offsetof` stands for (7.19), among the primary expressions. Of type names (6.7.7) those are whose specifiers are keywords, qualifiers, a tag or a typedef
 /// name, and whose declarator is pointers. An identifier among `names` is a typedef name, and `( name )` the front of a
-/// cast; it or a keyword is no expression, but it may be the name of a member or a tag. The tokens are at most 2,000,000.
+/// cast or of a compound literal; it or a keyword is no expression, but it may be the name of a member or a tag. The tokens are at most 2,000,000.
 ///
 /// Errors: TooDeep with the bracket that opens the 257th level, which is looked for first; Syntax(0) exactly where
 /// no tree of the grammar spells the tokens and no bracket is too deep; NoMemory.

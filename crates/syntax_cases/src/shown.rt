@@ -1,7 +1,10 @@
 // Trees as S-expressions.
 use std::alloc::{AllocError, Global};
 use tok_data::OutToken;
-use tree_data::{Choice, Declarator, Expr, Prefix, Specifier, Specs, Suffix, TypeName};
+use tree_data::{
+    Association, Braces, Choice, Declarator, Designator, Expr, Init, Piece, Prefix, Specifier,
+    Specs, Suffix, TypeName,
+};
 
 fn spelling(tokens: &[OutToken], at: u32) -> &str {
     match tokens.get(at as usize) {
@@ -175,6 +178,61 @@ fn show_suffix(out: &mut String, tokens: &[OutToken], suffix: &Suffix) -> Result
 }
 
 #[cycle(show)]
+fn show_init(out: &mut String, tokens: &[OutToken], init: &Init) -> Result<(), AllocError> {
+    match init {
+        Init::Value(expr) => show(out, tokens, expr),
+        Init::List(list) => show_braces(out, tokens, list),
+    }
+}
+
+#[cycle(show)]
+fn show_designator(
+    out: &mut String,
+    tokens: &[OutToken],
+    designator: &Designator,
+) -> Result<(), AllocError> {
+    match designator {
+        Designator::Element(_, index, _) => {
+            out.push_str("(at ")?;
+            show(out, tokens, index)?;
+            out.push_str(") ")
+        }
+        Designator::Field(_, name) => {
+            out.push_str(".")?;
+            spell(out, tokens, *name)?;
+            out.push_str(" ")
+        }
+    }
+}
+
+#[cycle(show)]
+fn show_piece(out: &mut String, tokens: &[OutToken], piece: &Piece) -> Result<(), AllocError> {
+    match piece {
+        Piece::Plain(init) => show_init(out, tokens, init),
+        Piece::Designated(first, more, _, init) => {
+            out.push_str("(des ")?;
+            show_designator(out, tokens, first)?;
+            for designator in more {
+                show_designator(out, tokens, designator)?;
+            }
+            show_init(out, tokens, init)?;
+            out.push_str(")")
+        }
+    }
+}
+
+#[cycle(show)]
+fn show_braces(out: &mut String, tokens: &[OutToken], list: &Braces) -> Result<(), AllocError> {
+    out.push_str("(list ")?;
+    show_piece(out, tokens, &list.first)?;
+    for pair in &list.more {
+        out.push_str(" ")?;
+        show_piece(out, tokens, &pair.1)?;
+    }
+    out.push_str(")")
+}
+
+#[cycle(show)]
 fn show_choice(out: &mut String, tokens: &[OutToken], choice: &Choice) -> Result<(), AllocError> {
     out.push_str("(cond ")?;
     show(out, tokens, &choice.test)?;
@@ -231,6 +289,73 @@ fn show_assign(out: &mut String, tokens: &[OutToken], expr: &Expr) -> Result<(),
 }
 
 #[cycle(show)]
+fn show_association(
+    out: &mut String,
+    tokens: &[OutToken],
+    association: &Association,
+) -> Result<(), AllocError> {
+    match association {
+        Association::Typed(name, _, expr) => {
+            out.push_str(" (")?;
+            show_name(out, tokens, &name.specs, &name.declarator)?;
+            out.push_str(" ")?;
+            show(out, tokens, expr)?;
+            out.push_str(")")
+        }
+        Association::Default(_, _, expr) => {
+            out.push_str(" (default ")?;
+            show(out, tokens, expr)?;
+            out.push_str(")")
+        }
+    }
+}
+
+#[cycle(show)]
+fn show_generic(out: &mut String, tokens: &[OutToken], expr: &Expr) -> Result<(), AllocError> {
+    let Expr::Generic(_, _, control, choices, _) = expr else {
+        return Ok(());
+    };
+    out.push_str("(generic ")?;
+    show(out, tokens, control)?;
+    for choice in choices {
+        show_association(out, tokens, &choice.1)?;
+    }
+    out.push_str(")")
+}
+
+// What selects within a member.
+#[cycle(show)]
+fn show_step(out: &mut String, tokens: &[OutToken], step: &Suffix) -> Result<(), AllocError> {
+    match step {
+        Suffix::Index(_, inner, _) => {
+            out.push_str(" (at ")?;
+            show(out, tokens, inner)?;
+            out.push_str(")")
+        }
+        Suffix::Member(_, name) => {
+            out.push_str(" .")?;
+            spell(out, tokens, *name)
+        }
+        _ => Ok(()),
+    }
+}
+
+#[cycle(show)]
+fn show_offset(out: &mut String, tokens: &[OutToken], expr: &Expr) -> Result<(), AllocError> {
+    let Expr::Offset(_, _, name, _, member, steps, _) = expr else {
+        return Ok(());
+    };
+    out.push_str("(offsetof ")?;
+    show_name(out, tokens, &name.specs, &name.declarator)?;
+    out.push_str(" .")?;
+    spell(out, tokens, *member)?;
+    for step in steps {
+        show_step(out, tokens, step)?;
+    }
+    out.push_str(")")
+}
+
+#[cycle(show)]
 fn show(out: &mut String, tokens: &[OutToken], expr: &Expr) -> Result<(), AllocError> {
     match expr {
         Expr::Name(at) => spell(out, tokens, *at),
@@ -250,6 +375,13 @@ fn show(out: &mut String, tokens: &[OutToken], expr: &Expr) -> Result<(), AllocE
             close(out, prefixes.len())
         }
         Expr::OfType(keyword, _, name, _) => show_of_type(out, tokens, *keyword, name),
+        Expr::Compound(_, name, _, list) => {
+            out.push_str("(compound ")?;
+            show_name(out, tokens, &name.specs, &name.declarator)?;
+            out.push_str(" ")?;
+            show_braces(out, tokens, list)?;
+            out.push_str(")")
+        }
         Expr::Binary(_, _) => show_binary(out, tokens, expr),
         Expr::Conditional(choices, last) => {
             for choice in choices {
@@ -259,6 +391,8 @@ fn show(out: &mut String, tokens: &[OutToken], expr: &Expr) -> Result<(), AllocE
             close(out, choices.len())
         }
         Expr::Assign(_, _) => show_assign(out, tokens, expr),
+        Expr::Generic(_, _, _, _, _) => show_generic(out, tokens, expr),
+        Expr::Offset(_, _, _, _, _, _, _) => show_offset(out, tokens, expr),
     }
 }
 

@@ -1,5 +1,5 @@
--- Trees without addresses (ISO C11 6.5).
-use Rattle.std.specs.Prelude.{ℕ, Bool, true, false, List, [], ◌∷◌}
+-- Trees without addresses (ISO C11 6.5, 6.7.9).
+use Rattle.std.specs.Prelude.{ℕ, Bool, true, false, List, [], ◌∷◌, Option}
 use Rattle.tree_data.specs.Names.{Naming}
 
 mutual
@@ -14,6 +14,9 @@ mutual
     Conditional_of : Fronts → Tree → Tree
     Assign_of : Fronts → Tree → Tree
     Of_type : ℕ → ℕ → Naming → ℕ → Tree
+    Compound_of : ℕ → Naming → ℕ → Braces → Tree
+    Generic_of : ℕ → ℕ → Tree → Associations → ℕ → Tree
+    Offset_of : ℕ → ℕ → Naming → ℕ → ℕ → Behinds → ℕ → Tree
 
   -- what an expression goes on with: a binary operator and its right operand, or a postfix operator
   pub data Behind : Type 0 where
@@ -40,6 +43,41 @@ mutual
     None_before : Fronts
     Front_then : Front → Fronts → Fronts
 
+  -- an initializer list in braces: the first piece, each further one with the comma in front of it, a comma at the end
+  pub data Braces : Type 0 where
+    Braces_of : ℕ → Piece → Pieces → Option ℕ → ℕ → Braces
+
+  pub data Initial : Type 0 where
+    Value_of : Tree → Initial
+    List_of : Braces → Initial
+
+  -- an initializer, with a designation and its `=` or without
+  pub data Piece : Type 0 where
+    Plain_of : Initial → Piece
+    Designated_of : Designator → Designators → ℕ → Initial → Piece
+
+  pub data Pieces : Type 0 where
+    No_pieces : Pieces
+    Piece_then : ℕ → Piece → Pieces → Pieces
+
+  pub data Designator : Type 0 where
+    Element_of : ℕ → Tree → ℕ → Designator
+    Field_of : ℕ → ℕ → Designator
+
+  pub data Designators : Type 0 where
+    No_designators : Designators
+    Designator_then : Designator → Designators → Designators
+
+  -- what a generic selection chooses among: an expression for a type, or for all others
+  pub data Association : Type 0 where
+    Typed_of : Naming → ℕ → Tree → Association
+    Default_of : ℕ → ℕ → Tree → Association
+
+  -- each with the comma in front of it
+  pub data Associations : Type 0 where
+    No_associations : Associations
+    Association_then : ℕ → Association → Associations → Associations
+
 -- some in front of others
 abbrev pub behinds : List Behind → Behinds → Behinds
 behinds [] more = more
@@ -48,6 +86,18 @@ behinds (x ∷ xs) more = Behind_then x (behinds xs more)
 abbrev pub fronts : List Front → Fronts → Fronts
 fronts [] more = more
 fronts (x ∷ xs) more = Front_then x (fronts xs more)
+
+abbrev pub pieces : List (ℕ × Piece) → Pieces
+pieces [] = No_pieces
+pieces (p ∷ ps) = Piece_then p.0 p.1 (pieces ps)
+
+abbrev pub designators : List Designator → Designators
+designators [] = No_designators
+designators (d ∷ ds) = Designator_then d (designators ds)
+
+abbrev pub associations : List (ℕ × Association) → Associations
+associations [] = No_associations
+associations (x ∷ xs) = Association_then x.0 x.1 (associations xs)
 
 abbrev pub operand : ℕ × Tree → Behind
 operand p = Operand_of p.0 p.1
@@ -75,3 +125,6 @@ is_unary (Binary_of f bs) = false
 is_unary (Conditional_of fs t) = false
 is_unary (Assign_of fs t) = false
 is_unary (Of_type k o t c) = true
+is_unary (Compound_of o t c i) = true
+is_unary (Generic_of k o t gs c) = true
+is_unary (Offset_of k o t m n bs c) = true

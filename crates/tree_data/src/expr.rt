@@ -3,10 +3,12 @@ ghost use Rattle.std.specs.Prelude.{◌≡◌, IfOk};
 ghost use Rattle.tree_data.specs.Trees as spec;
 ghost use Rattle.tree_data.specs.Trees.{is_unary};
 ghost use Rattle.tree_data.specs.Seen as seen;
-ghost use Rattle.tree_data.specs.Seen.{tree_of};
+ghost use Rattle.tree_data.specs.Seen.{tree_of, braces_of};
 ghost use Rattle.tree_data.specs.Types.{type_of};
 
+use crate::inits::Braces;
 use crate::parts::{Choice, Suffix};
+use crate::selections::Association;
 use crate::types::{Prefix, TypeName, begins_with_operator};
 use std::alloc::{AllocError, Global};
 
@@ -36,6 +38,12 @@ pub enum Expr {
     Conditional(Vec<Choice>, Box<Expr>),
     /// At least one place with the assignment operator behind it, and the value (6.5.16).
     Assign(Vec<(Expr, u32)>, Box<Expr>),
+    /// `( type-name )` and the braces of a compound literal (6.5.2.5).
+    Compound(u32, TypeName, u32, Box<Braces>),
+    /// `_Generic (`, the controlling expression, at least one association with the comma in front of it, `)` (6.5.1.1).
+    Generic(u32, u32, Box<Expr>, Vec<(u32, Association)>, u32),
+    /// `__offsetof (`, the name of a type, `,`, the name of a member and what selects within it, `)`, for `offsetof` (7.19).
+    Offset(u32, u32, Box<TypeName>, u32, u32, Vec<Suffix>, u32),
 }
 
 impl Expr {
@@ -120,6 +128,54 @@ impl Expr {
         Expr::OfType(keyword, opening, name, closing)
     }
 
+    /// A compound literal.
+    pub fn compound(
+        alloc: Global,
+        opening: u32,
+        name: TypeName,
+        closing: u32,
+        braces: Braces,
+    ) -> Result<Expr, AllocError>
+        ensures { IfOk result (λ e. tree_of e ≡ spec.Compound_of opening (type_of name) closing (braces_of braces)) }
+    {
+        let braces = Box::new(alloc, braces)?;
+        Ok(Expr::Compound(opening, name, closing, braces))
+    }
+
+    /// A generic selection.
+    pub fn generic(
+        alloc: Global,
+        keyword: u32,
+        opening: u32,
+        control: Expr,
+        choices: Vec<(u32, Association)>,
+        closing: u32,
+    ) -> Result<Expr, AllocError>
+        ensures { IfOk result (λ e. tree_of e
+            ≡ spec.Generic_of keyword opening (tree_of control) (spec.associations (seen.associations_of choices.items)) closing) }
+    {
+        let control = Box::new(alloc, control)?;
+        Ok(Expr::Generic(keyword, opening, control, choices, closing))
+    }
+
+    /// The place of a member in a type.
+    pub fn offset(
+        alloc: Global,
+        keyword: u32,
+        opening: u32,
+        name: TypeName,
+        comma: u32,
+        member: u32,
+        steps: Vec<Suffix>,
+        closing: u32,
+    ) -> Result<Expr, AllocError>
+        ensures { IfOk result (λ e. tree_of e ≡ spec.Offset_of keyword opening (type_of name) comma member
+            (spec.behinds (seen.suffixes_of steps.items) spec.None_behind) closing) }
+    {
+        let name = Box::new(alloc, name)?;
+        Ok(Expr::Offset(keyword, opening, name, comma, member, steps, closing))
+    }
+
     /// Whether its production is one of unary-expression (6.5.3), which alone may stand on the left of an assignment.
     pub fn is_unary(&self) -> bool
         ensures { result ≡ is_unary (tree_of self.now) }
@@ -132,6 +188,9 @@ impl Expr {
             Expr::Postfix(_, _) => true,
             Expr::Unary(prefixes, _) => begins_with_operator(prefixes.as_slice()),
             Expr::OfType(_, _, _, _) => true,
+            Expr::Compound(_, _, _, _) => true,
+            Expr::Generic(_, _, _, _, _) => true,
+            Expr::Offset(_, _, _, _, _, _, _) => true,
             Expr::Binary(_, _) => false,
             Expr::Conditional(_, _) => false,
             Expr::Assign(_, _) => false,

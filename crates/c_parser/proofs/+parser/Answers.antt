@@ -1,0 +1,710 @@
+use Rattle.std.proofs.Common.{ap, sym, ◌∙◌, subst, arith, ◌+◌, ◌≤◌, ◌<◌, ◌≡◌}
+use Rattle.c_parser.specs.Beginnings.{start_of}
+use Rattle.c_parser.specs.Kinds.{level_of, is_word, is_designating}
+use Rattle.c_parser.specs.Reading.{Reads, Found, FoundBehind, FoundBraces, FoundInitial, FoundDesignator, FoundAssociation}
+use Rattle.c_parser.proofs.Fronts.{value_fails, no_place, places_end, test_fails, middle_fails, no_colon, tests_end, unary_fails, operand_of_fails, unary_found}
+use Rattle.c_parser.proofs.Marks.{is_step, member_none}
+use Rattle.c_parser.proofs.Generics.{default_found, default_only, default_unparted, default_fails, typed_found, typed_only, type_first_fails, typed_unparted, typed_fails, choices_found, choices_only, choices_fail, generic_unopened, control_fails, nothing_chosen, choices_of_fail, generic_left_open, generic_found, steps_found, steps_only, steps_fail, offset_unopened, offset_type_fails, offset_unparted, offset_unnamed, offset_steps_fail, offset_left_open, offset_found}
+use Rattle.c_parser.proofs.Initials.{field_found, found_designator_only, field_unnamed, element_opens, element_fails, element_left_open, element_found, value_found, value_only, init_fails, list_only, list_fails, plain_only, plain_fails, designated_only, designator_fails, designators_fail, unequal, designated_fails, braces_found, found_braces_only, first_piece_fails, more_pieces_fail, braces_left_open, row_found, row_only, row_found_comma, row_only_comma, row_fails, path_found, path_only, path_fails}
+use Rattle.c_parser.proofs.Openings.{fails_by_first, plain_fits, literal_fails}
+use Rattle.c_parser.proofs.Parsing.{paren_fails, paren_left_open, paren_found, other_fails, found_only, found_behind_only, found_behinds_only, first_fails, more_fails, binary_found, postfix_found, loop_ends, loop_fails, operand_fails, index_found, index_fails, index_left_open, empty_found, call_found, call_first_fails, call_more_fails, call_left_open, step_found}
+use Rattle.c_parser.proofs.Pushes.{associations_push, steps_push, pieces_push, designators_push, operands_push, suffixes_push, choices_push, places_push}
+use Rattle.c_parser.proofs.Views.{binary_view, postfix_view}
+use Rattle.c_parser.proofs.+parser.Goals as goal
+
+pub expressions::assignment-returns-in-Err-clause-only : goal.expressions::assignment-returns-in-Err-clause-only
+expressions::assignment-returns-in-Err-clause-only t c = value_fails _ _ _ _ _ c.places.invariant c.in-Err.ensures.only
+
+pub expressions::assignment-returns-in-Ok-assign : goal.expressions::assignment-returns-in-Ok-assign
+expressions::assignment-returns-in-Ok-assign t c =
+    let made =
+    subst
+    (λ x. Found c.args.kinds.now 2 c.args.at x c.in-Ok.found.1)
+    (sym c.in-Ok-assign.ensures.tree)
+    (places_end
+    _
+    _
+    _
+    _
+    _
+    _
+    c.places.invariant
+    c.in-Ok.ensures.found
+    (λ e. c.if-level_at-ne-ASSIGNMENT.true (c.level_at.ensures.level ∙ e))) in
+    record { found = made; only = found_only _ _ _ _ _ (omega arith) made }
+
+pub expressions::assignment-returns-then-not-is_unary-clause-only :
+    goal.expressions::assignment-returns-then-not-is_unary-clause-only
+expressions::assignment-returns-then-not-is_unary-clause-only t c =
+    no_place
+    _
+    _
+    _
+    _
+    _
+    _
+    c.places.invariant
+    c.in-Ok.ensures.found
+    (sym c.level_at.ensures.level ∙ c.if-level_at-ne-ASSIGNMENT.false)
+    (sym c.is_unary.ensures ∙ c.if-not-is_unary.true)
+
+pub expressions::assignment-places-preserved : goal.expressions::assignment-places-preserved
+expressions::assignment-places-preserved t c =
+    let assigns : c.level_at.result ≡ 2 = c.if-level_at-ne-ASSIGNMENT.false in
+    places_push
+    _
+    _
+    _
+    _
+    _
+    _
+    _
+    c.places.invariant
+    c.in-Ok.ensures.found
+    (sym c.level_at.ensures.level ∙ assigns)
+    (sym c.is_unary.ensures ∙ c.if-not-is_unary.false)
+    (c.level_at.ensures.inside (subst (λ x. 0 < x) (sym assigns) (omega arith)))
+    c.in-Ok-push.ensures.items
+
+pub expressions::binary-returns-in-Err-clause-only : goal.expressions::binary-returns-in-Err-clause-only
+expressions::binary-returns-in-Err-clause-only t c =
+    first_fails _ _ _ _ _ (λ t b h. binary_view _ _ c.requires.binary t _ b h) c.in-Err.ensures.only
+
+pub expressions::binary-returns-in-Err-operands-clause-only : goal.expressions::binary-returns-in-Err-operands-clause-only
+expressions::binary-returns-in-Err-operands-clause-only t c =
+    more_fails
+    _
+    _
+    _
+    _
+    _
+    (λ t b h. binary_view _ _ c.requires.binary t _ b h)
+    _
+    _
+    c.in-Ok.ensures.found
+    c.in-Err-operands.ensures.only
+
+pub expressions::binary-returns-in-Ok-binary-clause-found : goal.expressions::binary-returns-in-Ok-binary-clause-found
+expressions::binary-returns-in-Ok-binary-clause-found t c =
+    subst
+    (λ x. Found c.args.kinds.now c.args.n c.args.at x c.in-Ok-operands.found.1)
+    (sym c.in-Ok-binary.ensures.tree)
+    (binary_found _ _ _ c.requires.binary _ _ _ _ c.in-Ok.ensures.found c.in-Ok-operands.ensures.found)
+
+pub expressions::binary-returns-in-Ok-binary-clause-only : goal.expressions::binary-returns-in-Ok-binary-clause-only
+expressions::binary-returns-in-Ok-binary-clause-only t c =
+    let low : 1 ≤ c.args.n = c.requires.binary.0 in
+    found_only
+    _
+    _
+    _
+    _
+    _
+    low
+    (subst
+    (λ x. Found c.args.kinds.now c.args.n c.args.at x c.in-Ok-operands.found.1)
+    (sym c.in-Ok-binary.ensures.tree)
+    (binary_found _ _ _ c.requires.binary _ _ _ _ c.in-Ok.ensures.found c.in-Ok-operands.ensures.found))
+
+pub expressions::call-returns-in-CloseParen-clause-only : goal.expressions::call-returns-in-CloseParen-clause-only
+expressions::call-returns-in-CloseParen-clause-only t c =
+    found_behind_only
+    _
+    _
+    _
+    _
+    (subst
+    (λ x. FoundBehind c.args.kinds.now 16 c.args.at x (c.args.at + 2))
+    (sym c.call.ensures)
+    (empty_found _ _ c.requires.kind (sym c.in-CloseParen.ensures.kind) c.in-CloseParen.ensures.inside))
+
+pub expressions::call-returns-in-Err : goal.expressions::call-returns-in-Err
+expressions::call-returns-in-Err t c = record {
+  found = tt;
+  only =
+      call_first_fails
+      _
+      _
+      c.requires.kind
+      _
+      c.kind_at.ensures.kind
+      c.in_default.not-CloseParen
+      _
+      c.in-Err.ensures.only;
+}
+
+pub expressions::call-returns-in-Err-operands : goal.expressions::call-returns-in-Err-operands
+expressions::call-returns-in-Err-operands t c = record {
+  found = tt;
+  only =
+      call_more_fails
+      _
+      _
+      c.requires.kind
+      _
+      c.kind_at.ensures.kind
+      c.in_default.not-CloseParen
+      _
+      _
+      c.in-Ok.ensures.found
+      _
+      c.in-Err-operands.ensures.only;
+}
+
+pub expressions::call-returns-in_default-kind_at : goal.expressions::call-returns-in_default-kind_at
+expressions::call-returns-in_default-kind_at t c = record {
+  found = tt;
+  only =
+      call_left_open
+      _
+      _
+      c.requires.kind
+      _
+      c.kind_at.ensures.kind
+      c.in_default.not-CloseParen
+      _
+      _
+      _
+      _
+      _
+      c.in-Ok.ensures.found
+      c.in-Ok-operands.ensures.found
+      c.kind_at-2.ensures.kind
+      c.in_default-kind_at.not-CloseParen;
+}
+
+pub expressions::call-returns-in-Ok-call_with : goal.expressions::call-returns-in-Ok-call_with
+expressions::call-returns-in-Ok-call_with t c =
+    let made =
+    subst
+    (λ x. FoundBehind c.args.kinds.now 16 c.args.at x (c.in-Ok-operands.found.1 + 1))
+    (sym c.in-Ok-call_with.ensures)
+    (call_found
+    _
+    _
+    c.requires.kind
+    _
+    _
+    _
+    _
+    c.in-Ok.ensures.found
+    c.in-Ok-operands.ensures.found
+    (sym c.in-CloseParen-kind_at.ensures.kind)
+    c.in-CloseParen-kind_at.ensures.inside) in
+    record { found = made; only = found_behind_only _ _ _ _ made }
+
+pub expressions::conditional-returns-in-Err-clause-only : goal.expressions::conditional-returns-in-Err-clause-only
+expressions::conditional-returns-in-Err-clause-only t c = test_fails _ _ _ _ _ c.choices.invariant c.in-Err.ensures.only
+
+pub expressions::conditional-returns-in-Ok-conditional : goal.expressions::conditional-returns-in-Ok-conditional
+expressions::conditional-returns-in-Ok-conditional t c =
+    let made =
+    subst
+    (λ x. Found c.args.kinds.now 3 c.args.at x c.in-Ok.found.1)
+    (sym c.in-Ok-conditional.ensures.tree)
+    (tests_end
+    _
+    _
+    _
+    _
+    _
+    _
+    _
+    c.choices.invariant
+    c.in-Ok.ensures.found
+    c.kind_at.ensures.kind
+    c.in_default.not-Question) in
+    record { found = made; only = found_only _ _ _ _ _ (omega arith) made }
+
+pub expressions::conditional-returns-in-Err-level-clause-only :
+    goal.expressions::conditional-returns-in-Err-level-clause-only
+expressions::conditional-returns-in-Err-level-clause-only t c =
+    middle_fails
+    _
+    _
+    _
+    _
+    _
+    _
+    _
+    c.choices.invariant
+    c.in-Ok.ensures.found
+    (sym c.in-Question.ensures.kind)
+    c.in-Err-level.ensures.only
+
+pub expressions::conditional-returns-in_default-kind_at : goal.expressions::conditional-returns-in_default-kind_at
+expressions::conditional-returns-in_default-kind_at t c = record {
+  found = tt;
+  only =
+      no_colon
+      _
+      _
+      _
+      _
+      _
+      _
+      _
+      _
+      _
+      c.choices.invariant
+      c.in-Ok.ensures.found
+      (sym c.in-Question.ensures.kind)
+      c.in-Ok-level.ensures.found
+      c.kind_at-in-choices.ensures.kind
+      c.in_default-kind_at.not-Colon;
+}
+
+pub expressions::conditional-choices-preserved : goal.expressions::conditional-choices-preserved
+expressions::conditional-choices-preserved t c =
+    choices_push
+    _
+    _
+    _
+    _
+    _
+    _
+    _
+    _
+    _
+    _
+    c.choices.invariant
+    c.in-Ok.ensures.found
+    (sym c.in-Question.ensures.kind)
+    c.in-Ok-level.ensures.found
+    (sym c.in-Colon.ensures.kind)
+    c.in-Colon.ensures.inside
+    c.new.ensures
+    c.in-Ok-push.ensures.items
+
+pub expressions::index-returns-in-Err-clause-only : goal.expressions::index-returns-in-Err-clause-only
+expressions::index-returns-in-Err-clause-only t c = index_fails _ _ c.requires.kind _ c.in-Err.ensures.only
+
+pub expressions::index-returns-in_default : goal.expressions::index-returns-in_default
+expressions::index-returns-in_default t c = record {
+  found = tt;
+  only =
+      index_left_open
+      _
+      _
+      c.requires.kind
+      _
+      _
+      _
+      c.in-Ok.ensures.found
+      c.kind_at.ensures.kind
+      c.in_default.not-CloseBracket;
+}
+
+pub expressions::index-returns-in-Ok-index-clause-only : goal.expressions::index-returns-in-Ok-index-clause-only
+expressions::index-returns-in-Ok-index-clause-only t c =
+    found_behind_only
+    _
+    _
+    _
+    _
+    (subst
+    (λ x. FoundBehind c.args.kinds.now 16 c.args.at x (c.in-Ok.found.1 + 1))
+    (sym c.in-Ok-index.ensures)
+    (index_found
+    _
+    _
+    c.requires.kind
+    _
+    _
+    c.in-Ok.ensures.found
+    (sym c.in-CloseBracket.ensures.kind)
+    c.in-CloseBracket.ensures.inside))
+
+pub expressions::operands-returns-then-level_at-n-clause-only :
+    goal.expressions::operands-returns-then-level_at-n-clause-only
+expressions::operands-returns-then-level_at-n-clause-only t c =
+    found_behinds_only
+    _
+    _
+    _
+    _
+    _
+    (loop_ends _ _ _ _ _ c.operators.invariant (λ e. c.if-level_at-n.true (c.level_at.ensures.level ∙ e)))
+
+pub expressions::operands-returns-in-Err-clause-only : goal.expressions::operands-returns-in-Err-clause-only
+expressions::operands-returns-in-Err-clause-only t c =
+    loop_fails
+    _
+    _
+    _
+    _
+    _
+    _
+    c.operators.invariant
+    (sym c.level_at.ensures.level ∙ c.if-level_at-n.false)
+    (operand_fails _ _ _ c.requires.binary _ c.in-Err.ensures.only)
+
+pub expressions::operands-operators-preserved : goal.expressions::operands-operators-preserved
+expressions::operands-operators-preserved t c =
+    operands_push
+    _
+    _
+    _
+    _
+    _
+    _
+    _
+    _
+    c.requires.binary
+    c.operators.invariant
+    (sym c.level_at.ensures.level ∙ c.if-level_at-n.false)
+    c.in-Ok.ensures.found
+    c.in-Ok-push.ensures.items
+
+pub expressions::postfix-returns-in-Err-suffixes-clause-only : goal.expressions::postfix-returns-in-Err-suffixes-clause-only
+expressions::postfix-returns-in-Err-suffixes-clause-only t c =
+    more_fails _ _ _ _ _ (λ t b h. postfix_view _ t _ b h) _ _ c.in-Ok.ensures.found c.in-Err-suffixes.ensures.only
+
+pub expressions::postfix-returns-in-Ok-postfix-clause-found : goal.expressions::postfix-returns-in-Ok-postfix-clause-found
+expressions::postfix-returns-in-Ok-postfix-clause-found t c =
+    subst
+    (λ x. Found c.args.kinds.now 16 (start_of c.args.begun) x c.in-Ok-suffixes.found.1)
+    (sym c.in-Ok-postfix.ensures.tree)
+    (postfix_found _ _ _ _ _ _ c.in-Ok.ensures.fits c.in-Ok.ensures.found c.in-Ok-suffixes.ensures.found)
+
+pub expressions::postfix-returns-in-Ok-postfix-clause-only : goal.expressions::postfix-returns-in-Ok-postfix-clause-only
+expressions::postfix-returns-in-Ok-postfix-clause-only t c =
+    found_only _ _ _ _ _ (omega arith) (expressions::postfix-returns-in-Ok-postfix-clause-found t c)
+
+pub expressions::suffix-returns-in_default : goal.expressions::suffix-returns-in_default
+expressions::suffix-returns-in_default t c =
+    let kind =
+    is_step
+    _
+    (ap level_of c.kind_at.ensures.kind ∙ c.requires.kind)
+    c.in_default.not-OpenBracket
+    c.in_default.not-OpenParen
+    (member_none _ c.in_default.not-Member c.in_default.not-Dot) in
+    let made =
+    subst
+    (λ x. FoundBehind c.args.kinds.now 16 c.args.at x (c.args.at + 1))
+    (sym c.step.ensures)
+    (step_found _ _ (sym c.kind_at.ensures.kind ∙ kind) c.requires.inside) in
+    record { found = made; only = found_behind_only _ _ _ _ made }
+
+pub expressions::suffixes-returns-then-level_at-ne-POSTFIX-clause-only :
+    goal.expressions::suffixes-returns-then-level_at-ne-POSTFIX-clause-only
+expressions::suffixes-returns-then-level_at-ne-POSTFIX-clause-only t c =
+    found_behinds_only
+    _
+    _
+    _
+    _
+    _
+    (loop_ends _ _ _ _ _ c.suffixes.invariant (λ e. c.if-level_at-ne-POSTFIX.true (c.level_at.ensures.level ∙ e)))
+
+pub expressions::suffixes-returns-in-Err-clause-only : goal.expressions::suffixes-returns-in-Err-clause-only
+expressions::suffixes-returns-in-Err-clause-only t c =
+    loop_fails
+    _
+    _
+    _
+    _
+    _
+    _
+    c.suffixes.invariant
+    (sym c.level_at.ensures.level ∙ c.if-level_at-ne-POSTFIX.false)
+    (λ x b h s. c.in-Err.ensures.only x b h)
+
+pub expressions::suffixes-suffixes-preserved : goal.expressions::suffixes-suffixes-preserved
+expressions::suffixes-suffixes-preserved t c =
+    suffixes_push
+    _
+    _
+    _
+    _
+    _
+    _
+    _
+    c.suffixes.invariant
+    (sym c.level_at.ensures.level ∙ c.if-level_at-ne-POSTFIX.false)
+    c.in-Ok.ensures.found
+    c.in-Ok-push.ensures.items
+
+pub expressions::unary-returns-in-Err-clause-only : goal.expressions::unary-returns-in-Err-clause-only
+expressions::unary-returns-in-Err-clause-only t c = unary_fails _ _ _ c.in-Err.ensures.only
+
+pub expressions::unary-returns-in-Err-postfix-clause-only : goal.expressions::unary-returns-in-Err-postfix-clause-only
+expressions::unary-returns-in-Err-postfix-clause-only t c =
+    operand_of_fails _ _ _ _ c.in-Ok.ensures.only _ c.in-Err-postfix.ensures.only
+
+pub expressions::unary-returns-in-Ok-unary-clause-only : goal.expressions::unary-returns-in-Ok-unary-clause-only
+expressions::unary-returns-in-Ok-unary-clause-only t c =
+    found_only
+    _
+    _
+    _
+    _
+    _
+    (omega arith)
+    (subst
+    (λ x. Found c.args.kinds.now 14 c.args.at x c.in-Ok-postfix.found.1)
+    (sym c.in-Ok-unary.ensures.tree)
+    (unary_found _ _ _ _ _ _ c.in-Ok.ensures.found c.in-Ok-postfix.ensures.found))
+
+pub expressions::begun_with-returns-in-Ok-clause-fits : goal.expressions::begun_with-returns-in-Ok-clause-fits
+expressions::begun_with-returns-in-Ok-clause-fits t c =
+    λ l. plain_fits _ _ (rw c.in-Plain.is at c.requires.begins) _ _ c.in-Ok.ensures.found
+
+pub expressions::compound-returns-in-Err-clause-none : goal.expressions::compound-returns-in-Err-clause-none
+expressions::compound-returns-in-Err-clause-none t c =
+    literal_fails _ _ _ _ _ c.requires.literal c.in-Err.ensures.only
+
+pub expressions::paren-returns-in-Err-clause-only : goal.expressions::paren-returns-in-Err-clause-only
+expressions::paren-returns-in-Err-clause-only t c =
+    paren_fails _ _ c.requires.kind c.requires.untyped _ c.in-Err.ensures.only
+
+pub expressions::paren-returns-in_default : goal.expressions::paren-returns-in_default
+expressions::paren-returns-in_default t c =
+    record { found = tt; only = paren_left_open _ _ c.requires.kind c.requires.untyped _ _ _ c.in-Ok.ensures.found c.kind_at.ensures.kind c.in_default.not-CloseParen }
+
+pub expressions::paren-returns-in-Ok-paren-clause-only : goal.expressions::paren-returns-in-Ok-paren-clause-only
+expressions::paren-returns-in-Ok-paren-clause-only t c =
+    found_only _ _ _ _ _ (omega arith) (subst (λ x. Found c.args.kinds.now 17 c.args.at x (c.in-Ok.found.1 + 1)) (sym c.in-Ok-paren.ensures) (paren_found _ _ c.requires.kind _ _ c.in-Ok.ensures.found (sym c.in-CloseParen.ensures.kind) c.in-CloseParen.ensures.inside))
+
+pub expressions::primary-returns-in_default : goal.expressions::primary-returns-in_default
+expressions::primary-returns-in_default t c =
+    record {
+      found = tt;
+      only = other_fails _ _ _ c.kind_at.ensures.kind c.requires.plain.no_size c.in_default.not-Identifier c.in_default.not-Constant c.in_default.not-Text c.in_default.not-OpenParen
+          c.in_default.not-Generic
+          c.in_default.not-OffsetOf;
+    }
+
+pub initializers::braces-returns-in-Err-clause-only : goal.initializers::braces-returns-in-Err-clause-only
+initializers::braces-returns-in-Err-clause-only t c =
+    first_piece_fails _ _ _ c.in-Err.ensures.only
+
+pub initializers::braces-returns-in-Err-pieces-clause-only : goal.initializers::braces-returns-in-Err-pieces-clause-only
+initializers::braces-returns-in-Err-pieces-clause-only t c =
+    more_pieces_fail _ _ _ _ c.in-Ok.ensures.only _ c.in-Err-pieces.ensures.only
+
+pub initializers::braces-returns-in_default : goal.initializers::braces-returns-in_default
+initializers::braces-returns-in_default t c =
+    record { found = tt; only = braces_left_open _ _ _ _ _ _ _ c.in-Ok.ensures.only c.in-Ok-pieces.ensures.only _ c.kind_at.ensures.kind c.in_default.not-CloseBrace }
+
+pub initializers::braces-returns-clause-only : goal.initializers::braces-returns-clause-only
+initializers::braces-returns-clause-only t c =
+    found_braces_only _ _ _ _ (subst (λ x. FoundBraces c.args.kinds.now c.args.at x (c.in-Ok-pieces.found.2 + 1)) (sym c.new.ensures) (braces_found _ _ c.requires.kind _ _ _ _ _ c.in-Ok.ensures.found c.in-Ok-pieces.ensures.found (sym c.in-CloseBrace.ensures.kind) c.in-CloseBrace.ensures.inside))
+
+pub initializers::designated-returns-in-Err-clause-only : goal.initializers::designated-returns-in-Err-clause-only
+initializers::designated-returns-in-Err-clause-only t c =
+    designator_fails _ _ c.requires.kind _ c.in-Err.ensures.only
+
+pub initializers::designated-returns-in-Err-designators-clause-only : goal.initializers::designated-returns-in-Err-designators-clause-only
+initializers::designated-returns-in-Err-designators-clause-only t c =
+    designators_fail _ _ c.requires.kind _ _ c.in-Ok.ensures.only _ c.in-Err-designators.ensures.only
+
+pub initializers::designated-returns-in_default : goal.initializers::designated-returns-in_default
+initializers::designated-returns-in_default t c =
+    record { found = tt; only = unequal _ _ c.requires.kind _ _ _ _ c.in-Ok.ensures.only c.in-Ok-designators.ensures.only _ c.kind_at.ensures.kind c.in_default.not-Equals }
+
+pub initializers::designated-returns-in-Ok-init-clause-only : goal.initializers::designated-returns-in-Ok-init-clause-only
+initializers::designated-returns-in-Ok-init-clause-only t c =
+    λ x end h s. let same = designated_only _ _ c.requires.kind _ _ _ _ _ _ c.in-Ok.ensures.only c.in-Ok-designators.ensures.only c.in-Ok-init.ensures.only x end h s in (c.designated.ensures ∙ same.0, same.1)
+
+pub initializers::designated-returns-in-Err-init-clause-only : goal.initializers::designated-returns-in-Err-init-clause-only
+initializers::designated-returns-in-Err-init-clause-only t c =
+    designated_fails _ _ c.requires.kind _ _ _ _ c.in-Ok.ensures.only c.in-Ok-designators.ensures.only _ c.in-Err-init.ensures.only
+
+pub initializers::designator-returns-then-not-is_word-clause-only : goal.initializers::designator-returns-then-not-is_word-clause-only
+initializers::designator-returns-then-not-is_word-clause-only t c =
+    field_unnamed _ _ (sym c.in-Dot.ensures.kind) (ap is_word (sym c.kind_at-in-Dot.ensures.kind) ∙ sym c.is_word.ensures ∙ c.if-not-is_word.true)
+
+pub initializers::designator-returns-in-Dot-clause-only : goal.initializers::designator-returns-in-Dot-clause-only
+initializers::designator-returns-in-Dot-clause-only t c =
+    found_designator_only _ _ _ _ (subst (λ x. FoundDesignator c.args.kinds.now c.args.at x (c.args.at + 2)) (sym c.field.ensures) (field_found _ _ (sym c.in-Dot.ensures.kind) (ap is_word (sym c.kind_at-in-Dot.ensures.kind) ∙ sym c.is_word.ensures ∙ c.if-not-is_word.false)))
+
+pub initializers::designator-returns-in-Err : goal.initializers::designator-returns-in-Err
+initializers::designator-returns-in-Err t c =
+    record { found = tt; only = element_fails _ _ (element_opens c.args.kinds.now c.args.at _ c.kind_at.ensures.kind c.in_default.not-Dot c.requires.kind) _ c.in-Err.ensures.only }
+
+pub initializers::designator-returns-in_default-kind_at : goal.initializers::designator-returns-in_default-kind_at
+initializers::designator-returns-in_default-kind_at t c =
+    record { found = tt; only = element_left_open _ _ (element_opens c.args.kinds.now c.args.at _ c.kind_at.ensures.kind c.in_default.not-Dot c.requires.kind) _ _ _ c.in-Ok.ensures.found c.kind_at-2.ensures.kind c.in_default-kind_at.not-CloseBracket }
+
+pub initializers::designator-returns : goal.initializers::designator-returns
+initializers::designator-returns t c =
+    let made = subst (λ x. FoundDesignator c.args.kinds.now c.args.at x (c.in-Ok.found.1 + 1)) (sym c.element.ensures) (element_found _ _ (element_opens c.args.kinds.now c.args.at _ c.kind_at.ensures.kind c.in_default.not-Dot c.requires.kind) _ _ c.in-Ok.ensures.found (sym c.in-CloseBracket.ensures.kind) c.in-CloseBracket.ensures.inside) in record { found = made; only = found_designator_only _ _ _ _ made }
+
+pub initializers::designators-returns-then-not-is_designating-clause-found : goal.initializers::designators-returns-then-not-is_designating-clause-found
+initializers::designators-returns-then-not-is_designating-clause-found t c =
+    path_found _ _ _ _ c.designators.invariant
+
+pub initializers::designators-returns-then-not-is_designating-clause-only : goal.initializers::designators-returns-then-not-is_designating-clause-only
+initializers::designators-returns-then-not-is_designating-clause-only t c =
+    path_only _ _ _ _ c.designators.invariant (ap is_designating (sym c.kind_at.ensures.kind) ∙ sym c.is_designating.ensures ∙ c.if-not-is_designating.true)
+
+pub initializers::designators-returns-in-Err-clause-only : goal.initializers::designators-returns-in-Err-clause-only
+initializers::designators-returns-in-Err-clause-only t c =
+    path_fails _ _ _ _ c.designators.invariant (ap is_designating (sym c.kind_at.ensures.kind) ∙ sym c.is_designating.ensures ∙ c.if-not-is_designating.false) _ c.in-Err.ensures.only
+
+pub initializers::designators-designators-preserved : goal.initializers::designators-designators-preserved
+initializers::designators-designators-preserved t c =
+    designators_push _ _ _ _ _ _ _ c.designators.invariant (ap is_designating (sym c.kind_at.ensures.kind) ∙ sym c.is_designating.ensures ∙ c.if-not-is_designating.false) c.in-Ok.ensures.found c.in-Ok.ensures.only c.in-Ok-push.ensures.items
+
+pub initializers::init-returns-in-Ok : goal.initializers::init-returns-in-Ok
+initializers::init-returns-in-Ok t c =
+    record { found = subst (λ x. FoundInitial c.args.kinds.now c.args.at x c.in-Ok.end) (sym c.value.ensures) (value_found _ _ _ _ c.in-Ok.ensures.found); only = λ x end h s. let same = value_only _ _ _ _ c.in-Ok.ensures.found x end h s in (c.value.ensures ∙ same.0, same.1) }
+
+pub initializers::init-returns-in-Err : goal.initializers::init-returns-in-Err
+initializers::init-returns-in-Err t c =
+    record { found = tt; only = init_fails _ _ _ c.kind_at.ensures.kind c.in_default.not-OpenBrace _ c.in-Err.ensures.only }
+
+pub initializers::init-returns-in-Err-braces-clause-only : goal.initializers::init-returns-in-Err-braces-clause-only
+initializers::init-returns-in-Err-braces-clause-only t c =
+    list_fails _ _ (sym c.in-OpenBrace.ensures.kind) _ c.in-Err-braces.ensures.only
+
+pub initializers::init-returns-in-Ok-list-clause-only : goal.initializers::init-returns-in-Ok-list-clause-only
+initializers::init-returns-in-Ok-list-clause-only t c =
+    λ x end h s. let same = list_only _ _ _ _ c.in-Ok-braces.ensures.found x end h s in (c.in-Ok-list.ensures ∙ same.0, same.1)
+
+pub initializers::piece-returns-in-Ok-clause-only : goal.initializers::piece-returns-in-Ok-clause-only
+initializers::piece-returns-in-Ok-clause-only t c =
+    λ x end h s. let same = plain_only _ _ (ap is_designating (sym c.kind_at.ensures.kind) ∙ sym c.is_designating.ensures ∙ c.if-is_designating.false) _ _ c.in-Ok.ensures.only x end h s in (c.plain.ensures ∙ same.0, same.1)
+
+pub initializers::piece-returns-in-Err-clause-only : goal.initializers::piece-returns-in-Err-clause-only
+initializers::piece-returns-in-Err-clause-only t c =
+    plain_fails _ _ (ap is_designating (sym c.kind_at.ensures.kind) ∙ sym c.is_designating.ensures ∙ c.if-is_designating.false) _ c.in-Err.ensures.only
+
+pub initializers::pieces-returns-in_default : goal.initializers::pieces-returns-in_default
+initializers::pieces-returns-in_default t c =
+    record { found = row_found _ _ _ _ c.pieces.invariant; only = row_only _ _ _ _ _ c.pieces.invariant c.kind_at.ensures.kind c.in_default.not-Comma }
+
+pub initializers::pieces-returns-in-CloseBrace-clause-found : goal.initializers::pieces-returns-in-CloseBrace-clause-found
+initializers::pieces-returns-in-CloseBrace-clause-found t c =
+    row_found_comma _ _ _ _ c.pieces.invariant (sym c.in-Comma.ensures.kind) c.in-Comma.ensures.inside
+
+pub initializers::pieces-returns-in-CloseBrace-clause-only : goal.initializers::pieces-returns-in-CloseBrace-clause-only
+initializers::pieces-returns-in-CloseBrace-clause-only t c =
+    row_only_comma _ _ _ _ c.pieces.invariant (sym c.in-Comma.ensures.kind) (sym c.in-CloseBrace.ensures.kind)
+
+pub initializers::pieces-returns-in-Err : goal.initializers::pieces-returns-in-Err
+initializers::pieces-returns-in-Err t c =
+    record { found = tt; only = row_fails _ _ _ _ c.pieces.invariant (sym c.in-Comma.ensures.kind) _ c.kind_at-in-pieces.ensures.kind c.in_default-kind_at.not-CloseBrace _ c.in-Err.ensures.only }
+
+pub initializers::pieces-pieces-preserved : goal.initializers::pieces-pieces-preserved
+initializers::pieces-pieces-preserved t c =
+    pieces_push _ _ _ _ _ _ _ c.pieces.invariant (sym c.in-Comma.ensures.kind) _ c.kind_at-in-pieces.ensures.kind c.in_default-kind_at.not-CloseBrace c.in-Ok.ensures.found c.in-Ok.ensures.only c.in-Ok-push.ensures.items
+
+pub selections::other-returns-in_default : goal.selections::other-returns-in_default
+selections::other-returns-in_default t c =
+    record { found = tt; only = default_unparted _ _ c.requires.kind _ c.kind_at.ensures.kind c.in_default.not-Colon }
+
+pub selections::other-returns-in-Ok : goal.selections::other-returns-in-Ok
+selections::other-returns-in-Ok t c =
+    record { found = subst (λ x. FoundAssociation c.args.kinds.now c.args.at x c.in-Ok.end) (sym c.other.ensures) (default_found _ _ c.requires.kind (sym c.in-Colon.ensures.kind) _ _ c.in-Ok.ensures.found); only = λ x end h s. let same = default_only _ _ c.requires.kind (sym c.in-Colon.ensures.kind) _ _ c.in-Ok.ensures.found x end h s in (c.other.ensures ∙ same.0, same.1) }
+
+pub selections::other-returns-in-Err : goal.selections::other-returns-in-Err
+selections::other-returns-in-Err t c =
+    record { found = tt; only = default_fails _ _ c.requires.kind _ c.in-Err.ensures.only }
+
+pub selections::association-returns-in-Err : goal.selections::association-returns-in-Err
+selections::association-returns-in-Err t c =
+    record { found = tt; only = type_first_fails _ _ _ c.kind_at.ensures.kind c.in_default.not-Default _ c.in-Err.ensures.only }
+
+pub selections::association-returns-in_default-kind_at : goal.selections::association-returns-in_default-kind_at
+selections::association-returns-in_default-kind_at t c =
+    record { found = tt; only = typed_unparted _ _ _ c.kind_at.ensures.kind c.in_default.not-Default _ _ c.in-Ok.ensures.only _ c.kind_at-2.ensures.kind c.in_default-kind_at.not-Colon }
+
+pub selections::association-returns-in-Ok-level : goal.selections::association-returns-in-Ok-level
+selections::association-returns-in-Ok-level t c =
+    record { found = subst (λ x. FoundAssociation c.args.kinds.now c.args.at x c.in-Ok-level.end) (sym c.typed.ensures) (typed_found _ _ _ _ c.in-Ok.ensures.found (sym c.in-Colon.ensures.kind) _ _ c.in-Ok-level.ensures.found); only = λ x end h s. let same = typed_only _ _ _ _ c.in-Ok.ensures.found (sym c.in-Colon.ensures.kind) _ _ c.in-Ok-level.ensures.found x end h s in (c.typed.ensures ∙ same.0, same.1) }
+
+pub selections::association-returns-in-Err-level : goal.selections::association-returns-in-Err-level
+selections::association-returns-in-Err-level t c =
+    record { found = tt; only = typed_fails _ _ _ c.kind_at.ensures.kind c.in_default.not-Default _ _ c.in-Ok.ensures.only _ c.in-Err-level.ensures.only }
+
+pub selections::associations-returns-in_default : goal.selections::associations-returns-in_default
+selections::associations-returns-in_default t c =
+    record { found = choices_found _ _ _ _ c.choices.invariant; only = choices_only _ _ _ _ _ c.choices.invariant c.kind_at.ensures.kind c.in_default.not-Comma }
+
+pub selections::associations-returns-in-Err : goal.selections::associations-returns-in-Err
+selections::associations-returns-in-Err t c =
+    record { found = tt; only = choices_fail _ _ _ _ c.choices.invariant (sym c.in-Comma.ensures.kind) _ c.in-Err.ensures.only }
+
+pub selections::associations-choices-preserved : goal.selections::associations-choices-preserved
+selections::associations-choices-preserved t c =
+    associations_push _ _ _ _ _ _ _ c.choices.invariant (sym c.in-Comma.ensures.kind) c.in-Ok.ensures.found c.in-Ok.ensures.only c.in-Ok-push.ensures.items
+
+pub selections::generic-returns-in_default : goal.selections::generic-returns-in_default
+selections::generic-returns-in_default t c =
+    record { found = tt; only = generic_unopened _ _ c.requires.kind _ c.kind_at.ensures.kind c.in_default.not-OpenParen }
+
+pub selections::generic-returns-in-Err : goal.selections::generic-returns-in-Err
+selections::generic-returns-in-Err t c =
+    record { found = tt; only = control_fails _ _ c.requires.kind _ c.in-Err.ensures.only }
+
+pub selections::generic-returns-in_default-kind_at : goal.selections::generic-returns-in_default-kind_at
+selections::generic-returns-in_default-kind_at t c =
+    record { found = tt; only = nothing_chosen _ _ c.requires.kind _ _ c.in-Ok.ensures.found _ c.kind_at-2.ensures.kind c.in_default-kind_at.not-Comma }
+
+pub selections::generic-returns-in-Err-associations : goal.selections::generic-returns-in-Err-associations
+selections::generic-returns-in-Err-associations t c =
+    record { found = tt; only = choices_of_fail _ _ c.requires.kind _ _ c.in-Ok.ensures.found _ c.in-Err-associations.ensures.only }
+
+pub selections::generic-returns-in_default-kind_at-2 : goal.selections::generic-returns-in_default-kind_at-2
+selections::generic-returns-in_default-kind_at-2 t c =
+    record { found = tt; only = generic_left_open _ _ c.requires.kind _ _ c.in-Ok.ensures.found _ _ c.in-Ok-associations.ensures.only _ c.kind_at-3.ensures.kind c.in_default-kind_at-2.not-CloseParen }
+
+pub selections::generic-returns-in-Ok-generic : goal.selections::generic-returns-in-Ok-generic
+selections::generic-returns-in-Ok-generic t c =
+    let made = subst (λ x. Found c.args.kinds.now 17 c.args.at x (c.in-Ok-associations.found.1 + 1)) (sym c.in-Ok-generic.ensures) (generic_found _ _ c.requires.kind (sym c.in-OpenParen.ensures.kind) _ _ c.in-Ok.ensures.found (sym c.in-Comma.ensures.kind) _ _ c.in-Ok-associations.ensures.found (sym c.in-CloseParen.ensures.kind) c.in-CloseParen.ensures.inside) in record { found = made; only = found_only _ _ _ _ _ (omega arith) made }
+
+pub selections::steps-returns-then-not-is_designating : goal.selections::steps-returns-then-not-is_designating
+selections::steps-returns-then-not-is_designating t c =
+    record { found = steps_found _ _ _ _ c.steps.invariant; only = steps_only _ _ _ _ c.steps.invariant (ap is_designating (sym c.kind_at.ensures.kind) ∙ sym c.is_designating.ensures ∙ c.if-not-is_designating.true) }
+
+pub selections::steps-returns-in-Err : goal.selections::steps-returns-in-Err
+selections::steps-returns-in-Err t c =
+    record { found = tt; only = steps_fail _ _ _ _ c.steps.invariant (ap is_designating (sym c.kind_at.ensures.kind) ∙ sym c.is_designating.ensures ∙ c.if-not-is_designating.false) _ c.in-Err.ensures.only }
+
+pub selections::steps-steps-preserved : goal.selections::steps-steps-preserved
+selections::steps-steps-preserved t c =
+    steps_push _ _ _ _ _ _ _ c.steps.invariant (ap is_designating (sym c.kind_at.ensures.kind) ∙ sym c.is_designating.ensures ∙ c.if-not-is_designating.false) c.in-Ok.ensures.found c.in-Ok-push.ensures.items
+
+pub selections::offset-returns-in_default : goal.selections::offset-returns-in_default
+selections::offset-returns-in_default t c =
+    record { found = tt; only = offset_unopened _ _ c.requires.kind _ c.kind_at.ensures.kind c.in_default.not-OpenParen }
+
+pub selections::offset-returns-in-Err : goal.selections::offset-returns-in-Err
+selections::offset-returns-in-Err t c =
+    record { found = tt; only = offset_type_fails _ _ c.requires.kind _ c.in-Err.ensures.only }
+
+pub selections::offset-returns-in_default-kind_at : goal.selections::offset-returns-in_default-kind_at
+selections::offset-returns-in_default-kind_at t c =
+    record { found = tt; only = offset_unparted _ _ c.requires.kind _ _ c.in-Ok.ensures.only _ c.kind_at-2.ensures.kind c.in_default-kind_at.not-Comma }
+
+pub selections::offset-returns-then-not-is_word : goal.selections::offset-returns-then-not-is_word
+selections::offset-returns-then-not-is_word t c =
+    record { found = tt; only = offset_unnamed _ _ c.requires.kind _ _ c.in-Ok.ensures.only (ap is_word (sym c.kind_at-3.ensures.kind) ∙ sym c.is_word.ensures ∙ c.if-not-is_word.true) }
+
+pub selections::offset-returns-in-Err-steps : goal.selections::offset-returns-in-Err-steps
+selections::offset-returns-in-Err-steps t c =
+    record { found = tt; only = offset_steps_fail _ _ c.requires.kind _ _ c.in-Ok.ensures.only _ c.in-Err-steps.ensures.only }
+
+pub selections::offset-returns-in_default-kind_at-2 : goal.selections::offset-returns-in_default-kind_at-2
+selections::offset-returns-in_default-kind_at-2 t c =
+    record { found = tt; only = offset_left_open _ _ c.requires.kind _ _ c.in-Ok.ensures.only _ _ c.in-Ok-steps.ensures.only _ c.kind_at-4.ensures.kind c.in_default-kind_at-2.not-CloseParen }
+
+pub selections::offset-returns-in-Ok-offset : goal.selections::offset-returns-in-Ok-offset
+selections::offset-returns-in-Ok-offset t c =
+    let made = subst (λ x. Found c.args.kinds.now 17 c.args.at x (c.in-Ok-steps.found.1 + 1)) (sym c.in-Ok-offset.ensures) (offset_found _ _ c.requires.kind (sym c.in-OpenParen.ensures.kind) _ _ c.in-Ok.ensures.found (sym c.in-Comma.ensures.kind) (ap is_word (sym c.kind_at-3.ensures.kind) ∙ sym c.is_word.ensures ∙ c.if-not-is_word.false) _ _ c.in-Ok-steps.ensures.found (sym c.in-CloseParen.ensures.kind) c.in-CloseParen.ensures.inside) in record { found = made; only = found_only _ _ _ _ _ (omega arith) made }
+
+pub expressions::begun_with-returns-in-Err-compound-clause-none : goal.expressions::begun_with-returns-in-Err-compound-clause-none
+expressions::begun_with-returns-in-Err-compound-clause-none t c =
+    λ u end h s.
+    fails_by_first
+    _
+    _
+    _
+    c.in-Err-compound.ensures.none
+    u
+    end
+    (subst (λ x. Reads c.args.kinds.now 16 u (start_of x) end) c.in-Literal.is h)
+    s

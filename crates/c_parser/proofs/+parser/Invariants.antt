@@ -1,0 +1,140 @@
+use Rattle.std.proofs.Common.{◌+◌, ◌-◌, ◌*◌, length}
+use Rattle.tree_data.specs.Seen.{operands_of, suffixes_of, choices_of, lefts_of, pieces_of, designators_of, associations_of}
+use Rattle.c_parser.specs.Beginnings.{start_of}
+use Rattle.c_parser.proofs.Fronts.{Fore}
+use Rattle.c_parser.proofs.Generics.{Choices, Steps}
+use Rattle.c_parser.proofs.Initials.{Row, Path}
+use Rattle.c_parser.proofs.Parsing.{Loop}
+use Rattle.c_parser.proofs.+parser.Given as goal
+
+abbrev pub decreases-expressions::level : goal.decreases-expressions::level
+decreases-expressions::level l = 64 * (length l.kinds.now - l.at) + (2 * (20 - l.n) + 1)
+
+abbrev pub decreases-expressions::binary : goal.decreases-expressions::binary
+decreases-expressions::binary l = 64 * (length l.kinds.now - l.at) + 2 * (20 - l.n)
+
+abbrev pub decreases-expressions::assignment : goal.decreases-expressions::assignment
+decreases-expressions::assignment l = 64 * (length l.kinds.now - l.at) + 36
+
+abbrev pub decreases-expressions::conditional : goal.decreases-expressions::conditional
+decreases-expressions::conditional l = 64 * (length l.kinds.now - l.at) + 34
+
+abbrev pub decreases-expressions::unary : goal.decreases-expressions::unary
+decreases-expressions::unary l = 64 * (length l.kinds.now - l.at) + 12
+
+abbrev pub decreases-expressions::postfix : goal.decreases-expressions::postfix
+decreases-expressions::postfix l = 64 * (length l.kinds.now - start_of l.begun) + 11
+
+abbrev pub decreases-expressions::begun_with : goal.decreases-expressions::begun_with
+decreases-expressions::begun_with l = 64 * (length l.kinds.now - start_of l.begun) + 10
+
+abbrev pub decreases-expressions::compound : goal.decreases-expressions::compound
+decreases-expressions::compound l = 64 * (length l.kinds.now - l.opening) + 9
+
+abbrev pub decreases-initializers::braces : goal.decreases-initializers::braces
+decreases-initializers::braces l = 64 * (length l.kinds.now - l.at) + 6
+
+abbrev pub decreases-initializers::init : goal.decreases-initializers::init
+decreases-initializers::init l = 64 * (length l.kinds.now - l.at) + 45
+
+abbrev pub decreases-initializers::designator : goal.decreases-initializers::designator
+decreases-initializers::designator l = 64 * (length l.kinds.now - l.at) + 45
+
+abbrev pub decreases-initializers::designators : goal.decreases-initializers::designators
+decreases-initializers::designators l = 64 * (length l.kinds.now - l.at) + 46
+
+abbrev pub decreases-initializers::designated : goal.decreases-initializers::designated
+decreases-initializers::designated l = 64 * (length l.kinds.now - l.at) + 46
+
+abbrev pub decreases-initializers::piece : goal.decreases-initializers::piece
+decreases-initializers::piece l = 64 * (length l.kinds.now - l.at) + 47
+
+abbrev pub decreases-initializers::pieces : goal.decreases-initializers::pieces
+decreases-initializers::pieces l = 64 * (length l.kinds.now - l.at) + 48
+
+abbrev pub decreases-expressions::primary : goal.decreases-expressions::primary
+decreases-expressions::primary l = 64 * (length l.kinds.now - l.at) + 8
+
+abbrev pub decreases-expressions::paren : goal.decreases-expressions::paren
+decreases-expressions::paren l = 64 * (length l.kinds.now - l.at) + 7
+
+abbrev pub decreases-expressions::suffixes : goal.decreases-expressions::suffixes
+decreases-expressions::suffixes l = 64 * (length l.kinds.now - l.at) + 60
+
+abbrev pub decreases-expressions::suffix : goal.decreases-expressions::suffix
+decreases-expressions::suffix l = 64 * (length l.kinds.now - l.at) + 59
+
+abbrev pub decreases-expressions::index : goal.decreases-expressions::index
+decreases-expressions::index l = 64 * (length l.kinds.now - l.at) + 58
+
+abbrev pub decreases-expressions::call : goal.decreases-expressions::call
+decreases-expressions::call l = 64 * (length l.kinds.now - l.at) + 58
+
+abbrev pub decreases-expressions::operands : goal.decreases-expressions::operands
+decreases-expressions::operands l = 64 * (length l.kinds.now - l.at) + 61
+
+abbrev pub invariant-expressions::operands-operators : goal.invariant-expressions::operands-operators
+invariant-expressions::operands-operators l = Loop l.kinds l.n l.fn.at (operands_of l.pairs.items) l.end
+
+abbrev pub decreases-expressions::operands-operators : goal.decreases-expressions::operands-operators
+decreases-expressions::operands-operators l = length l.kinds - l.end
+
+abbrev pub invariant-expressions::suffixes-suffixes : goal.invariant-expressions::suffixes-suffixes
+invariant-expressions::suffixes-suffixes l = Loop l.kinds 16 l.fn.at (suffixes_of l.suffixes.items) l.end
+
+abbrev pub decreases-expressions::suffixes-suffixes : goal.decreases-expressions::suffixes-suffixes
+decreases-expressions::suffixes-suffixes l = length l.kinds - l.end
+
+abbrev pub invariant-expressions::conditional-choices : goal.invariant-expressions::conditional-choices
+invariant-expressions::conditional-choices l = Fore l.kinds 3 l.fn.at (choices_of l.choices.items) l.start
+
+abbrev pub decreases-expressions::conditional-choices : goal.decreases-expressions::conditional-choices
+decreases-expressions::conditional-choices l = length l.kinds - l.start
+
+abbrev pub invariant-expressions::assignment-places : goal.invariant-expressions::assignment-places
+invariant-expressions::assignment-places l = Fore l.kinds 2 l.fn.at (lefts_of l.places.items) l.start
+
+abbrev pub decreases-expressions::assignment-places : goal.decreases-expressions::assignment-places
+decreases-expressions::assignment-places l = length l.kinds - l.start
+
+abbrev pub invariant-initializers::pieces-pieces : goal.invariant-initializers::pieces-pieces
+invariant-initializers::pieces-pieces l = Row l.kinds l.fn.at (pieces_of l.more.items) l.end
+
+abbrev pub decreases-initializers::pieces-pieces : goal.decreases-initializers::pieces-pieces
+decreases-initializers::pieces-pieces l = length l.kinds - l.end
+
+abbrev pub invariant-initializers::designators-designators : goal.invariant-initializers::designators-designators
+invariant-initializers::designators-designators l = Path l.kinds l.fn.at (designators_of l.more.items) l.end
+
+abbrev pub decreases-initializers::designators-designators : goal.decreases-initializers::designators-designators
+decreases-initializers::designators-designators l = length l.kinds - l.end
+
+abbrev pub decreases-selections::generic : goal.decreases-selections::generic
+decreases-selections::generic l = 64 * (length l.kinds.now - l.at) + 7
+
+abbrev pub decreases-selections::offset : goal.decreases-selections::offset
+decreases-selections::offset l = 64 * (length l.kinds.now - l.at) + 7
+
+abbrev pub decreases-selections::other : goal.decreases-selections::other
+decreases-selections::other l = 64 * (length l.kinds.now - l.at) + 46
+
+abbrev pub decreases-selections::association : goal.decreases-selections::association
+decreases-selections::association l = 64 * (length l.kinds.now - l.at) + 47
+
+abbrev pub decreases-selections::associations : goal.decreases-selections::associations
+decreases-selections::associations l = 64 * (length l.kinds.now - l.at) + 48
+
+abbrev pub decreases-selections::steps : goal.decreases-selections::steps
+decreases-selections::steps l = 64 * (length l.kinds.now - l.at) + 61
+
+abbrev pub invariant-selections::associations-choices : goal.invariant-selections::associations-choices
+invariant-selections::associations-choices l = Choices l.kinds l.fn.at (associations_of l.choices.items) l.end
+
+abbrev pub decreases-selections::associations-choices : goal.decreases-selections::associations-choices
+decreases-selections::associations-choices l = length l.kinds - l.end
+
+abbrev pub invariant-selections::steps-steps : goal.invariant-selections::steps-steps
+invariant-selections::steps-steps l = Steps l.kinds l.fn.at (suffixes_of l.steps.items) l.end
+
+abbrev pub decreases-selections::steps-steps : goal.decreases-selections::steps-steps
+decreases-selections::steps-steps l = length l.kinds - l.end
