@@ -12,7 +12,7 @@ use Rattle.scope_tables.specs.declared.entities.Linkage.TheVariants as linkage
 use Rattle.type_data.specs.Types.{Ty}
 use Rattle.type_rel.specs.Composite.{composite}
 use Rattle.decl_rules.specs.declared.parts.DeclParts.{DeclParts}
-use Rattle.decl_rules.specs.Linkages.{is_linked}
+use Rattle.scope_tables.specs.Scopes.{is_linked}
 use Rattle.decl_rules.specs.Redeclared.{is_typedef_name}
 use Rattle.decl_rules.specs.Sorts.{is_typedef, is_register, is_extern, is_static, is_file, is_parameter, is_function_type}
 

@@ -7,11 +7,6 @@ use Rattle.decl_rules.specs.declared.parts.Storage.{Storage}
 use Rattle.decl_rules.specs.declared.parts.DeclParts.{DeclParts}
 use Rattle.decl_rules.specs.Sorts.{is_typedef, is_static, is_extern, is_file, is_parameter, is_function}
 
-abbrev pub is_linked : Linkage → Bool
-is_linked linkage.None = false
-is_linked linkage.Internal = true
-is_linked linkage.External = true
-
 -- p4: that of the prior declaration that is visible, where that has one, and else external
 abbrev pub or_external : Linkage → Linkage
 or_external linkage.None = linkage.External

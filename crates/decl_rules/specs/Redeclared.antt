@@ -9,7 +9,7 @@ use Rattle.type_data.specs.Same.{same_type, same_qual}
 use Rattle.type_rel.specs.Compatible.{compatible}
 use Rattle.decl_rules.specs.declared.parts.DeclParts.{DeclParts}
 use Rattle.decl_rules.specs.Faults.{of_name}
-use Rattle.decl_rules.specs.Linkages.{is_linked}
+use Rattle.scope_tables.specs.Scopes.{is_linked}
 use Rattle.decl_rules.specs.Sorts.{is_typedef, is_bad}
 
 abbrev pub is_typedef_name : EntityKind → Bool

@@ -9,7 +9,7 @@ use Rattle.scope_tables.specs.declared.entities.Linkage.{Linkage}
 use Rattle.decl_rules.specs.declared.parts.Storage.{Storage}
 use Rattle.decl_rules.specs.declared.parts.Storage.TheVariants as storage
 use Rattle.decl_rules.specs.declared.parts.DeclParts.{DeclParts}
-use Rattle.decl_rules.specs.Linkages.{is_linked}
+use Rattle.scope_tables.specs.Scopes.{is_linked}
 use Rattle.decl_rules.specs.Sorts.{is_typedef, is_register, is_extern, is_static, is_file, is_parameter, is_function, is_object}
 
 abbrev pub is_none : Storage → Bool

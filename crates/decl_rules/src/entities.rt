@@ -58,7 +58,7 @@ fn joined(
 {
     match before {
         Some(entity) => {
-            if is_linked(entity.linkage) && is_linked(linkage) {
+            if entity.has_linkage() && is_linked(linkage) {
                 return composite(alloc, &entity.ty, &decl.ty);
             }
             decl.ty.share()
@@ -78,35 +78,11 @@ fn own_anchor(decl: &DeclParts) -> Result<Anchor, AllocError>
     Ok(Anchor::Local(tok))
 }
 
-fn copied(anchor: &Anchor) -> Result<Anchor, AllocError>
-    ensures { IfOk result (λ a. a ≡ anchor.now) }
-{
-    match anchor {
-        Anchor::External(name) => {
-            let name = name.share()?;
-            Ok(Anchor::External(name))
-        }
-        Anchor::Local(tok) => {
-            let tok = tok.copy()?;
-            Ok(Anchor::Local(tok))
-        }
-        Anchor::Made(tok, name) => {
-            let tok = tok.copy()?;
-            let name = name.share()?;
-            Ok(Anchor::Made(tok, name))
-        }
-        Anchor::Macro(name) => {
-            let name = name.share()?;
-            Ok(Anchor::Macro(name))
-        }
-    }
-}
-
 fn anchor_as(entity: Option<&Entity>, decl: &DeclParts) -> Result<Anchor, AllocError>
     ensures { IfOk result (λ a. a ≡ spec.anchor_as (option_map (λ e. e.now) entity.entry) decl.now) }
 {
     match entity {
-        Some(entity) => copied(&entity.anchor),
+        Some(entity) => entity.anchor.share(),
         None => own_anchor(decl),
     }
 }

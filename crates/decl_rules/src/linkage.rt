@@ -1,5 +1,6 @@
 // Linkage (ISO C11 6.2.2).
 ghost use Rattle.std.specs.Prelude.{◌≡◌, option_map};
+ghost use Rattle.scope_tables.specs.Scopes.{is_linked};
 ghost use Rattle.decl_rules.specs.Linkages as spec;
 
 use crate::parts::{DeclParts, Storage};
@@ -7,7 +8,7 @@ use crate::sorts::{is_extern, is_file, is_function, is_parameter, is_static, is_
 use scope_tables::{Entity, Linkage};
 
 pub(crate) fn is_linked(linkage: Linkage) -> bool
-    ensures { result ≡ spec.is_linked linkage }
+    ensures { result ≡ is_linked linkage }
 {
     match linkage {
         Linkage::None => false,

@@ -62,7 +62,7 @@ fn against(
     if is_typedef_name(&entity.kind) && is_typedef(decl.storage) {
         return retyped(alloc, entity, decl);
     }
-    if is_linked(entity.linkage) && is_linked(linkage) {
+    if entity.has_linkage() && is_linked(linkage) {
         return differing(alloc, entity, decl);
     }
     let fault = of_name(alloc, 402, decl, Vec::new(alloc))?;
