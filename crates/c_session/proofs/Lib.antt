@@ -1,8 +1,8 @@
 pub mod Asking
-pub mod Differing
 pub mod Elements
 pub mod Floats
 pub mod Loads
+pub mod Nothing
 pub mod PathSets
 pub mod Priors
 pub mod Publications
@@ -13,4 +13,5 @@ pub mod Responding
 pub mod Responses
 pub mod Telling
 pub mod Unlike
+pub mod Usable
 pub mod Utf8

@@ -7,7 +7,6 @@ use Rattle.std.specs.List.{list_any, filter}
 use Rattle.std.specs.Ordering.{eq_by_cmp}
 use Rattle.std.proofs.lemmas.Cmp.{tied_itself}
 use Rattle.std.proofs.lemmas.List.Folds.{list_any-append}
-use Rattle.std.proofs.lemmas.Bool.{or_right}
 use Rattle.doc_texts.specs.Texts.{TextMap, PathSet, Texts, OpenText, shown, text_at, add_all, marked, path_set, paths_of}
 
 -- the order of paths by their bytes
@@ -98,14 +97,6 @@ module _ (test : List ℕ → Bool) where
 
 -- ---- what is written for each of some paths
 
-module _ (f g : List ℕ → List ℕ) where
-  pub flat_map_alike : (ks : List (List ℕ)) → ((q : List ℕ) → list_any (ties q) ks ≡ true → f q ≡ g q) → flat_map f ks ≡ flat_map g ks
-  flat_map_alike [] alike = refl
-  flat_map_alike (k ∷ ks) alike =
-      let here : f k ≡ g k = alike k (ap (λ b. b || list_any (ties k) ks) (ties_itself k)) in
-      let rest : flat_map f ks ≡ flat_map g ks = flat_map_alike ks (λ q among. alike q (or_right (ties q k) (list_any (ties q) ks) among)) in
-      λ i. here i ++ rest i
-
 pub flat_map_tested : (test : List ℕ → Bool) (f : List ℕ → List ℕ) (ks : List (List ℕ)) → flat_map (λ k. if test k then f k else []) ks ≡ flat_map f (filter test ks)
 flat_map_tested test f [] = refl
 flat_map_tested test f (k ∷ ks) =
@@ -158,6 +149,12 @@ has_path t q =
     ∙ list_any-append (ties q) (keys t.disk) (keys t.opened)
     ∙ (λ i. sym (contains_key-keys t.disk q) i || sym (contains_key-keys t.opened q) i)
     ∙ either (get t.opened q) (get t.disk q)
+
+-- and among those that may have news where something is kept for it, or it has a text
+pub has_kept : (prior : TextMap (Option (List ℕ))) (now : Texts) (q : List ℕ) → list_any (ties q) (keys (add_all (marked (keys prior)) (paths_of now))) ≡ (is_some (get prior q) || is_some (text_at now q))
+has_kept prior now q =
+    sym (contains_key-keys (add_all (marked (keys prior)) (paths_of now)) q) ∙ has_added (marked (keys prior)) (paths_of now) q
+    ∙ (λ i. (contains_key-keys (marked (keys prior)) q ∙ is_in_set (keys prior) q ∙ sym (contains_key-keys prior q)) i || has_path now q i)
 
 -- and among those of two moments where it has one at either
 pub has_path_of_two : (start now : Texts) (q : List ℕ) → list_any (ties q) (path_set (paths_of start ++ paths_of now)) ≡ (is_some (text_at start q) || is_some (text_at now q))

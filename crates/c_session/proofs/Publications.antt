@@ -1,82 +1,97 @@
--- What is written by the prior texts is what is published, file by file.
-use Rattle.std.proofs.Common.{◌≡◌, ℕ, Bool, true, false, cond, List, [], ◌∷◌, ◌++◌, flat_map, ◌||◌, Option, Some, None, is_some, option_and_then, sym, refl, ap, ◌∙◌, true≢false, append-nil}
-use Rattle.std.specs.FinMap.{get, keys, contains_key-keys}
+-- What is written by what is kept of an earlier moment is what is published, file by file.
+use Rattle.std.proofs.Common.{◌≡◌, ℕ, Bool, true, false, not, List, [], ◌∷◌, ◌++◌, flat_map, ◌||◌, Option, Some, None, is_some, sym, refl, ap, ◌∙◌, true≢false, bytes_eq}
+use Rattle.std.specs.FinMap.{get, keys}
 use Rattle.std.specs.List.{list_any, filter}
-use Rattle.std.specs.Str.{bytes_eq}
+use Rattle.std.specs.Option.{option_map_or}
 use Rattle.std.proofs.lemmas.Bool.{or_right}
 use Rattle.std.proofs.lemmas.Slice.Eq.{bytes_eq-Decides}
-use Rattle.text_lines.specs.declared.encoding.Encoding.{Encoding}
-use Rattle.doc_texts.specs.Texts.{Texts, text_at, path_set, paths_of, marked}
-use Rattle.doc_texts.specs.Prior.{Prior, prior_text}
-use Rattle.c_session.specs.News.{IsPrior, SameBut, news, news_of}
-use Rattle.c_session.specs.Shown.{has_news, is_published, publication, publications}
-use Rattle.c_session.proofs.Differing.{no_news_itself}
-use Rattle.c_session.proofs.PathSets.{or_none, ties, tied_is, ties_itself, keys_rise, same_filtered, flat_map_alike, flat_map_tested, has_path_of_two}
+use Rattle.doc_texts.specs.Texts.{Texts, text_at, same_text, path_set, paths_of, marked, add_all}
+use Rattle.doc_texts.specs.Prior.{Prior, is_changed}
+use Rattle.c_session.specs.News.{IsPrior, ByPath, is_told, news, may_have_news}
+use Rattle.c_session.specs.Shown.{shows, has_news, is_published, publication, publications}
+use Rattle.c_session.specs.State.{State}
+use Rattle.c_session.proofs.Nothing.{nothing_of}
+use Rattle.c_session.proofs.PathSets.{ties, keys_rise, same_filtered, flat_map_tested, has_path_of_two, has_kept}
 
--- a file with news has a text before or now
-one_text : (path : List ℕ) (a b : Option (List ℕ)) → has_news path a b ≡ true → (is_some a || is_some b) ≡ true
-one_text path None None news = absurd (true≢false (sym news ∙ no_news_itself path None))
-one_text path None (Some b) news = refl
-one_text path (Some a) b news = refl
+-- ---- texts that differ
 
-module _ (prior : Prior) (start now : Texts) (is : IsPrior start prior now) where
-  abbrev differs : List ℕ → Bool
-  differs path = has_news path (text_at start path) (text_at now path)
+same_itself : (text : Option (List ℕ)) → same_text text text ≡ true
+same_itself None = refl
+same_itself (Some text) = (bytes_eq-Decides text text).1 refl
 
-  -- what is kept for a path is what it had
-  had : (path : List ℕ) (r : Option (Option (List ℕ))) → get prior path ≡ r → is_some r ≡ true → option_and_then (λ text. text) r ≡ text_at start path
-  had path None found some = absurd (true≢false (sym some))
-  had path (Some text) found some = is.held path text found
+module _ (prior : Prior) (start now : Texts) (is : IsPrior start prior now) (path : List ℕ) where
+  changed_by : (r : Option (Option (List ℕ))) → get prior path ≡ r →
+      option_map_or (λ kept. not (same_text kept (text_at now path))) r false ≡ not (same_text (text_at start path) (text_at now path))
+  changed_by None found = ap not (sym (same_itself (text_at start path)) ∙ ap (same_text (text_at start path)) (sym (is.rest path found)))
+  changed_by (Some text) found = ap (λ t. not (same_text t (text_at now path))) (is.held path text found)
 
-  had_text : (path : List ℕ) → list_any (ties path) (keys prior) ≡ true → prior_text prior path ≡ text_at start path
-  unfolding prior_text
-  had_text path among = had path (get prior path) refl (contains_key-keys prior path ∙ among)
+  -- whether a text differs is told by what is remembered
+  pub changed : is_changed prior now path ≡ not (same_text (text_at start path) (text_at now path))
+  unfolding is_changed
+  changed = changed_by (get prior path) refl
 
-  -- something is kept for each file with news
-  is_kept : (path : List ℕ) (r : Option (Option (List ℕ))) → get prior path ≡ r → differs path ≡ true → is_some r ≡ true
-  is_kept path None found news = absurd (true≢false (sym news ∙ ap (has_news path (text_at start path)) (is.rest path found) ∙ no_news_itself path (text_at start path)))
-  is_kept path (Some text) found news = refl
+  -- a file that had a text and has none now is remembered
+  kept_by : (r : Option (Option (List ℕ))) → get prior path ≡ r → is_some (text_at start path) ≡ true → is_some (text_at now path) ≡ false → is_some r ≡ true
+  kept_by None found before after = absurd (true≢false (sym before ∙ ap is_some (sym (is.rest path found)) ∙ after))
+  kept_by (Some text) found before after = refl
 
-  same_paths : filter differs (keys prior) ≡ filter differs (path_set (paths_of start ++ paths_of now))
-  same_paths = same_filtered differs (keys prior) (path_set (paths_of start ++ paths_of now)) (keys_rise prior) (keys_rise (marked (paths_of start ++ paths_of now))) (λ path news.
-      sym (contains_key-keys prior path) ∙ is_kept path (get prior path) refl news ∙ sym (has_path_of_two start now path ∙ one_text path (text_at start path) (text_at now path) news))
+  pub kept_or_there : (b : Bool) → is_some (text_at now path) ≡ b → (is_some (text_at start path) || is_some (text_at now path)) ≡ true →
+      (is_some (get prior path) || is_some (text_at now path)) ≡ true
+  kept_or_there true there either = ap (λ b. is_some (get prior path) || b) there ∙ or_right (is_some (get prior path)) true refl
+  kept_or_there false gone either =
+      ap (λ b. b || is_some (text_at now path)) (kept_by (get prior path) refl (before (is_some (text_at start path)) (ap (λ b. is_some (text_at start path) || b) (sym gone) ∙ either)) gone)
+    where
+      before : (b : Bool) → (b || false) ≡ true → b ≡ true
+      before true h = refl
+      before false h = h
 
-  told : (encoding : Encoding) → news encoding prior now ≡ flat_map (publication encoding now) (filter differs (keys prior))
-  told encoding =
-      flat_map_alike (λ path. news_of encoding now (prior_text prior path) path) (λ path. news_of encoding now (text_at start path) path) (keys prior) (λ path among. ap (λ old. news_of encoding now old path) (had_text path among))
-      ∙ flat_map_tested differs (publication encoding now) (keys prior)
+-- ---- files that are published
 
-  all_published : (path : List ℕ) → differs path ≡ is_published [] start now path
-  all_published path = or_none (differs path)
+quiet : (s s' : State) (path : List ℕ) → text_at s.texts path ≡ None → text_at s'.texts path ≡ None →
+    has_news (shows s path) (shows s' path) (not (same_text (text_at s.texts path) (text_at s'.texts path))) ≡ false
+quiet s s' path before after = rw (nothing_of s.texts _ path before, nothing_of s'.texts _ path after, before, after) refl
 
-pub news_published : (encoding : Encoding) (prior : Prior) (start now : Texts) → IsPrior start prior now → news encoding prior now ≡ publications [] encoding start now
-news_published encoding prior start now is =
-    told prior start now is encoding
-    ∙ ap (flat_map (publication encoding now)) (same_paths prior start now is
-    ∙ ap (λ test. filter test (path_set (paths_of start ++ paths_of now))) (λ i path. all_published prior start now is path i))
+module _ (touched : List (List ℕ)) (s s' : State) (there : (q : List ℕ) → list_any (bytes_eq q) touched ≡ true → is_some (text_at s'.texts q) ≡ true) where
+  -- a file that is published has a text at one of the two moments
+  one_text : (path : List ℕ) (a b : Option (List ℕ)) → text_at s.texts path ≡ a → text_at s'.texts path ≡ b → is_published touched s s' path ≡ true → (is_some a || is_some b) ≡ true
+  one_text path (Some a) b before after passes = refl
+  one_text path None (Some b) before after passes = refl
+  one_text path None None before after passes =
+      absurd (true≢false (sym (there path (ap (λ b. b || list_any (bytes_eq path) touched) (sym (quiet s s' path before after)) ∙ passes)) ∙ ap is_some after))
 
-module _ (path : List ℕ) (before after : Texts) (same : SameBut path before after) where
-  abbrev passes : List ℕ → Bool
-  passes = is_published (path ∷ []) before after
+  module _ (prior : Prior) (is : IsPrior s.texts prior s'.texts) (before after : ByPath) (was : (path : List ℕ) → before path ≡ shows s path) (are : (path : List ℕ) → after path ≡ shows s' path) where
+    same_test : (path : List ℕ) → is_told touched before after prior s'.texts path ≡ is_published touched s s' path
+    same_test path = λ i. has_news (was path i) (are path i) (changed prior s.texts s'.texts is path i) || list_any (bytes_eq path) touched
 
-  -- no other file is published
-  only : (q : List ℕ) (b : Bool) → bytes_eq q path ≡ b → passes q ≡ true → ties q path ≡ true
-  only q true equal passes = ap (λ x. ties x path) ((bytes_eq-Decides q path).0 equal) ∙ ties_itself path
-  only q false other passes =
-      absurd (true≢false (sym passes ∙ ap (λ b. has_news q (text_at before q) (text_at after q) || (b || false)) other
-      ∙ sym (or_none (has_news q (text_at before q) (text_at after q)))
-      ∙ ap (has_news q (text_at before q)) (same q other) ∙ no_news_itself q (text_at before q)))
+    alike : (q : List ℕ) → is_published touched s s' q ≡ true → list_any (ties q) (may_have_news prior s'.texts) ≡ list_any (ties q) (path_set (paths_of s.texts ++ paths_of s'.texts))
+    alike q passes =
+        let some : (is_some (text_at s.texts q) || is_some (text_at s'.texts q)) ≡ true = one_text q (text_at s.texts q) (text_at s'.texts q) refl refl passes in
+        has_kept prior s'.texts q ∙ kept_or_there prior s.texts s'.texts is q (is_some (text_at s'.texts q)) refl some
+        ∙ sym (has_path_of_two s.texts s'.texts q ∙ some)
 
-  itself : passes path ≡ true
-  itself = ap (λ b. has_news path (text_at before path) (text_at after path) || (b || false)) ((bytes_eq-Decides path path).1 refl) ∙ or_right (has_news path (text_at before path) (text_at after path)) true refl
+    pub news_published : news touched s'.encoding before after prior s'.texts ≡ publications touched s s'
+    news_published =
+        flat_map_tested (is_told touched before after prior s'.texts) (λ path. publication s'.encoding s'.texts (after path) path) (may_have_news prior s'.texts)
+        ∙ (λ i. flat_map (λ path. publication s'.encoding s'.texts (are path i) path) (filter (λ path. same_test path i) (may_have_news prior s'.texts)))
+        ∙ ap (flat_map (λ path. publication s'.encoding s'.texts (shows s' path) path))
+        (same_filtered (is_published touched s s') (may_have_news prior s'.texts) (path_set (paths_of s.texts ++ paths_of s'.texts))
+        (keys_rise (add_all (marked (keys prior)) (paths_of s'.texts))) (keys_rise (marked (paths_of s.texts ++ paths_of s'.texts))) alike)
 
-  alone : is_some (text_at after path) ≡ true → filter passes (path_set (paths_of before ++ paths_of after)) ≡ path ∷ []
-  alone some =
-      same_filtered passes (path_set (paths_of before ++ paths_of after)) (path ∷ []) (keys_rise (marked (paths_of before ++ paths_of after))) tt (λ q through.
-      let tied : ties q path ≡ true = only q (bytes_eq q path) refl through in
-      has_path_of_two before after q ∙ ap (λ b. is_some (text_at before q) || b) (ap (λ x. is_some (text_at after x)) (tied_is q path tied) ∙ some) ∙ or_right (is_some (text_at before q)) true refl ∙ sym (ap (λ b. b || false) tied))
-      ∙ ap (λ b. cond b (path ∷ []) []) itself
+none_touched : (t : Texts) (q : List ℕ) → list_any (bytes_eq q) [] ≡ true → is_some (text_at t q) ≡ true
+none_touched t q among = absurd (true≢false (sym among))
 
-pub touched_published : (encoding : Encoding) (path : List ℕ) (before after : Texts) → SameBut path before after → is_some (text_at after path) ≡ true →
-    publications (path ∷ []) encoding before after ≡ publication encoding after path
-touched_published encoding path before after same some = ap (flat_map (publication encoding after)) (alone path before after same some) ∙ append-nil (publication encoding after path)
+-- where nothing was opened or changed
+pub news_told : (s s' : State) (prior : Prior) (before after : ByPath) → IsPrior s.texts prior s'.texts → ((path : List ℕ) → before path ≡ shows s path) → ((path : List ℕ) → after path ≡ shows s' path) →
+    news [] s'.encoding before after prior s'.texts ≡ publications [] s s'
+news_told s s' prior before after is was are = news_published [] s s' (none_touched s'.texts) prior is before after was are
+
+one_touched : (t : Texts) (path q : List ℕ) (b : Bool) → bytes_eq q path ≡ b → is_some (text_at t path) ≡ true → (b || false) ≡ true → is_some (text_at t q) ≡ true
+one_touched t path q true same some among = ap (λ x. is_some (text_at t x)) ((bytes_eq-Decides q path).0 same) ∙ some
+one_touched t path q false same some among = absurd (true≢false (sym among))
+
+-- where a document was, which has a text
+pub touched_told : (s s' : State) (path : List ℕ) (prior : Prior) (before after : ByPath) → is_some (text_at s'.texts path) ≡ true → IsPrior s.texts prior s'.texts →
+    ((path : List ℕ) → before path ≡ shows s path) → ((path : List ℕ) → after path ≡ shows s' path) →
+    news (path ∷ []) s'.encoding before after prior s'.texts ≡ publications (path ∷ []) s s'
+touched_told s s' path prior before after some is was are =
+    news_published (path ∷ []) s s' (λ q among. one_touched s'.texts path q (bytes_eq q path) refl some among) prior is before after was are

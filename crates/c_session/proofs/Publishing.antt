@@ -1,27 +1,11 @@
 -- The text of a notification is what is written piece by piece.
-use Rattle.std.proofs.Common.{◌≡◌, ◌≤◌, ℕ, ℤ, List, [], ◌∷◌, ◌++◌, Option, None, Some, false, map, refl, sym, ap, ◌∙◌, append_assoc, arith, codes, length}
+use Rattle.std.proofs.Common.{◌≡◌, ℕ, ℤ, List, ◌++◌, Option, None, Some, false, refl, sym, ap, ◌∙◌, append_assoc, codes, length}
 use Rattle.serde_json.specs.Data.{Data, string}
 use Rattle.serde_json.specs.View.{items_of}
 use Rattle.serde_json.specs.Written.{compact_text, items_text}
 use Rattle.serde_json.proofs.OnLiterals.{serde_json_on_literals}
-use Rattle.c_tokens.specs.declared.types.LexFault.{LexFault}
-use Rattle.c_tokens.specs.Laws.{InOrder, ranges}
-use Rattle.text_lines.specs.declared.encoding.Encoding.{Encoding}
-use Rattle.c_session.specs.Faults.{AreWithin}
 use Rattle.c_session.specs.Published.{number_data, publish_start, publish_end, version_part}
-use Rattle.c_session.specs.Replies.{header, framed, diagnostic, publish, publish_data}
-
--- what stands in order lies within the limit
-pub order_limit : (text : List ℕ) (from limit : ℕ) (faults : List LexFault) → InOrder text from limit (ranges faults) → from ≤ limit
-order_limit text from limit [] order = order
-order_limit text from limit (fault ∷ faults) order =
-    let rest : fault.end ≤ limit = order_limit text fault.end limit faults order.4 in omega (arith, order.0, order.1, rest)
-
-pub order_within : (text : List ℕ) (from limit : ℕ) (faults : List LexFault) → InOrder text from limit (ranges faults) → AreWithin limit faults
-order_within text from limit [] order = tt
-order_within text from limit (fault ∷ faults) order =
-    let rest : fault.end ≤ limit = order_limit text fault.end limit faults order.4 in
-    (omega (arith, order.1, rest), rest, order_within text fault.end limit faults order.4)
+use Rattle.c_session.specs.Replies.{header, framed, publish, publish_data}
 
 -- the text as it is made of its members
 spelled_out : (items uri version : List ℕ) → List ℕ
@@ -44,12 +28,12 @@ publish_spelled diagnostics uri version = members_spelled diagnostics uri versio
     ∙ regrouped publish_start (items_text false (items_of diagnostics)) (codes ",\"uri\":") (compact_text (string uri)) (version_part version)
 
 -- what is written of a document, behind its header
-pub published : (encoding : Encoding) (uri : List ℕ) (version : Option ℤ) (faults : List LexFault) (text content : List ℕ) →
-    content ≡ publish_start ++ items_text false (items_of (map (diagnostic text encoding) faults)) ++ publish_end uri version →
-    framed content ≡ publish encoding uri version faults text
+pub published : (uri : List ℕ) (version : Option ℤ) (diagnostics : List Data) (content : List ℕ) →
+    content ≡ publish_start ++ items_text false (items_of diagnostics) ++ publish_end uri version →
+    framed content ≡ publish uri version diagnostics
 unfolding publish
-published encoding uri version faults text content is =
-    ap framed (is ∙ sym (publish_spelled (map (diagnostic text encoding) faults) uri version))
+published uri version diagnostics content is =
+    ap framed (is ∙ sym (publish_spelled diagnostics uri version))
 
 -- the version behind what is written
 pub versioned : (body text : List ℕ) (z : ℤ) (version : Option ℤ) → {new : List ℕ} → version ≡ Some z → text ≡ compact_text (number_data z) →

@@ -1,6 +1,5 @@
 -- What is logged and published is made of notifications.
 use Rattle.std.proofs.Common.{◌≡◌, ◌⊎◌, inl, inr, ℕ, codes, append_assoc, Bool, true, false, cond, not, List, [], ◌∷◌, ◌++◌, flat_map, Option, None, Some, Result, Ok, Err, refl, sym, ap, ◌∙◌, append-nil}
-use Rattle.std.specs.Option.{unwrap_or}
 use Rattle.std.specs.List.{concat}
 use Rattle.std.proofs.lemmas.List.Elements.{All-nil, All-cons, All-append}
 use Rattle.std.proofs.lemmas.List.Folds.{concat-append}
@@ -10,7 +9,7 @@ use Rattle.io_edges.specs.declared.ends.Found.{Found}
 use Rattle.io_edges.specs.declared.ends.Found.TheVariants as found
 use Rattle.text_lines.specs.declared.encoding.Encoding.{Encoding}
 use Rattle.uri_paths.specs.Uris.{path_of_uri}
-use Rattle.doc_texts.specs.Texts.{Texts, text_at, version_at}
+use Rattle.doc_texts.specs.Texts.{Texts, version_at}
 use Rattle.doc_texts.specs.Docs.{loaded, is_outside, doc_error_name}
 use Rattle.doc_texts.specs.declared.error.DocError.{DocError}
 use Rattle.doc_texts.specs.declared.error.DocError.TheVariants.{OutsideRoot}
@@ -24,7 +23,9 @@ use Rattle.c_session.specs.declared.params.FileChangeKind.TheVariants.{Created, 
 use Rattle.c_session.specs.Reasons.{Reason, ByTexts, by_uri}
 use Rattle.c_session.specs.Replies.{log}
 use Rattle.c_session.specs.Responses.{IsNotice, Logs, Publishes, AreNotices}
-use Rattle.c_session.specs.Shown.{uri_for, shown, publication, published_paths, publications}
+use Rattle.c_session.specs.Shown.{uri_for, shows, publication, published_paths, publications}
+use Rattle.c_session.specs.State.{State}
+use Rattle.plain_mean.specs.declared.types.Shown.{Shown}
 
 -- ---- a fact of each result, whatever the store answers
 
@@ -68,23 +69,19 @@ more_notices first rest a b = record {
 pub log_notice : (text : List ℕ) → AreNotices (log text)
 log_notice text = one_notice (log text) (Logs text refl)
 
-publication_notice : (encoding : Encoding) (t : Texts) (path : List ℕ) → IsNotice (publication encoding t path)
+publication_notice : (encoding : Encoding) (t : Texts) (faults : List Shown) (path : List ℕ) → IsNotice (publication encoding t faults path)
 unfolding publication
-publication_notice encoding t path = Publishes encoding (uri_for t path) (version_at t path) (shown t path)
-    (unwrap_or (text_at t path) []) refl
+publication_notice encoding t faults path = Publishes (uri_for t path) (version_at t path) _ refl
 
-each_published : (encoding : Encoding) (t : Texts) (paths : List (List ℕ)) →
-    AreNotices (flat_map (publication encoding t) paths)
-each_published encoding t [] = no_notice
-each_published encoding t (path ∷ paths) =
-    more_notices (publication encoding t path) (flat_map (publication encoding t) paths)
-    (one_notice (publication encoding t path) (publication_notice encoding t path))
-    (each_published encoding t paths)
+each_published : (s : State) (paths : List (List ℕ)) → AreNotices (flat_map (λ path. publication s.encoding s.texts (shows s path) path) paths)
+each_published s [] = no_notice
+each_published s (path ∷ paths) =
+    more_notices (publication s.encoding s.texts (shows s path) path) (flat_map (λ path. publication s.encoding s.texts (shows s path) path) paths)
+    (one_notice (publication s.encoding s.texts (shows s path) path) (publication_notice s.encoding s.texts (shows s path) path))
+    (each_published s paths)
 
-pub publications_notices : (touched : List (List ℕ)) (encoding : Encoding) (before after : Texts) →
-    AreNotices (publications touched encoding before after)
-publications_notices touched encoding before after =
-    each_published encoding after (published_paths touched before after)
+pub publications_notices : (touched : List (List ℕ)) (s s' : State) → AreNotices (publications touched s s')
+publications_notices touched s s' = each_published s' (published_paths touched s s')
 
 -- ---- log messages of files that are read
 

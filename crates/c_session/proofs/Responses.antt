@@ -87,13 +87,14 @@ answered s s' id result = record {
 begun : (s : State) (id : Id) (encoding : Encoding) (l : Loading) → Logged l → Responds s id (begins s id encoding l)
 begun s id encoding l logged =
     let answer = response id (initialize_result encoding) in
-    let shown = publications [] encoding s.texts l.texts in
+    let s' : State = record { options = s.options; texts = l.texts; encoding = encoding; phase = Running } in
+    let shown = publications [] s s' in
     record {
       answers = record {
         first = answer;
         rest = l.logs ++ shown;
         responds = HasResult id (initialize_result encoding) refl refl;
-        notices = more_notices l.logs shown logged (publications_notices [] encoding s.texts l.texts);
+        notices = more_notices l.logs shown logged (publications_notices [] s s');
         joined = append_assoc answer l.logs shown;
       };
       goes_on = refl;
@@ -138,7 +139,7 @@ refused s method named text = record { answers = log_notice _; goes_on = refl; k
 
 new_notices : (s s' : State) (logs : List ℕ) (touched : List (List ℕ)) → AreNotices logs → AreNotices (has_texts s s' [] logs touched).bytes
 new_notices s s' logs touched logged =
-    more_notices logs (publications touched s'.encoding s.texts s'.texts) logged (publications_notices touched s'.encoding s.texts s'.texts)
+    more_notices logs (publications touched s s') logged (publications_notices touched s s')
 
 edits_notify : (s : State) (method named : List ℕ) (r : Result Edited Reason) → Notifies s method (edits s named r)
 edits_notify s method named (Ok e) =
@@ -146,7 +147,7 @@ edits_notify s method named (Ok e) =
     record {
       answers = new_notices s s' [] (e.path ∷ []) no_notice;
       goes_on = refl;
-      kept = λ text edit is. absurd (no_log (e.path ∷ []) s'.encoding s.texts s'.texts (method ++ codes ": " ++ text) is);
+      kept = λ text edit is. absurd (no_log (e.path ∷ []) s s' (method ++ codes ": " ++ text) is);
     }
 edits_notify s method named (Err r) = refused s method named (reason_text r)
 
@@ -154,10 +155,10 @@ edits_notify s method named (Err r) = refused s method named (reason_text r)
 loaded_no_closing : (s s' : State) (l : Loading) (method text : List ℕ) → method ≡ did_close → LogsLoad l →
     (has_texts s s' [] l.logs []).bytes ≡ log (method ++ codes ": " ++ text) → ⊥
 loaded_no_closing s s' l method text closes logs is =
-    let shown = publications [] s'.encoding s.texts s'.texts in
+    let shown = publications [] s s' in
     let closing : l.logs ++ shown ≡ log (did_close ++ codes ": " ++ text) = is ∙ ap (λ (m : List ℕ). log (m ++ codes ": " ++ text)) closes in
     elim logs [
-      | inl none ↦ no_log [] s'.encoding s.texts s'.texts (did_close ++ codes ": " ++ text) (ap (λ (xs : List ℕ). xs ++ shown) (sym none) ∙ closing)
+      | inl none ↦ no_log [] s s' (did_close ++ codes ": " ++ text) (ap (λ (xs : List ℕ). xs ++ shown) (sym none) ∙ closing)
       | inr load ↦ no_closing load.0 shown text (ap (λ (xs : List ℕ). xs ++ shown) (sym load.1) ∙ closing)
     ]
 

@@ -10,7 +10,9 @@ use Rattle.json_view.specs.declared.id.Id.{Id}
 use Rattle.text_lines.specs.declared.encoding.Encoding.{Encoding}
 use Rattle.doc_texts.specs.Texts.{Texts, version_at}
 use Rattle.c_session.specs.React.{did_close}
-use Rattle.c_session.specs.Shown.{uri_for, publication, published_paths, publications}
+use Rattle.c_session.specs.Shown.{uri_for, shows, publication, published_paths, publications}
+use Rattle.c_session.specs.State.{State}
+use Rattle.plain_mean.specs.declared.types.Shown.{Shown}
 use Rattle.c_session.specs.Replies.{framed, id_data, id_or_null, response_data, error_data, log_data, publish_data, response, error, log, publish}
 use Rattle.c_session.specs.Responses.{IsResponse, HasResult, HasError, IsNotice, Logs, Publishes, AreNotices}
 
@@ -121,7 +123,7 @@ log_is text more = by_content (compact_text (log_data text)) more ∙ log_tells 
 is_notice : (first more : List ℕ) → IsNotice first → first_answers (first ++ more) ≡ false
 unfolding publish
 is_notice first more (Logs text is) = ap (λ (xs : List ℕ). first_answers (xs ++ more)) is ∙ log_is text more
-is_notice first more (Publishes encoding uri version faults text is) =
+is_notice first more (Publishes uri version diagnostics is) =
     ap (λ (xs : List ℕ). first_answers (xs ++ more)) is ∙ by_content _ more ∙ publish_tells _ uri version more
 
 are_notices : (all : List (List ℕ)) → All IsNotice all → first_answers (concat all) ≡ false
@@ -172,19 +174,21 @@ log_at : (text more : List ℕ) → letter 27 (log text ++ more) ≡ 119
 unfolding log
 log_at text more = letter_in 27 (compact_text (log_data text)) more ∙ log_method text more
 
-publication_at : (encoding : Encoding) (t : Texts) (path more : List ℕ) → letter 27 (publication encoding t path ++ more) ≡ 116
+publication_at : (encoding : Encoding) (t : Texts) (faults : List Shown) (path more : List ℕ) → letter 27 (publication encoding t faults path ++ more) ≡ 116
 unfolding publication publish
-publication_at encoding t path more = letter_in 27 _ more ∙ publish_method _ (uri_for t path) (version_at t path) more
+publication_at encoding t faults path more = letter_in 27 _ more ∙ publish_method _ (uri_for t path) (version_at t path) more
 
-published_no_log : (encoding : Encoding) (t : Texts) (paths : List (List ℕ)) (text more : List ℕ) → flat_map (publication encoding t) paths ≡ log text ++ more → ⊥
-published_no_log encoding t [] text more is = letters_differ {n = 0} 27 {xs = []} refl (log_at text more) (λ e. omega (arith, e)) is
-published_no_log encoding t (path ∷ paths) text more is =
-    letters_differ 27 (publication_at encoding t path (flat_map (publication encoding t) paths)) (log_at text more) (λ e. omega (arith, e)) is
+published_no_log : (s : State) (paths : List (List ℕ)) (text more : List ℕ) →
+    flat_map (λ path. publication s.encoding s.texts (shows s path) path) paths ≡ log text ++ more → ⊥
+published_no_log s [] text more is = letters_differ {n = 0} 27 {xs = []} refl (log_at text more) (λ e. omega (arith, e)) is
+published_no_log s (path ∷ paths) text more is =
+    letters_differ 27 (publication_at s.encoding s.texts (shows s path) path (flat_map (λ path. publication s.encoding s.texts (shows s path) path) paths))
+    (log_at text more) (λ e. omega (arith, e)) is
 
 -- what is published is no log message
-pub no_log : (touched : List (List ℕ)) (encoding : Encoding) (before after : Texts) (text : List ℕ) → publications touched encoding before after ≡ log text → ⊥
-no_log touched encoding before after text is =
-    published_no_log encoding after (published_paths touched before after) text [] (is ∙ sym (append-nil (log text)))
+pub no_log : (touched : List (List ℕ)) (s s' : State) (text : List ℕ) → publications touched s s' ≡ log text → ⊥
+no_log touched s s' text is =
+    published_no_log s' (published_paths touched s s') text [] (is ∙ sym (append-nil (log text)))
 
 loading_message : (text more : List ℕ) → letter 67 (compact_text (log_data (codes "load: " ++ text)) ++ more) ≡ 108
 unfolding serde_json_on_literals

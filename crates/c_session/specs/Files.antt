@@ -18,10 +18,6 @@ use Rattle.doc_texts.specs.declared.error.DocError.TheVariants.{OutsideRoot, Too
 abbrev pub has_end : List ℕ → List ℕ → Bool
 has_end end text = ends_with nat_eq text end
 
--- a C source, which is a unit
-abbrev pub is_source : List ℕ → Bool
-is_source path = has_end (codes ".c") path
-
 -- a file that a unit may be made of
 unfoldable pub is_c_file : List ℕ → Bool
 is_c_file path = has_end (codes ".c") path || (has_end (codes ".h") path || (has_end (codes ".inc") path || has_end (codes ".def") path))

@@ -1,5 +1,4 @@
 pub mod Asking
-pub mod Faults
 pub mod Files
 pub mod Handled
 pub mod Loading

@@ -1,17 +1,17 @@
--- What a message changed, by the texts that some files had before it.
-use Rattle.std.specs.Prelude.{◌≡◌, ℕ, true, false, length, List, [], ◌∷◌, ◌++◌, Option, None, Some, unwrap_or, flat_map, if◌then◌else◌}
+-- What a message changed, by what the files showed before it and the texts that some had.
+use Rattle.std.specs.Prelude.{◌≡◌, ℕ, Bool, false, ◌||◌, List, [], ◌∷◌, ◌++◌, Option, None, Some, flat_map, if◌then◌else◌}
+use Rattle.std.specs.List.{list_any}
 use Rattle.std.specs.Str.{bytes_eq}
 use Rattle.std.specs.FinMap.{get, keys}
 use Rattle.text_lines.specs.declared.encoding.Encoding.{Encoding}
 use Rattle.io_edges.specs.Store.{Entry}
-use Rattle.c_tokens.specs.declared.types.LexFault.{LexFault}
-use Rattle.doc_texts.specs.Texts.{Texts, text_at}
-use Rattle.doc_texts.specs.Prior.{Prior, prior_text, remembered}
+use Rattle.doc_texts.specs.Texts.{Texts, text_at, paths_of, marked, add_all}
+use Rattle.doc_texts.specs.Prior.{Prior, remembered, is_changed}
+use Rattle.plain_mean.specs.declared.types.Shown.{Shown}
 use Rattle.c_session.specs.Asking.{Asking, Gives}
-use Rattle.c_session.specs.Faults.{AreWithin}
 use Rattle.c_session.specs.Handled.{Reached}
 use Rattle.c_session.specs.Loading.{Loading}
-use Rattle.c_session.specs.Shown.{shown_of, has_news, publication, publications}
+use Rattle.c_session.specs.Shown.{has_news, publication}
 use Rattle.c_session.specs.State.{State, with_texts}
 
 -- The prior texts are those of an earlier moment, of each file at least whose text is another now.
@@ -27,27 +27,40 @@ KeepsPrior prior t prior' t' = (start : Texts) → IsPrior start prior t → IsP
 abbrev pub SameBut : List ℕ → Texts → Texts → Type 0
 SameBut path t t' = (other : List ℕ) → bytes_eq other path ≡ false → text_at t' other ≡ text_at t other
 
--- what is found of a file with an old and a new text: what it shows, where it has news
-abbrev pub IsNews : Option (List LexFault) → List ℕ → Option (List ℕ) → Option (List ℕ) → Type 0
-IsNews None path old new = has_news path old new ≡ false
-IsNews (Some faults) path old new = (has_news path old new ≡ true) × (faults ≡ shown_of path new) × AreWithin (length (unwrap_or new [])) faults
-
--- the diagnostics of a file, where it has news
-abbrev pub news_of : Encoding → Texts → Option (List ℕ) → List ℕ → List ℕ
-news_of encoding now old path = if has_news path old (text_at now path) then publication encoding now path else []
-
 -- with the texts of these files remembered too
 abbrev pub all_remembered : Prior → Texts → List (List ℕ) → Prior
 all_remembered prior t [] = prior
 all_remembered prior t (path ∷ paths) = all_remembered (remembered prior t path) t paths
 
--- the news of all files whose prior texts are known
-abbrev pub news : Encoding → Prior → Texts → List ℕ
-news encoding prior now = flat_map (λ path. news_of encoding now (prior_text prior path) path) (keys prior)
+-- the file that a message opened or changed, if there is one
+abbrev pub touched_by : Option (List ℕ) → List (List ℕ)
+touched_by None = []
+touched_by (Some path) = path ∷ []
+
+-- What each file showed before, by path.
+abbrev pub ByPath : Type 0
+ByPath = List ℕ → List Shown
+
+-- a file is published where it has news, or was opened or changed
+abbrev pub is_told : List (List ℕ) → ByPath → ByPath → Prior → Texts → List ℕ → Bool
+is_told touched before after prior now path = has_news (before path) (after path) (is_changed prior now path) || list_any (bytes_eq path) touched
+
+abbrev pub news_of : List (List ℕ) → Encoding → ByPath → ByPath → Prior → Texts → List ℕ → List ℕ
+news_of touched encoding before after prior now path =
+    if is_told touched before after prior now path then publication encoding now (after path) path else []
+
+-- the files that may have news: those that have a text now, and those that had one
+abbrev pub may_have_news : Prior → Texts → List (List ℕ)
+may_have_news prior now = keys (add_all (marked (keys prior)) (paths_of now))
+
+abbrev pub news : List (List ℕ) → Encoding → ByPath → ByPath → Prior → Texts → List ℕ
+news touched encoding before after prior now = flat_map (news_of touched encoding before after prior now) (may_have_news prior now)
 
 -- Something asked the store and left texts and logs, and what that changed was written.
-pub record HasPublished (asking : Asking Loading) (s s' : State) (bytes : List ℕ) (prior : Prior) (old new : Option (List Entry)) : Type 0 where
+pub record HasPublished (asking : Asking Loading) (s s' : State) (bytes : List ℕ) (before after : ByPath) (prior : Prior) (old new : Option (List Entry)) : Type 0 where
   pub logs : List ℕ
   pub reached : Reached asking (Gives (record { texts = s'.texts; logs = logs })) old new
   pub settings : s' ≡ with_texts s'.texts s
-  pub wrote : (start : Texts) → IsPrior start prior s.texts → bytes ≡ logs ++ publications [] s.encoding start s'.texts
+  pub last : Prior
+  pub keeps : KeepsPrior prior s.texts last s'.texts
+  pub wrote : bytes ≡ logs ++ news [] s.encoding before after last s'.texts

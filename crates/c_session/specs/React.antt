@@ -36,7 +36,7 @@ is_quiet s = tells s []
 
 -- other texts: the response or none, log messages, then what is published (LSP 3.17, publishDiagnostics)
 abbrev pub has_texts : State → State → List ℕ → List ℕ → List (List ℕ) → Outcome
-has_texts s s' response logs touched = tells s' ((response ++ logs) ++ publications touched s'.encoding s.texts s'.texts)
+has_texts s s' response logs touched = tells s' ((response ++ logs) ++ publications touched s s')
 
 -- ---- refusals
 

@@ -1,5 +1,5 @@
 -- What the code's refusals stand for.
-use Rattle.std.specs.Prelude.{◌≡◌, ◌≢◌, ℕ, List, ◌++◌, codes, Result, Ok, Err}
+use Rattle.std.specs.Prelude.{◌≡◌, ◌≢◌, ℕ, List, [], ◌∷◌, ◌++◌, codes, Result, Ok, Err}
 use Rattle.json_view.specs.Refusals as view
 use Rattle.json_view.specs.declared.error.ViewError.{ViewError}
 use Rattle.json_view.specs.declared.error.ViewError.TheVariants as view_error
@@ -8,11 +8,14 @@ use Rattle.uri_paths.specs.declared.error.UriError.TheVariants as uri_error
 use Rattle.doc_texts.specs.Texts.{Texts}
 use Rattle.doc_texts.specs.declared.error.DocError.{DocError}
 use Rattle.doc_texts.specs.declared.error.DocError.TheVariants as doc_error
+use Rattle.doc_texts.specs.Prior.{Prior}
 use Rattle.text_lines.specs.declared.encoding.Encoding.{Encoding}
 use Rattle.c_session.specs.React.{Edited}
 use Rattle.c_session.specs.Reasons.{Reason, ByParams, ByUri, ByTexts, reason_text}
 use Rattle.c_session.specs.Replies.{log}
-use Rattle.c_session.specs.Shown.{publication}
+use Rattle.c_session.specs.News.{ByPath, news}
+use Rattle.c_session.specs.Sessions.{IsKept}
+use Rattle.c_session.specs.declared.current.Current.{Current}
 use Rattle.c_session.specs.declared.reasons.Refusal.{Refusal}
 use Rattle.c_session.specs.declared.reasons.Refusal.TheVariants.{Params, Uri, Texts as ByDocs, NoMemory}
 
@@ -61,7 +64,12 @@ Leaves (Err r) old new = new ≡ old
 abbrev pub edited : Texts → List ℕ → Edited
 edited texts path = record { path = path; texts = texts }
 
--- The reply to an edit: the document's diagnostics, or a log message.
-abbrev pub IsReply : List ℕ → Texts → Encoding → Result (List ℕ) Refusal → List ℕ → Type 0
-IsReply method texts encoding (Ok path) bytes = bytes ≡ publication encoding texts path
-IsReply method texts encoding (Err r) bytes = (r ≢ NoMemory) × (bytes ≡ log (method ++ codes ": " ++ reason_text (reason r)))
+-- The reply to an edit: what is published then, or a log message.
+abbrev pub IsReply : List ℕ → Texts → Encoding → Result (List ℕ) Refusal → List ℕ → ByPath → ByPath → Prior → Type 0
+IsReply method texts encoding (Ok path) bytes before after prior = bytes ≡ news (path ∷ []) encoding before after prior texts
+IsReply method texts encoding (Err r) bytes before after prior = (r ≢ NoMemory) × (bytes ≡ log (method ++ codes ": " ++ reason_text (reason r)))
+
+-- Behind the reply to an edit what files show is kept, or nothing was changed by it.
+abbrev pub IsBehind : {T : Type 0} → Result T Refusal → Current → Current → Type 0
+IsBehind (Ok x) old new = IsKept new
+IsBehind (Err r) old new = new ≡ old

@@ -1,10 +1,11 @@
 -- The bytes of each answer: JSON-RPC 2.0 in the base protocol of LSP 3.17.
-use Rattle.std.specs.Prelude.{ℕ, ℤ, List, [], ◌∷◌, ◌++◌, codes, length, decimal, Option, None, Some, true, map, if◌then◌else◌, ◌==◌}
+use Rattle.std.specs.Prelude.{ℕ, ℤ, List, [], ◌∷◌, ◌++◌, codes, length, decimal, Option, None, Some, true, if◌then◌else◌}
 use Rattle.serde_json.specs.Data.{Data, null, boolean, number, string, object, array, unsigned, Members, no_members, member}
 use Rattle.serde_json.specs.Find.{of_integer}
 use Rattle.serde_json.specs.Written.{compact_text}
 use Rattle.serde_json.specs.View.{items_of}
-use Rattle.c_tokens.specs.declared.types.LexFault.{LexFault}
+use Rattle.plain_mean.specs.Messages.{is_warning}
+use Rattle.plain_mean.specs.declared.types.Shown.{Shown}
 use Rattle.text_lines.specs.Positions.{pos_at}
 use Rattle.text_lines.specs.declared.encoding.Encoding.{Encoding}
 use Rattle.text_lines.specs.declared.encoding.Encoding.TheVariants.{Utf8, Utf16, Utf32}
@@ -69,28 +70,28 @@ error id code text = framed (compact_text (error_data (id_or_null id) code text)
 unfoldable pub log : List ℕ → List ℕ
 log text = framed (compact_text (log_data text))
 
--- the text of a rule (ISO C11 5.1.1.2, 6.4)
-unfoldable pub message_of : ℕ → List ℕ
-message_of rule = if rule == 101 then codes "open comment" else (if rule == 102 then codes "open literal" else codes "stray character")
-
 abbrev pub pos_data : Pos → Data
 pos_data pos = object (member (codes "character") (number (unsigned pos.character)) (member (codes "line") (number (unsigned pos.line)) no_members))
 
--- a Diagnostic of severity 1, an error, on a range
-abbrev pub fault_data : ℕ → Data → Data → Data
-fault_data rule start end = object
+-- the severity of a rule (LSP 3.17, DiagnosticSeverity): an error or a warning
+abbrev pub severity : ℕ → ℕ
+severity rule = if is_warning rule then 2 else 1
+
+-- a Diagnostic on a range
+abbrev pub fault_data : ℕ → List ℕ → Data → Data → Data
+fault_data rule message start end = object
     (member (codes "code") (number (unsigned rule))
-    (member (codes "message") (string (message_of rule))
+    (member (codes "message") (string message)
     (member (codes "range") (object (member (codes "end") end (member (codes "start") start no_members)))
-    (member (codes "severity") (number (unsigned 1))
+    (member (codes "severity") (number (unsigned (severity rule)))
     (member (codes "source") (string (codes "c11ls")) no_members)))))
 
-abbrev pub diagnostic_data : ℕ → Pos → Pos → Data
-diagnostic_data rule start end = fault_data rule (pos_data start) (pos_data end)
+abbrev pub diagnostic_data : ℕ → List ℕ → Pos → Pos → Data
+diagnostic_data rule message start end = fault_data rule message (pos_data start) (pos_data end)
 
 -- the Diagnostic for a fault of a text
-unfoldable pub diagnostic : List ℕ → Encoding → LexFault → Data
-diagnostic text encoding fault = diagnostic_data fault.rule (pos_at text fault.start encoding) (pos_at text fault.end encoding)
+unfoldable pub diagnostic : List ℕ → Encoding → Shown → Data
+diagnostic text encoding fault = diagnostic_data fault.rule fault.text (pos_at text fault.start encoding) (pos_at text fault.end encoding)
 
 -- what is said of a document behind its Diagnostics: the URI, and the version where it is open
 abbrev pub named_members : List ℕ → Option ℤ → Members
@@ -104,6 +105,6 @@ publish_data diagnostics uri version = object
     (member (codes "method") (string (codes "textDocument/publishDiagnostics"))
     (member (codes "params") (object (member (codes "diagnostics") (array (items_of diagnostics)) (named_members uri version))) no_members)))
 
--- the faults of a text as the diagnostics of a document, behind their header
-unfoldable pub publish : Encoding → List ℕ → Option ℤ → List LexFault → List ℕ → List ℕ
-publish encoding uri version faults text = framed (compact_text (publish_data (map (diagnostic text encoding) faults) uri version))
+-- the diagnostics of a document, behind their header
+unfoldable pub publish : List ℕ → Option ℤ → List Data → List ℕ
+publish uri version diagnostics = framed (compact_text (publish_data diagnostics uri version))

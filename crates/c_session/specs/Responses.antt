@@ -3,8 +3,6 @@ use Rattle.std.specs.Prelude.{◌≡◌, ℕ, ℤ, Bool, true, ◌||◌, List, [
 use Rattle.std.specs.List.{All, concat}
 use Rattle.std.specs.Str.{bytes_eq}
 use Rattle.serde_json.specs.Data.{Data}
-use Rattle.c_tokens.specs.declared.types.LexFault.{LexFault}
-use Rattle.text_lines.specs.declared.encoding.Encoding.{Encoding}
 use Rattle.json_view.specs.declared.id.Id.{Id}
 use Rattle.c_session.specs.Message.{Message, NotJson, Batch, NotObject, Ignored, BadId, BadMethod, Notification, Request}
 use Rattle.c_session.specs.Replies.{response, error, log, publish}
@@ -17,8 +15,7 @@ pub data IsResponse (id : Option Id) (bytes : List ℕ) : Type 0 where
 -- The bytes are one notification of the server: a log message, or the diagnostics of a document.
 pub data IsNotice (bytes : List ℕ) : Type 0 where
   Logs : (text : List ℕ) → bytes ≡ log text → IsNotice bytes
-  Publishes : (encoding : Encoding) (uri : List ℕ) (version : Option ℤ) (faults : List LexFault) (text : List ℕ) →
-      bytes ≡ publish encoding uri version faults text → IsNotice bytes
+  Publishes : (uri : List ℕ) (version : Option ℤ) (diagnostics : List Data) → bytes ≡ publish uri version diagnostics → IsNotice bytes
 
 -- The bytes are notifications of the server, one after another, or none.
 pub record AreNotices (bytes : List ℕ) : Type 0 where

@@ -1,18 +1,22 @@
 // What the server keeps between two contents, and its reaction to a message.
-ghost use Rattle.std.specs.Prelude.{◌≡◌, ◌≢◌, ◌+◌, ◌++◌, ◌<◌, ◌^◌, [], None, Some, Ok, IfOk, IfErr, OnOk, option_map, map, codes};
+ghost use Rattle.std.specs.Prelude.{◌≡◌, ◌≢◌, ◌+◌, ◌++◌, ◌<◌, ◌^◌, [], length, None, Some, Ok, IfOk, IfErr, OnOk, option_map, map, codes};
 ghost use Rattle.serde_json.specs.View.{view};
 ghost use Rattle.c_session.specs.Asking.{Gives};
 ghost use Rattle.c_session.specs.Handled.{Reached, Refused};
 ghost use Rattle.c_session.specs.React.{tells, edits, opened_by, changed_by, closed_by, closes, watches, starts, beginning_by, begins, did_open, did_change, running_request, running_notification, fresh_request, on_request, on_notification, on_other, on_message, rejects, invalid_params};
 ghost use Rattle.c_session.specs.Params.{watching_in};
 ghost use Rattle.c_session.specs.Reasons.{reason_text, by_params};
-ghost use Rattle.c_session.specs.Refused.{reason, IsReply};
+ghost use Rattle.c_session.specs.Refused.{reason, IsReply, IsBehind};
 ghost use Rattle.c_session.specs.Loading.{read_back};
-ghost use Rattle.c_session.specs.News.{news, HasPublished};
+ghost use Rattle.c_session.specs.News.{touched_by, news, HasPublished};
+ghost use Rattle.plain_mean.specs.Lists.{AreShown, shown_in};
+ghost use Rattle.plain_mean.specs.Shown.{units};
+ghost use Rattle.project_conf.specs.Defines.{AreUsable};
 ghost use Rattle.c_session.specs.Replies.{log, error};
 ghost use Rattle.c_session.specs.SeenParams.{seen_file_change};
 ghost use Rattle.c_session.specs.Seen.{seen};
-ghost use Rattle.c_session.specs.Sessions.{current_state, loading, outcome_of};
+ghost use Rattle.c_session.specs.Sessions.{current_state, loading, outcome_of, IsKept, IsWork};
+ghost use Rattle.c_session.specs.Shown.{conf_in};
 ghost use Rattle.c_session.specs.State.{fresh};
 ghost use Rattle.c_session.specs.declared.reasons.Refusal.TheVariants.{NoMemory};
 
@@ -20,20 +24,24 @@ use crate::documents::{change_document, close_document, open_document};
 use crate::error::SessionError;
 use crate::loading::read_back;
 use crate::message::Message;
-use crate::news::{prior_of, push_news, push_publication};
+use crate::news::{Change, prior_of, push_news};
 use crate::params::{FileChange, watching_in};
 use crate::phase::Phase;
 use crate::reasons::Refusal;
 use crate::replies::{error, initialize_result, log, response};
 use crate::starting::{Beginning, Loaded, beginning_in, load_root};
 use crate::watching::update_all;
+use crate::words::Words;
 use doc_texts::{Docs, PriorTexts};
 use io_edges::Store;
 use json_view::Id;
+use plain_mean::{ShownLists, shown_lists};
 use project_conf::Options;
 use serde_json::Value;
 use shared_list::Listing;
 use std::alloc::{AllocError, Global};
+use std::sync::ledger::Ledger;
+use steps::Steps;
 use text_lines::Encoding;
 use uri_paths::Path;
 
@@ -64,10 +72,12 @@ impl Reply {
 #[derive(Drop)]
 pub(crate) struct Current {
     pub alloc: Global,
-    options: Options,
+    words: Words,
     docs: Docs,
     encoding: Encoding,
     phase: Phase,
+    /// What the files show.
+    shown: ShownLists,
 }
 
 /// A log message: why a notification of a method is refused.
@@ -81,14 +91,17 @@ fn refusal_log(alloc: Global, method: &str, reason: &str) -> Result<Vec<u8>, All
 impl Current {
     /// What stands before the first content.
     pub fn new(alloc: Global, options: Options) -> Current
-        ensures { current_state result ≡ fresh options }
+        requires { AreUsable 131072 options.defines }
+        ensures state { current_state result ≡ fresh options }
+        ensures kept { IsKept result }
     {
         Current {
             alloc,
-            options,
+            words: Words::of(options),
             docs: Docs::new(alloc, None),
             encoding: Encoding::Utf16,
             phase: Phase::Fresh,
+            shown: ShownLists::new(alloc),
         }
     }
 
@@ -123,79 +136,137 @@ impl Current {
     }
 
     /// The reply where a document was opened or changed, or wasn't.
-    fn reply_to_edit(
-        &self,
+    fn reply_to_edit<L: Ledger>(
+        &mut self,
         method: &str,
         edited: Result<Path, Refusal>,
+        prior: &PriorTexts,
+        steps: &mut Steps<L>,
     ) -> Result<Vec<u8>, AllocError>
-        ensures { IfOk result (λ v. IsReply method.now self.now.docs self.now.encoding edited v.items) }
+        ensures reply { IfOk result (λ v. IsReply method.now self.old.docs self.old.encoding edited v.items (shown_in self.old.shown) (shown_in self.new.shown) prior.now) }
+        ensures behind { OnOk result (IsBehind edited self.old self.new) }
+        ensures steps { OnOk result (IsWork self.new.docs steps.old steps.new) }
+        ensures same { OnOk result (current_state self.new ≡ current_state self.old) }
     {
         match edited {
             Ok(path) => {
-                let mut out = Vec::new(self.alloc);
-                match push_publication(self.alloc, &mut out, &self.docs, self.encoding, &path) {
-                    Ok(()) => Ok(out),
-                    Err(_) => Err(AllocError),
-                }
+                let bytes = self.finish(Vec::new(self.alloc), &[], prior, Some(&path), steps)?;
+                Ok(bytes)
             }
-            Err(refusal) => match self.refuse(method, refusal) {
-                Ok(bytes) => Ok(bytes),
-                Err(_) => Err(AllocError),
-            },
+            Err(refusal) => {
+                let bytes = self.refuse(method, refusal)?;
+                Ok(bytes)
+            }
         }
     }
 
     /// `textDocument/didOpen`.
-    fn on_open(&mut self, params: Option<&Value>) -> Result<Vec<u8>, AllocError>
-        ensures { IfOk result (λ v. edits (current_state self.old) did_open (opened_by self.old.docs (option_map (λ v. view v.now) params.entry)) ≡ tells (current_state self.new) v.items) }
+    fn on_open<L: Ledger>(
+        &mut self,
+        params: Option<&Value>,
+        steps: &mut Steps<L>,
+    ) -> Result<Vec<u8>, AllocError>
+        requires { IsKept self.old }
+        ensures told { IfOk result (λ v. edits (current_state self.old) did_open (opened_by self.old.docs (option_map (λ v. view v.now) params.entry)) ≡ tells (current_state self.new) v.items) }
+        ensures kept { OnOk result (IsKept self.new) }
+        ensures steps { OnOk result (IsWork self.new.docs steps.old steps.new) }
     {
-        let edited = open_document(self.alloc, &mut self.docs, params);
-        match self.reply_to_edit("textDocument/didOpen", edited) {
-            Ok(bytes) => Ok(bytes),
-            Err(_) => Err(AllocError),
-        }
+        let mut prior = PriorTexts::new(self.alloc);
+        let edited = open_document(self.alloc, &mut self.docs, &mut prior, params);
+        let bytes = self.reply_to_edit("textDocument/didOpen", edited, &prior, steps)?;
+        Ok(bytes)
     }
 
     /// `textDocument/didChange`.
-    fn on_change(&mut self, params: Option<&Value>) -> Result<Vec<u8>, AllocError>
-        ensures { IfOk result (λ v. edits (current_state self.old) did_change (changed_by self.old.docs self.old.encoding (option_map (λ v. view v.now) params.entry)) ≡ tells (current_state self.new) v.items) }
+    fn on_change<L: Ledger>(
+        &mut self,
+        params: Option<&Value>,
+        steps: &mut Steps<L>,
+    ) -> Result<Vec<u8>, AllocError>
+        requires { IsKept self.old }
+        ensures told { IfOk result (λ v. edits (current_state self.old) did_change (changed_by self.old.docs self.old.encoding (option_map (λ v. view v.now) params.entry)) ≡ tells (current_state self.new) v.items) }
+        ensures kept { OnOk result (IsKept self.new) }
+        ensures steps { OnOk result (IsWork self.new.docs steps.old steps.new) }
     {
-        let edited = change_document(self.alloc, &mut self.docs, self.encoding, params);
-        match self.reply_to_edit("textDocument/didChange", edited) {
-            Ok(bytes) => Ok(bytes),
-            Err(_) => Err(AllocError),
-        }
+        let mut prior = PriorTexts::new(self.alloc);
+        let edited = change_document(
+            self.alloc,
+            &mut self.docs,
+            self.encoding,
+            &mut prior,
+            params,
+        );
+        let bytes = self.reply_to_edit("textDocument/didChange", edited, &prior, steps)?;
+        Ok(bytes)
     }
 
-    /// A response, and behind it log messages and the diagnostics of the files that have news.
-    fn finish(
-        &self,
+    /// Works out what each file shows now.
+    fn shown_now<L: Ledger>(&self, steps: &mut Steps<L>) -> Result<ShownLists, AllocError>
+        ensures shown { IfOk result (λ lists. AreShown self.now.docs (conf_in (current_state self.now)) lists) }
+        ensures steps { OnOk result (steps.new ≡ steps.old + length (units self.now.docs)) }
+    {
+        let conf = self.words.conf(self.alloc, self.docs.root())?;
+        let lists = shown_lists(self.alloc, &self.docs, &conf, steps)?;
+        Ok(lists)
+    }
+
+    /// Works out what each file shows now, where that isn't kept.
+    pub fn catch_up<L: Ledger>(&mut self, steps: &mut Steps<L>) -> Result<(), AllocError>
+        ensures kept { OnOk result (IsKept self.new) }
+        ensures steps { OnOk result (steps.new ≡ steps.old + length (units self.old.docs)) }
+        ensures same { OnOk result (current_state self.new ≡ current_state self.old) }
+    {
+        self.shown = self.shown_now(steps)?;
+        Ok(())
+    }
+
+    /// A response, and behind it log messages and the diagnostics of the files that have news, and of the one that was opened
+    /// or changed. What the files show is worked out anew.
+    fn finish<L: Ledger>(
+        &mut self,
         response: Vec<u8>,
         logs: &[u8],
         prior: &PriorTexts,
+        touched: Option<&Path>,
+        steps: &mut Steps<L>,
     ) -> Result<Vec<u8>, AllocError>
-        ensures { IfOk result (λ v. v.items ≡ (response.items ++ logs.now) ++ news self.now.encoding prior.now self.now.docs) }
+        ensures wrote { IfOk result (λ v. v.items ≡ (response.items ++ logs.now) ++ news (touched_by (option_map (λ p. p.now) touched.entry)) self.old.encoding (shown_in self.old.shown) (shown_in self.new.shown) prior.now self.old.docs) }
+        ensures kept { OnOk result (IsKept self.new) }
+        ensures steps { OnOk result (steps.new ≡ steps.old + length (units self.old.docs)) }
+        ensures same { OnOk result (current_state self.new ≡ current_state self.old) }
     {
+        let after = self.shown_now(steps)?;
         let mut out = response;
         out.extend_from_slice(logs)?;
-        push_news(self.alloc, &mut out, &self.docs, self.encoding, prior)?;
+        let change = Change {
+            before: &self.shown,
+            after: &after,
+            prior,
+            touched,
+        };
+        push_news(self.alloc, &mut out, &self.docs, self.encoding, change)?;
+        self.shown = after;
         Ok(out)
     }
 
     /// `textDocument/didClose`.
-    fn on_close<D: Store>(
+    fn on_close<D: Store, L: Ledger>(
         &mut self,
         params: Option<&Value>,
         store: &mut D,
+        steps: &mut Steps<L>,
     ) -> Result<Vec<u8>, SessionError>
-        requires { D.faults store.old + 1 < 2 ^ 64 }
+        requires store { D.faults store.old + 1 < 2 ^ 64 }
+        requires kept { IsKept self.old }
         ensures handled { IfOk result (λ v. Reached (closes (current_state self.old) (closed_by self.old.docs (option_map (λ v. view v.now) params.entry))) (Gives (tells (current_state self.new) v.items)) (D.answers store.old) (D.answers store.new)) }
+        ensures kept { OnOk result (IsKept self.new) }
+        ensures steps { OnOk result (IsWork self.new.docs steps.old steps.new) }
         ensures counted { OnOk result (D.faults store.new ≡ D.faults store.old) }
         ensures refused { IfErr result (λ e. Refused e (closes (current_state self.old) (closed_by self.old.docs (option_map (λ v. view v.now) params.entry))) (D.answers store.old) (D.answers store.new) (D.faults store.old) (D.faults store.new)) }
     {
         let mut prior = PriorTexts::new(self.alloc);
         match close_document(self.alloc, &mut self.docs, &mut prior, params) {
-            Ok(path) => match self.after_close(&path, &mut prior, store) {
+            Ok(path) => match self.after_close(&path, &mut prior, store, steps) {
                 Ok(bytes) => Ok(bytes),
                 Err(error) => Err(error),
             },
@@ -207,14 +278,17 @@ impl Current {
     }
 
     /// Reads the file of a document that was closed, and publishes what that changed.
-    fn after_close<D: Store>(
+    fn after_close<D: Store, L: Ledger>(
         &mut self,
         path: &Path,
         prior: &mut PriorTexts,
         store: &mut D,
+        steps: &mut Steps<L>,
     ) -> Result<Vec<u8>, SessionError>
         requires { D.faults store.old + 1 < 2 ^ 64 }
-        ensures handled { IfOk result (λ v. HasPublished (read_back (loading self.old.docs []) path.now) (current_state self.old) (current_state self.new) v.items prior.old (D.answers store.old) (D.answers store.new)) }
+        ensures handled { IfOk result (λ v. HasPublished (read_back (loading self.old.docs []) path.now) (current_state self.old) (current_state self.new) v.items (shown_in self.old.shown) (shown_in self.new.shown) prior.old (D.answers store.old) (D.answers store.new)) }
+        ensures kept { OnOk result (IsKept self.new) }
+        ensures steps { OnOk result (IsWork self.new.docs steps.old steps.new) }
         ensures counted { OnOk result (D.faults store.new ≡ D.faults store.old) }
         ensures refused { IfErr result (λ e. Refused e (read_back (loading self.old.docs []) path.now) (D.answers store.old) (D.answers store.new) (D.faults store.old) (D.faults store.new)) }
     {
@@ -223,25 +297,29 @@ impl Current {
             Ok(()) => {}
             Err(error) => return Err(error),
         }
-        match self.finish(Vec::new(self.alloc), logs.as_slice(), prior) {
+        match self.finish(Vec::new(self.alloc), logs.as_slice(), prior, None, steps) {
             Ok(bytes) => Ok(bytes),
             Err(_) => Err(SessionError::NoMemory),
         }
     }
 
     /// `workspace/didChangeWatchedFiles`.
-    fn on_watch<D: Store>(
+    fn on_watch<D: Store, L: Ledger>(
         &mut self,
         params: Option<&Value>,
         store: &mut D,
+        steps: &mut Steps<L>,
     ) -> Result<Vec<u8>, SessionError>
-        requires { D.faults store.old + 1 < 2 ^ 64 }
+        requires store { D.faults store.old + 1 < 2 ^ 64 }
+        requires kept { IsKept self.old }
         ensures handled { IfOk result (λ v. Reached (watches (current_state self.old) (by_params (watching_in (option_map (λ v. view v.now) params.entry)))) (Gives (tells (current_state self.new) v.items)) (D.answers store.old) (D.answers store.new)) }
+        ensures kept { OnOk result (IsKept self.new) }
+        ensures steps { OnOk result (IsWork self.new.docs steps.old steps.new) }
         ensures counted { OnOk result (D.faults store.new ≡ D.faults store.old) }
         ensures refused { IfErr result (λ e. Refused e (watches (current_state self.old) (by_params (watching_in (option_map (λ v. view v.now) params.entry)))) (D.answers store.old) (D.answers store.new) (D.faults store.old) (D.faults store.new)) }
     {
         match watching_in(self.alloc, params) {
-            Ok(changes) => match self.after_changes(changes.as_slice(), store) {
+            Ok(changes) => match self.after_changes(changes.as_slice(), store, steps) {
                 Ok(bytes) => Ok(bytes),
                 Err(error) => Err(error),
             },
@@ -256,13 +334,17 @@ impl Current {
     }
 
     /// Takes over changes of files, and publishes what they changed.
-    fn after_changes<D: Store>(
+    fn after_changes<D: Store, L: Ledger>(
         &mut self,
         changes: &[FileChange<'_>],
         store: &mut D,
+        steps: &mut Steps<L>,
     ) -> Result<Vec<u8>, SessionError>
-        requires { D.faults store.old + 1 < 2 ^ 64 }
+        requires store { D.faults store.old + 1 < 2 ^ 64 }
+        requires kept { IsKept self.old }
         ensures handled { IfOk result (λ v. Reached (watches (current_state self.old) (Ok (map seen_file_change changes.now))) (Gives (tells (current_state self.new) v.items)) (D.answers store.old) (D.answers store.new)) }
+        ensures kept { OnOk result (IsKept self.new) }
+        ensures steps { OnOk result (IsWork self.new.docs steps.old steps.new) }
         ensures counted { OnOk result (D.faults store.new ≡ D.faults store.old) }
         ensures refused { IfErr result (λ e. Refused e (watches (current_state self.old) (Ok (map seen_file_change changes.now))) (D.answers store.old) (D.answers store.new) (D.faults store.old) (D.faults store.new)) }
     {
@@ -279,15 +361,24 @@ impl Current {
             Ok(()) => {}
             Err(error) => return Err(error),
         }
-        match self.finish(Vec::new(self.alloc), logs.as_slice(), &prior) {
+        match self.finish(Vec::new(self.alloc), logs.as_slice(), &prior, None, steps) {
             Ok(bytes) => Ok(bytes),
             Err(_) => Err(SessionError::NoMemory),
         }
     }
 
     /// The session begins with these texts: it answers `initialize`, and publishes what they show.
-    fn begin(&mut self, id: &Id, encoding: Encoding, loaded: Loaded) -> Result<Vec<u8>, AllocError>
-        ensures { IfOk result (λ v. begins (current_state self.old) id.now encoding (loading loaded.docs loaded.logs.items) ≡ tells (current_state self.new) v.items) }
+    fn begin<L: Ledger>(
+        &mut self,
+        id: &Id,
+        encoding: Encoding,
+        loaded: Loaded,
+        steps: &mut Steps<L>,
+    ) -> Result<Vec<u8>, AllocError>
+        requires { IsKept self.old }
+        ensures told { IfOk result (λ v. begins (current_state self.old) id.now encoding (loading loaded.docs loaded.logs.items) ≡ tells (current_state self.new) v.items) }
+        ensures kept { OnOk result (IsKept self.new) }
+        ensures steps { OnOk result (IsWork self.new.docs steps.old steps.new) }
     {
         let Loaded { docs, logs } = loaded;
         let prior = prior_of(self.alloc, &self.docs, &docs)?;
@@ -296,21 +387,25 @@ impl Current {
         self.docs = docs;
         self.encoding = encoding;
         self.phase = Phase::Running;
-        match self.finish(bytes, logs.as_slice(), &prior) {
+        match self.finish(bytes, logs.as_slice(), &prior, None, steps) {
             Ok(bytes) => Ok(bytes),
             Err(_) => Err(AllocError),
         }
     }
 
     /// `initialize`.
-    fn on_initialize<D: Store>(
+    fn on_initialize<D: Store, L: Ledger>(
         &mut self,
         id: &Id,
         params: Option<&Value>,
         store: &mut D,
+        steps: &mut Steps<L>,
     ) -> Result<Vec<u8>, SessionError>
-        requires { D.faults store.old + 1 < 2 ^ 64 }
+        requires store { D.faults store.old + 1 < 2 ^ 64 }
+        requires kept { IsKept self.old }
         ensures handled { IfOk result (λ v. Reached (starts (current_state self.old) id.now (beginning_by (option_map (λ v. view v.now) params.entry))) (Gives (tells (current_state self.new) v.items)) (D.answers store.old) (D.answers store.new)) }
+        ensures kept { OnOk result (IsKept self.new) }
+        ensures steps { OnOk result (IsWork self.new.docs steps.old steps.new) }
         ensures counted { OnOk result (D.faults store.new ≡ D.faults store.old) }
         ensures refused { IfErr result (λ e. Refused e (starts (current_state self.old) id.now (beginning_by (option_map (λ v. view v.now) params.entry))) (D.answers store.old) (D.answers store.new) (D.faults store.old) (D.faults store.new)) }
     {
@@ -328,7 +423,7 @@ impl Current {
             Ok(loaded) => loaded,
             Err(error) => return Err(error),
         };
-        match self.begin(id, encoding, loaded) {
+        match self.begin(id, encoding, loaded, steps) {
             Ok(bytes) => Ok(bytes),
             Err(_) => Err(SessionError::NoMemory),
         }
@@ -336,20 +431,24 @@ impl Current {
 
     /// A request before `initialize`.
     #[tactic(auto, unfolding(crate::specs::React::fresh_request))]
-    fn on_fresh_request<D: Store>(
+    fn on_fresh_request<D: Store, L: Ledger>(
         &mut self,
         id: &Id,
         method: &str,
         params: Option<&Value>,
         store: &mut D,
+        steps: &mut Steps<L>,
     ) -> Result<Vec<u8>, SessionError>
-        requires { D.faults store.old + 1 < 2 ^ 64 }
+        requires store { D.faults store.old + 1 < 2 ^ 64 }
+        requires kept { IsKept self.old }
         ensures handled { IfOk result (λ v. Reached (fresh_request (current_state self.old) id.now method.now (option_map (λ v. view v.now) params.entry)) (Gives (tells (current_state self.new) v.items)) (D.answers store.old) (D.answers store.new)) }
+        ensures kept { OnOk result (IsKept self.new) }
+        ensures steps { OnOk result (IsWork self.new.docs steps.old steps.new) }
         ensures counted { OnOk result (D.faults store.new ≡ D.faults store.old) }
         ensures refused { IfErr result (λ e. Refused e (fresh_request (current_state self.old) id.now method.now (option_map (λ v. view v.now) params.entry)) (D.answers store.old) (D.answers store.new) (D.faults store.old) (D.faults store.new)) }
     {
         if method == "initialize" {
-            return self.on_initialize(id, params, store);
+            return self.on_initialize(id, params, store, steps);
         }
         match error(self.alloc, Some(id), -32002, "not initialized") {
             Ok(bytes) => Ok(bytes),
@@ -360,7 +459,9 @@ impl Current {
     /// A request between `initialize` and `shutdown`.
     #[tactic(auto, unfolding(crate::specs::React::running_request))]
     fn on_running_request(&mut self, id: &Id, method: &str) -> Result<Vec<u8>, AllocError>
-        ensures { IfOk result (λ v. running_request (current_state self.old) id.now method.now ≡ tells (current_state self.new) v.items) }
+        requires { IsKept self.old }
+        ensures told { IfOk result (λ v. running_request (current_state self.old) id.now method.now ≡ tells (current_state self.new) v.items) }
+        ensures kept { OnOk result (IsKept self.new) }
     {
         if method == "initialize" {
             return error(self.alloc, Some(id), -32600, "already initialized");
@@ -373,20 +474,24 @@ impl Current {
         error(self.alloc, Some(id), -32601, "unknown method")
     }
 
-    fn on_request<D: Store>(
+    fn on_request<D: Store, L: Ledger>(
         &mut self,
         id: &Id,
         method: &str,
         params: Option<&Value>,
         store: &mut D,
+        steps: &mut Steps<L>,
     ) -> Result<Vec<u8>, SessionError>
-        requires { D.faults store.old + 1 < 2 ^ 64 }
+        requires store { D.faults store.old + 1 < 2 ^ 64 }
+        requires kept { IsKept self.old }
         ensures handled { IfOk result (λ v. Reached (on_request self.old.phase (current_state self.old) id.now method.now (option_map (λ v. view v.now) params.entry)) (Gives (tells (current_state self.new) v.items)) (D.answers store.old) (D.answers store.new)) }
+        ensures kept { OnOk result (IsKept self.new) }
+        ensures steps { OnOk result (IsWork self.new.docs steps.old steps.new) }
         ensures counted { OnOk result (D.faults store.new ≡ D.faults store.old) }
         ensures refused { IfErr result (λ e. Refused e (on_request self.old.phase (current_state self.old) id.now method.now (option_map (λ v. view v.now) params.entry)) (D.answers store.old) (D.answers store.new) (D.faults store.old) (D.faults store.new)) }
     {
         match self.phase {
-            Phase::Fresh => self.on_fresh_request(id, method, params, store),
+            Phase::Fresh => self.on_fresh_request(id, method, params, store, steps),
             Phase::Running => match self.on_running_request(id, method) {
                 Ok(bytes) => Ok(bytes),
                 Err(_) => Err(SessionError::NoMemory),
@@ -400,48 +505,56 @@ impl Current {
 
     /// A notification between `initialize` and `shutdown`.
     #[tactic(auto, unfolding(crate::specs::React::running_notification))]
-    fn on_running_notification<D: Store>(
+    fn on_running_notification<D: Store, L: Ledger>(
         &mut self,
         method: &str,
         params: Option<&Value>,
         store: &mut D,
+        steps: &mut Steps<L>,
     ) -> Result<Vec<u8>, SessionError>
-        requires { D.faults store.old + 1 < 2 ^ 64 }
+        requires store { D.faults store.old + 1 < 2 ^ 64 }
+        requires kept { IsKept self.old }
         ensures handled { IfOk result (λ v. Reached (running_notification (current_state self.old) method.now (option_map (λ v. view v.now) params.entry)) (Gives (tells (current_state self.new) v.items)) (D.answers store.old) (D.answers store.new)) }
+        ensures kept { OnOk result (IsKept self.new) }
+        ensures steps { OnOk result (IsWork self.new.docs steps.old steps.new) }
         ensures counted { OnOk result (D.faults store.new ≡ D.faults store.old) }
         ensures refused { IfErr result (λ e. Refused e (running_notification (current_state self.old) method.now (option_map (λ v. view v.now) params.entry)) (D.answers store.old) (D.answers store.new) (D.faults store.old) (D.faults store.new)) }
     {
         if method == "textDocument/didOpen" {
-            match self.on_open(params) {
+            match self.on_open(params, steps) {
                 Ok(bytes) => return Ok(bytes),
                 Err(_) => return Err(SessionError::NoMemory),
             }
         }
         if method == "textDocument/didChange" {
-            match self.on_change(params) {
+            match self.on_change(params, steps) {
                 Ok(bytes) => return Ok(bytes),
                 Err(_) => return Err(SessionError::NoMemory),
             }
         }
         if method == "textDocument/didClose" {
-            return self.on_close(params, store);
+            return self.on_close(params, store, steps);
         }
         if method == "workspace/didChangeWatchedFiles" {
-            return self.on_watch(params, store);
+            return self.on_watch(params, store, steps);
         }
         Ok(Vec::new(self.alloc))
     }
 
     /// A notification.
     #[tactic(auto, unfolding(crate::specs::React::on_notification))]
-    fn on_notification<D: Store>(
+    fn on_notification<D: Store, L: Ledger>(
         &mut self,
         method: &str,
         params: Option<&Value>,
         store: &mut D,
+        steps: &mut Steps<L>,
     ) -> Result<Reply, SessionError>
-        requires { D.faults store.old + 1 < 2 ^ 64 }
+        requires store { D.faults store.old + 1 < 2 ^ 64 }
+        requires kept { IsKept self.old }
         ensures handled { IfOk result (λ reply. Reached (on_notification (current_state self.old) method.now (option_map (λ v. view v.now) params.entry)) (Gives (outcome_of self.new reply)) (D.answers store.old) (D.answers store.new)) }
+        ensures kept { OnOk result (IsKept self.new) }
+        ensures steps { OnOk result (IsWork self.new.docs steps.old steps.new) }
         ensures counted { OnOk result (D.faults store.new ≡ D.faults store.old) }
         ensures refused { IfErr result (λ e. Refused e (on_notification (current_state self.old) method.now (option_map (λ v. view v.now) params.entry)) (D.answers store.old) (D.answers store.new) (D.faults store.old) (D.faults store.new)) }
     {
@@ -454,7 +567,7 @@ impl Current {
         if !self.phase.is_running() {
             return Ok(Reply::of(Vec::new(self.alloc)));
         }
-        match self.on_running_notification(method, params, store) {
+        match self.on_running_notification(method, params, store, steps) {
             Ok(bytes) => Ok(Reply::of(bytes)),
             Err(error) => Err(error),
         }
@@ -483,25 +596,29 @@ impl Current {
     }
 
     /// What is done with a message. After an error this isn't used again.
-    pub fn on_message<D: Store>(
+    pub fn on_message<D: Store, L: Ledger>(
         &mut self,
         message: &Message<'_>,
         store: &mut D,
+        steps: &mut Steps<L>,
     ) -> Result<Reply, SessionError>
-        requires { D.faults store.old + 1 < 2 ^ 64 }
+        requires store { D.faults store.old + 1 < 2 ^ 64 }
+        requires kept { IsKept self.old }
         ensures handled { IfOk result (λ reply. Reached (on_message (current_state self.old) (seen message.now)) (Gives (outcome_of self.new reply)) (D.answers store.old) (D.answers store.new)) }
+        ensures kept { OnOk result (IsKept self.new) }
+        ensures steps { OnOk result (IsWork self.new.docs steps.old steps.new) }
         ensures counted { OnOk result (D.faults store.new ≡ D.faults store.old) }
         ensures refused { IfErr result (λ e. Refused e (on_message (current_state self.old) (seen message.now)) (D.answers store.old) (D.answers store.new) (D.faults store.old) (D.faults store.new)) }
     {
         match message {
             Message::Request { id, method, params } => {
-                match self.on_request(id, *method, *params, store) {
+                match self.on_request(id, *method, *params, store, steps) {
                     Ok(bytes) => Ok(Reply::of(bytes)),
                     Err(error) => Err(error),
                 }
             }
             Message::Notification { method, params } => {
-                self.on_notification(*method, *params, store)
+                self.on_notification(*method, *params, store, steps)
             }
             _ => match self.on_other(message) {
                 Ok(reply) => Ok(reply),

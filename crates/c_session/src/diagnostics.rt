@@ -2,28 +2,21 @@
 ghost use Rattle.std.specs.Prelude.{◌≡◌, ◌≤◌, ◌++◌, length, map, string_bytes, IfOk, OnOk, false};
 ghost use Rattle.serde_json.specs.View.{view, items_of};
 ghost use Rattle.serde_json.specs.Written.{compact_text, items_text, comma_if};
-ghost use Rattle.c_session.specs.Faults.{AreWithin};
-ghost use Rattle.c_session.specs.Replies.{message_of, pos_data, fault_data, diagnostic_data, diagnostic, publish};
+ghost use Rattle.plain_mean.specs.Within.{AreWithin};
+ghost use Rattle.c_session.specs.Replies.{severity, pos_data, fault_data, diagnostic_data, diagnostic, publish};
 ghost use Rattle.c_session.specs.Published.{number_data, publish_start, publish_end, version_part};
 ghost use Rattle.serde_json.specs.Data.{string};
 
 use crate::replies::push_framed;
-use c_tokens::LexFault;
+use plain_mean::{Shown, is_warning};
 use serde_json::{Value, json};
 use std::alloc::{AllocError, Global};
 use text_lines::{Encoding, Pos, Walk};
 
-#[tactic(auto, unfolding(crate::specs::Replies::message_of))]
-fn message_of(rule: u16) -> &'static str
-    ensures { result.now ≡ message_of rule }
+fn severity(rule: u16) -> u8
+    ensures { result ≡ severity rule }
 {
-    if rule == 101 {
-        return "open comment";
-    }
-    if rule == 102 {
-        return "open literal";
-    }
-    "stray character"
+    if is_warning(rule) { 2 } else { 1 }
 }
 
 fn pos_value(alloc: Global, pos: Pos) -> Result<Value, AllocError>
@@ -34,27 +27,45 @@ fn pos_value(alloc: Global, pos: Pos) -> Result<Value, AllocError>
     json!(in alloc; {"character": character, "line": line})
 }
 
-fn with_range(alloc: Global, rule: u16, start: Value, end: Value) -> Result<Value, AllocError>
-    ensures { IfOk result (λ v. view v ≡ fault_data rule (view start) (view end)) }
+fn with_range(
+    alloc: Global,
+    rule: u16,
+    message: &str,
+    start: Value,
+    end: Value,
+) -> Result<Value, AllocError>
+    ensures { IfOk result (λ v. view v ≡ fault_data rule message.now (view start) (view end)) }
 {
-    let message = message_of(rule);
-    json!(in alloc; {"code": rule, "message": message, "range": {"end": end, "start": start}, "severity": 1u8, "source": "c11ls"})
+    let severity = severity(rule);
+    json!(in alloc; {"code": rule, "message": message, "range": {"end": end, "start": start}, "severity": severity, "source": "c11ls"})
 }
 
 /// A Diagnostic on a range.
-fn diagnostic_value(alloc: Global, rule: u16, start: Pos, end: Pos) -> Result<Value, AllocError>
-    ensures { IfOk result (λ v. view v ≡ diagnostic_data rule start end) }
+fn diagnostic_value(
+    alloc: Global,
+    rule: u16,
+    message: &str,
+    start: Pos,
+    end: Pos,
+) -> Result<Value, AllocError>
+    ensures { IfOk result (λ v. view v ≡ diagnostic_data rule message.now start end) }
 {
     let start = pos_value(alloc, start)?;
     let end = pos_value(alloc, end)?;
-    with_range(alloc, rule, start, end)
+    with_range(alloc, rule, message, start, end)
 }
 
 /// The text of a Diagnostic on a range.
-fn diagnostic_text(alloc: Global, rule: u16, start: Pos, end: Pos) -> Result<String, AllocError>
-    ensures { IfOk result (λ s. string_bytes s ≡ compact_text (diagnostic_data rule start end)) }
+fn diagnostic_text(
+    alloc: Global,
+    rule: u16,
+    message: &str,
+    start: Pos,
+    end: Pos,
+) -> Result<String, AllocError>
+    ensures { IfOk result (λ s. string_bytes s ≡ compact_text (diagnostic_data rule message.now start end)) }
 {
-    let value = diagnostic_value(alloc, rule, start, end)?;
+    let value = diagnostic_value(alloc, rule, message, start, end)?;
     value.to_string(alloc)
 }
 
@@ -73,7 +84,7 @@ fn push_diagnostic(
     alloc: Global,
     body: &mut String,
     walk: &mut Walk<'_>,
-    fault: &LexFault,
+    fault: &Shown,
 ) -> Result<(), AllocError>
     requires start { fault.now.start ≤ length walk.old.text }
     requires end { fault.now.end ≤ length walk.old.text }
@@ -82,7 +93,7 @@ fn push_diagnostic(
 {
     let start = walk.pos(fault.start);
     let end = walk.pos(fault.end);
-    let text = diagnostic_text(alloc, fault.rule, start, end)?;
+    let text = diagnostic_text(alloc, fault.rule, fault.text.as_str(), start, end)?;
     body.push_str(text.as_str())?;
     Ok(())
 }
@@ -93,7 +104,7 @@ fn push_diagnostics(
     alloc: Global,
     body: &mut String,
     walk: &mut Walk<'_>,
-    faults: &[LexFault],
+    faults: &[Shown],
 ) -> Result<(), AllocError>
     requires { AreWithin (length walk.old.text) faults.now }
     ensures { OnOk result (string_bytes body.new ≡ string_bytes body.old
@@ -167,7 +178,7 @@ pub(crate) struct Showing<'a> {
     pub uri: &'a str,
     pub version: Option<i32>,
     pub text: &'a str,
-    pub faults: &'a [LexFault],
+    pub faults: &'a [Shown],
 }
 
 /// The content of the notification for a document.
@@ -200,7 +211,7 @@ pub(crate) fn push_diagnostics_of(
 ) -> Result<(), AllocError>
     requires short { length showing.text.now ≤ 4194304 }
     requires within { AreWithin (length showing.text.now) showing.faults.now }
-    ensures { OnOk result (out.new.items ≡ out.old.items ++ publish encoding showing.entry.uri.now showing.entry.version showing.entry.faults.now showing.entry.text.now) }
+    ensures { OnOk result (out.new.items ≡ out.old.items ++ publish showing.entry.uri.now showing.entry.version (map (diagnostic showing.entry.text.now encoding) showing.entry.faults.now)) }
 {
     let text = publish_text(alloc, encoding, showing)?;
     push_framed(alloc, out, text.as_str())?;

@@ -1,7 +1,8 @@
 // Documents that are opened, changed and closed by the client (LSP 3.17, text document synchronization).
-ghost use Rattle.std.specs.Prelude.{option_map, OnOk};
+ghost use Rattle.std.specs.Prelude.{◌≡◌, option_map, IfOk, OnOk};
 ghost use Rattle.serde_json.specs.View.{view};
 ghost use Rattle.uri_paths.specs.Uris.{path_of_uri};
+ghost use Rattle.doc_texts.specs.Prior.{remembered};
 ghost use Rattle.c_session.specs.React.{opened_by, changed_by, closing_path, closed_by};
 ghost use Rattle.c_session.specs.Reasons.{by_uri};
 ghost use Rattle.c_session.specs.News.{KeepsPrior};
@@ -25,15 +26,18 @@ pub(crate) fn path_at(alloc: Global, uri: &str) -> Result<Path, Refusal>
     }
 }
 
-/// Opens the document that the params state, and answers its path. The texts stay where it is refused.
+/// Opens the document that the params state, and answers its path; the text that the file had before is kept. The texts
+/// stay where it is refused.
 #[tactic(auto, unfolding(crate::specs::React::opened_by))]
 pub(crate) fn open_document(
     alloc: Global,
     docs: &mut Docs,
+    prior: &mut PriorTexts,
     params: Option<&Value>,
 ) -> Result<Path, Refusal>
     ensures meant { Answers (edited docs.new) result (opened_by docs.old (option_map (λ v. view v.now) params.entry)) }
     ensures kept { Leaves result docs.old docs.new }
+    ensures prior { IfOk result (λ path. prior.new ≡ remembered prior.old docs.old path) }
 {
     let opening = match opening_in(params) {
         Ok(opening) => opening,
@@ -43,22 +47,29 @@ pub(crate) fn open_document(
         Ok(path) => path,
         Err(refusal) => return Err(refusal),
     };
+    match prior.remember(docs, &path) {
+        Ok(()) => {}
+        Err(_) => return Err(Refusal::NoMemory),
+    }
     match docs.open_doc(&path, opening.uri, opening.version, opening.text) {
         Ok(()) => Ok(path),
         Err(error) => Err(Refusal::of_texts(error)),
     }
 }
 
-/// Changes the document that the params state, and answers its path. The texts stay where it is refused.
+/// Changes the document that the params state, and answers its path; the text that the file had before is kept. The texts
+/// stay where it is refused.
 #[tactic(auto, unfolding(crate::specs::React::changed_by))]
 pub(crate) fn change_document(
     alloc: Global,
     docs: &mut Docs,
     encoding: Encoding,
+    prior: &mut PriorTexts,
     params: Option<&Value>,
 ) -> Result<Path, Refusal>
     ensures meant { Answers (edited docs.new) result (changed_by docs.old encoding (option_map (λ v. view v.now) params.entry)) }
     ensures kept { Leaves result docs.old docs.new }
+    ensures prior { IfOk result (λ path. prior.new ≡ remembered prior.old docs.old path) }
 {
     let changing = match changing_in(alloc, params) {
         Ok(changing) => changing,
@@ -68,6 +79,10 @@ pub(crate) fn change_document(
         Ok(path) => path,
         Err(refusal) => return Err(refusal),
     };
+    match prior.remember(docs, &path) {
+        Ok(()) => {}
+        Err(_) => return Err(Refusal::NoMemory),
+    }
     match docs.change(
         &path,
         changing.version,

@@ -1,6 +1,6 @@
 // Which files are loaded from a root.
 ghost use Rattle.std.specs.Prelude.{◌≡◌, IfOk};
-ghost use Rattle.c_session.specs.Files.{is_source, is_c_file, is_database, is_loaded, wanted_path, unreadable_logs, to_load};
+ghost use Rattle.c_session.specs.Files.{is_c_file, is_database, is_loaded, wanted_path, unreadable_logs, to_load};
 ghost use Rattle.c_session.specs.Loading.{is_read};
 ghost use Rattle.std.specs.Prelude.{option_map};
 
@@ -9,13 +9,6 @@ use doc_texts::PathSet;
 use io_edges::Listed;
 use std::alloc::{AllocError, Global};
 use uri_paths::{Path, within};
-
-/// Whether a path is a C source, which is a unit.
-pub(crate) fn is_source(path: &Path) -> bool
-    ensures { result ≡ is_source path.now }
-{
-    path.as_str().as_bytes().ends_with(b".c")
-}
 
 #[tactic(auto, unfolding(crate::specs::Files::is_c_file))]
 fn is_c_file(path: &Path) -> bool

@@ -18,6 +18,7 @@ mod replies;
 mod session;
 mod starting;
 mod watching;
+mod words;
 
 pub use current::{Reply, ReplyBytes};
 pub use error::SessionError;

@@ -1,81 +1,59 @@
 // What is published after a message that changed texts.
-ghost use Rattle.std.specs.Prelude.{◌≡◌, ◌≤◌, ◌++◌, [], length, option_map, IfOk, IfSome, OnOk, string_bytes, unwrap_or};
-ghost use Rattle.c_tokens.specs.Lexed.{lexed};
-ghost use Rattle.c_session.specs.Faults.{AreWithin};
-ghost use Rattle.c_session.specs.Shown.{shown_of, shown, same_text, uri_for, publication};
-ghost use Rattle.c_session.specs.News.{IsPrior, IsNews, all_remembered, news_of, news};
-ghost use Rattle.doc_texts.specs.Texts.{text_at};
+ghost use Rattle.std.specs.Prelude.{◌≡◌, ◌≤◌, ℕ, ◌++◌, List, [], bytes_eq, length, option_map, IfOk, OnOk, string_bytes, unwrap_or};
+ghost use Rattle.std.specs.List.{list_any};
+ghost use Rattle.doc_texts.specs.Texts.{text_at, add_all};
+ghost use Rattle.plain_mean.specs.Given.{text_in};
+ghost use Rattle.plain_mean.specs.Lists.{shown_in};
+ghost use Rattle.plain_mean.specs.Within.{AreWithin};
+ghost use Rattle.c_session.specs.Shown.{same_fault, same_list, has_news, uri_for, publication};
+ghost use Rattle.c_session.specs.News.{IsPrior, all_remembered, touched_by, is_told, news_of, may_have_news, news};
 
 use crate::diagnostics::{Showing, push_diagnostics_of};
-use crate::files::is_source;
-use c_tokens::{Faults, LexFault, lex};
-use doc_texts::{Docs, PriorTexts};
+use doc_texts::{Docs, PathSet, PriorTexts};
+use plain_mean::{Shown, ShownLists};
 use std::alloc::{AllocError, Global};
 use text_lines::Encoding;
 use uri_paths::{Path, uri_of};
 
-/// The lexical faults of a text.
-fn faults_in(alloc: Global, text: &str) -> Result<Faults, AllocError>
-    requires { length text.now ≤ 4194304 }
-    ensures faults { IfOk result (λ faults. faults ≡ (lexed text.now).faults) }
-    ensures within { IfOk result (λ faults. AreWithin (length text.now) faults) }
-{
-    let found = lex(alloc, text)?;
-    Ok(found.faults)
+/// What a message changed: what files showed before and show now, the texts that some had before, and the file that the
+/// message opened or changed, if there is one.
+#[derive(Clone, Copy)]
+pub(crate) struct Change<'a> {
+    pub before: &'a ShownLists,
+    pub after: &'a ShownLists,
+    pub prior: &'a PriorTexts,
+    pub touched: Option<&'a Path>,
 }
 
-/// What a file with this text shows: the lexical faults of a C source.
-#[tactic(auto, unfolding(crate::specs::Shown::shown_of))]
-fn shown_of(alloc: Global, path: &Path, text: Option<&str>) -> Result<Faults, AllocError>
-    requires { IfSome text (λ t. length t.now ≤ 4194304) }
-    ensures shown { IfOk result (λ faults. faults ≡ shown_of path.now (option_map (λ t. t.now) text.entry)) }
-    ensures within { IfOk result (λ faults. AreWithin (length (unwrap_or (option_map (λ t. t.now) text.entry) [])) faults) }
+fn same_fault(a: &Shown, b: &Shown) -> bool
+    ensures { result ≡ same_fault a.now b.now }
 {
-    if !is_source(path) {
-        return Ok(Faults::from_vec(Vec::new(alloc)));
-    }
-    match text {
-        None => Ok(Faults::from_vec(Vec::new(alloc))),
-        Some(text) => {
-            let faults = faults_in(alloc, text)?;
-            Ok(faults)
+    a.start == b.start && a.end == b.end && a.rule == b.rule && a.text.as_str() == b.text.as_str()
+}
+
+fn same_list(a: &[Shown], b: &[Shown]) -> bool
+    ensures { result ≡ same_list a.now b.now }
+{
+    let mut rest = a;
+    let mut others = b;
+    'faults: while let Some((a, behind)) = rest.split_first() {
+        rest = behind;
+        let Some((b, behind)) = others.split_first() else {
+            return false;
+        };
+        others = behind;
+        if !same_fault(a, b) {
+            return false;
         }
     }
+    others.is_empty()
 }
 
-fn same_text(a: Option<&str>, b: Option<&str>) -> bool
-    ensures { result ≡ same_text (option_map (λ t. t.now) a.entry) (option_map (λ t. t.now) b.entry) }
+/// Whether a file has news, by what it showed, what it shows and whether its text differs.
+fn has_news(before: &[Shown], after: &[Shown], text_differs: bool) -> bool
+    ensures { result ≡ has_news before.now after.now text_differs }
 {
-    match (a, b) {
-        (None, None) => true,
-        (Some(a), Some(b)) => a == b,
-        _ => false,
-    }
-}
-
-/// What a file shows now, where its text or what it shows is news against its text before: None where it isn't.
-fn news_in(
-    alloc: Global,
-    path: &Path,
-    old: Option<&str>,
-    new: Option<&str>,
-) -> Result<Option<Faults>, AllocError>
-    requires old { IfSome old (λ t. length t.now ≤ 4194304) }
-    requires new { IfSome new (λ t. length t.now ≤ 4194304) }
-    ensures news { IfOk result (λ o. IsNews o path.now (option_map (λ t. t.now) old.entry) (option_map (λ t. t.now) new.entry)) }
-{
-    if same_text(old, new) {
-        return Ok(None);
-    }
-    let shown = shown_of(alloc, path, new)?;
-    if !shown.as_slice().is_empty() {
-        return Ok(Some(shown));
-    }
-    let before = shown_of(alloc, path, old)?;
-    if before.as_slice().is_empty() {
-        return Ok(None);
-    }
-    Ok(Some(shown))
+    !same_list(before, after) || (text_differs && !after.is_empty())
 }
 
 /// Writes the diagnostics of a file, which shows these faults, behind what is written.
@@ -86,11 +64,10 @@ fn push_shown(
     docs: &Docs,
     encoding: Encoding,
     path: &Path,
-    faults: &[LexFault],
+    faults: &[Shown],
 ) -> Result<(), AllocError>
-    requires shown { faults.now ≡ shown docs.now path.now }
-    requires within { AreWithin (length (unwrap_or (text_at docs.now path.now) [])) faults.now }
-    ensures { OnOk result (out.new.items ≡ out.old.items ++ publication encoding docs.now path.now) }
+    requires within { AreWithin (length (text_in docs.now path.now)) faults.now }
+    ensures { OnOk result (out.new.items ≡ out.old.items ++ publication encoding docs.now faults.now path.now) }
 {
     let text = text_of(docs, path);
     let uri = uri_for(alloc, docs, path)?;
@@ -125,53 +102,77 @@ fn uri_for(alloc: Global, docs: &Docs, path: &Path) -> Result<String, AllocError
     }
 }
 
-/// Writes the diagnostics of a file behind what is written.
-pub(crate) fn push_publication(
-    alloc: Global,
-    out: &mut Vec<u8>,
-    docs: &Docs,
-    encoding: Encoding,
-    path: &Path,
-) -> Result<(), AllocError>
-    ensures { OnOk result (out.new.items ≡ out.old.items ++ publication encoding docs.now path.now) }
+fn is_touched(touched: Option<&Path>, path: &Path) -> bool
+    ensures { result ≡ list_any (bytes_eq path.now) (touched_by (option_map (λ p. p.now) touched.entry)) }
 {
-    let faults = shown_of(alloc, path, docs.text(path))?;
-    push_shown(alloc, out, docs, encoding, path, faults.as_slice())
+    match touched {
+        Some(touched) => path.as_str() == touched.as_str(),
+        None => false,
+    }
 }
 
-/// Writes the diagnostics of a file where it has news against its text before.
+/// Whether the diagnostics of a file are published.
+fn is_told(docs: &Docs, change: Change<'_>, path: &Path) -> bool
+    ensures { result ≡ is_told (touched_by (option_map (λ p. p.now) change.entry.touched)) (shown_in change.entry.before.now) (shown_in change.entry.after.now) change.entry.prior.now docs.now path.now }
+{
+    let text_differs = change.prior.is_changed(docs, path);
+    has_news(change.before.of(path), change.after.of(path), text_differs)
+        || is_touched(change.touched, path)
+}
+
+/// Writes the diagnostics of a file where they are published.
 fn push_news_of(
     alloc: Global,
     out: &mut Vec<u8>,
     docs: &Docs,
     encoding: Encoding,
-    old: Option<&str>,
+    change: Change<'_>,
     path: &Path,
 ) -> Result<(), AllocError>
-    requires { IfSome old (λ t. length t.now ≤ 4194304) }
-    ensures { OnOk result (out.new.items ≡ out.old.items ++ news_of encoding docs.now (option_map (λ t. t.now) old.entry) path.now) }
+    requires within { (q : List ℕ) → AreWithin (length (text_in docs.now q)) (shown_in change.after.now q) }
+    ensures { OnOk result (out.new.items ≡ out.old.items ++ news_of (touched_by (option_map (λ p. p.now) change.entry.touched)) encoding (shown_in change.entry.before.now) (shown_in change.entry.after.now) change.entry.prior.now docs.now path.now) }
 {
-    match news_in(alloc, path, old, docs.text(path))? {
-        None => Ok(()),
-        Some(faults) => push_shown(alloc, out, docs, encoding, path, faults.as_slice()),
+    if !is_told(docs, change, path) {
+        return Ok(());
     }
+    push_shown(alloc, out, docs, encoding, path, change.after.of(path))
 }
 
-/// Writes the diagnostics of the files that have news against their texts before, in order of path.
+fn add_paths(set: &mut PathSet, paths: Vec<Path>) -> Result<(), AllocError>
+    ensures { OnOk result (set.new ≡ add_all set.old paths.items) }
+{
+    'paths: for path in paths {
+        set.insert(path)?;
+    }
+    Ok(())
+}
+
+/// The files that may have news, in order of path: those that have a text now, and those that had one.
+fn may_have_news(alloc: Global, docs: &Docs, prior: &PriorTexts) -> Result<Vec<Path>, AllocError>
+    ensures { IfOk result (λ paths. paths.items ≡ may_have_news prior.now docs.now) }
+{
+    let mut set = PathSet::new(alloc);
+    add_paths(&mut set, prior.paths()?)?;
+    add_paths(&mut set, docs.paths()?)?;
+    set.paths()
+}
+
+/// Writes the diagnostics of the files that have news, and of the one that was opened or changed, in order of path.
 pub(crate) fn push_news(
     alloc: Global,
     out: &mut Vec<u8>,
     docs: &Docs,
     encoding: Encoding,
-    prior: &PriorTexts,
+    change: Change<'_>,
 ) -> Result<(), AllocError>
-    ensures { OnOk result (out.new.items ≡ out.old.items ++ news encoding prior.now docs.now) }
+    requires within { (q : List ℕ) → AreWithin (length (text_in docs.now q)) (shown_in change.after.now q) }
+    ensures { OnOk result (out.new.items ≡ out.old.items ++ news (touched_by (option_map (λ p. p.now) change.entry.touched)) encoding (shown_in change.entry.before.now) (shown_in change.entry.after.now) change.entry.prior.now docs.now) }
 {
-    let paths = prior.paths()?;
+    let paths = may_have_news(alloc, docs, change.prior)?;
     let mut rest = paths.as_slice();
     'files: while let Some((path, behind)) = rest.split_first() {
         rest = behind;
-        push_news_of(alloc, out, docs, encoding, prior.text(path), path)?;
+        push_news_of(alloc, out, docs, encoding, change, path)?;
     }
     Ok(())
 }

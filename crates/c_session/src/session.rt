@@ -1,10 +1,10 @@
 // The session with one client, and how it handles a content.
-ghost use Rattle.std.specs.Prelude.{◌≡◌, ◌+◌, ◌<◌, ◌^◌, IfOk, IfErr, OnOk};
+ghost use Rattle.std.specs.Prelude.{◌≡◌, ◌+◌, ◌<◌, ◌^◌, true, IfOk, IfErr, OnOk};
 ghost use Rattle.c_session.specs.Handled.{Handled, Refused};
 ghost use Rattle.c_session.specs.Message.{message};
 ghost use Rattle.c_session.specs.React.{asks};
 ghost use Rattle.c_session.specs.Responses.{IsAnswered, IsRefusal};
-ghost use Rattle.c_session.specs.Sessions.{state_of, handled_by};
+ghost use Rattle.c_session.specs.Sessions.{state_of, handled_by, is_whole, current_state, IsKept, IsWork};
 ghost use Rattle.c_session.specs.State.{fresh};
 ghost use Rattle.project_conf.specs.Defines.{AreUsable};
 
@@ -13,15 +13,50 @@ use crate::error::SessionError;
 use crate::message::{message_of, read_content};
 use io_edges::Store;
 use project_conf::Options;
-use std::alloc::Global;
+use std::alloc::{AllocError, Global};
+use std::marker::Model;
 use std::sync::ledger::Ledger;
 use steps::Steps;
 
-/// The session with one client.
+/// The session with one client. Contracts see its state, and how many contents it has handled.
 #[derive(Drop)]
 pub struct Session {
     current: Current,
     handled: u64,
+    /// No call failed, so what is kept of what files show is so.
+    whole: bool,
+}
+
+impl Model for Session {
+    ghost use Rattle.std.specs.Prelude.{◌≡◌, true};
+    ghost use Rattle.c_session.specs.Sessions.{SessionView, current_state, IsKept};
+    ghost use Rattle.std.specs.Coded.{codes};
+    ghost use Rattle.doc_texts.specs.Texts.{texts_code};
+
+    ghost Value = { SessionView };
+
+    ghost coded = { Prim.hlevel (codes, texts_code) };
+
+    ghost view = { λ s. record { state = current_state s.current; handled = s.handled; whole = s.whole } };
+
+    ghost invariant = { λ s. s.whole ≡ true → IsKept s.current };
+}
+
+// What the files show is worked out where it isn't kept, as behind a call that failed.
+fn ready<L: Ledger>(
+    current: &mut Current,
+    whole: bool,
+    steps: &mut Steps<L>,
+) -> Result<(), AllocError>
+    requires { whole ≡ true → IsKept current.old }
+    ensures kept { OnOk result (IsKept current.new) }
+    ensures steps { OnOk result (whole ≡ true → steps.new ≡ steps.old) }
+    ensures same { OnOk result (current_state current.new ≡ current_state current.old) }
+{
+    if whole {
+        return Ok(());
+    }
+    current.catch_up(steps)
 }
 
 impl Session {
@@ -31,10 +66,12 @@ impl Session {
         requires { AreUsable 131072 options.defines }
         ensures state { state_of result ≡ fresh options }
         ensures handled { handled_by result ≡ 0 }
+        ensures whole { is_whole result ≡ true }
     {
         Session {
             current: Current::new(alloc, options),
             handled: 0,
+            whole: true,
         }
     }
 
@@ -46,13 +83,14 @@ impl Session {
     }
 
     /// Handles one content: what the plain server does with it, asking the store for what that wants. Each answer that
-    /// the store gives was wanted then. A content that is refused leaves the state. No step is counted yet. After an error
-    /// of this call the session isn't used again.
+    /// the store gives was wanted then. A content that is refused leaves the state. Where texts were opened, changed, closed or
+    /// loaded, each unit of the texts is worked out, which is one step each, and otherwise none is. After an error of this call
+    /// the session isn't used again.
     pub fn handle<D: Store, L: Ledger>(
         &mut self,
         content: &[u8],
         store: &mut D,
-        _steps: &mut Steps<L>,
+        steps: &mut Steps<L>,
     ) -> Result<Reply, SessionError>
         requires store { D.faults store.old + 1 < 2 ^ 64 }
         requires few { handled_by self.old < 2 ^ 62 }
@@ -60,7 +98,8 @@ impl Session {
         ensures answered { IfOk result (λ reply. IsAnswered (message content.now) reply.bytes) }
         ensures kept { IfOk result (λ reply. IsRefusal (message content.now) reply.bytes → state_of self.new ≡ state_of self.old) }
         ensures count { OnOk result (handled_by self.new ≡ handled_by self.old + 1) }
-        ensures steps { _steps.new ≡ _steps.old }
+        ensures whole { OnOk result (is_whole self.new ≡ true) }
+        ensures steps { OnOk result (is_whole self.old ≡ true → IsWork (state_of self.new).texts steps.old steps.new) }
         ensures counted { OnOk result (D.faults store.new ≡ D.faults store.old) }
         ensures refused { IfErr result (λ e. Refused e (asks (state_of self.old) content.now) (D.answers store.old) (D.answers store.new) (D.faults store.old) (D.faults store.new)) }
     {
@@ -73,8 +112,17 @@ impl Session {
             Err(_) => return Err(SessionError::NoMemory),
         };
         self.handled += 1;
-        match self.current.on_message(&message, store) {
-            Ok(reply) => Ok(reply),
+        let whole = self.whole;
+        self.whole = false;
+        match ready(&mut self.current, whole, steps) {
+            Ok(()) => {}
+            Err(_) => return Err(SessionError::NoMemory),
+        }
+        match self.current.on_message(&message, store, steps) {
+            Ok(reply) => {
+                self.whole = true;
+                Ok(reply)
+            }
             Err(error) => Err(error),
         }
     }

@@ -1,9 +1,9 @@
 -- What is kept of an earlier moment.
-use Rattle.std.proofs.Common.{◌≡◌, List, ℕ, true, false, Option, Some, None, sym, refl, ap, ◌∙◌}
+use Rattle.std.proofs.Common.{◌≡◌, List, ℕ, true, false, Option, sym, refl, ap, ◌∙◌}
 use Rattle.std.specs.BTreeMap as tree
 use Rattle.std.specs.BTreeMap.{BTreeMap}
 use Rattle.std.specs.FinMap.{get, contains_key, insert, from_entries}
-use Rattle.doc_texts.specs.Prior.{Prior, remembered, prior_text}
+use Rattle.doc_texts.specs.Prior.{Prior, remembered}
 use Rattle.doc_texts.specs.Texts.{Texts, text_at}
 use Rattle.doc_texts.proofs.Maps.{by_bytes, seen_at}
 
@@ -18,11 +18,3 @@ kept_now prior t p absent = rw absent refl
 module _ (m : BTreeMap (List ℕ) (Option (List ℕ))) (prior : Prior) (view : from_entries m.entries ≡ prior) (p : List ℕ) where
   pub prior_at : (r : Option (Option (List ℕ))) → r ≡ tree.get by_bytes m p → get prior p ≡ r
   prior_at r found = ap (λ n. get n p) (sym view) ∙ seen_at m p ∙ sym found
-
-  pub text_kept : (text : Option (List ℕ)) → Some text ≡ tree.get by_bytes m p → prior_text prior p ≡ text
-  unfolding prior_text
-  text_kept text found = rw (prior_at (Some text) found) refl
-
-  pub text_none : None ≡ tree.get by_bytes m p → prior_text prior p ≡ None
-  unfolding prior_text
-  text_none found = rw (prior_at None found) refl

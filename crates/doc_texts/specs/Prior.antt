@@ -1,7 +1,8 @@
 -- The texts that some paths had at an earlier moment.
-use Rattle.std.specs.Prelude.{ℕ, List, Option, option_and_then, if◌then◌else◌}
+use Rattle.std.specs.Prelude.{ℕ, List, Bool, false, not, Option, if◌then◌else◌}
+use Rattle.std.specs.Option.{option_map_or}
 use Rattle.std.specs.FinMap.{get, insert, contains_key}
-use Rattle.doc_texts.specs.Texts.{TextMap, Texts, text_at}
+use Rattle.doc_texts.specs.Texts.{TextMap, Texts, text_at, same_text}
 
 -- by path, the text that there was, or that there was none
 abbrev pub Prior : Type 0
@@ -11,6 +12,6 @@ Prior = TextMap (Option (List ℕ))
 unfoldable pub remembered : Prior → Texts → List ℕ → Prior
 remembered prior t path = if contains_key prior path then prior else insert prior path (text_at t path)
 
--- the text that a path had, if it had one
-unfoldable pub prior_text : Prior → List ℕ → Option (List ℕ)
-prior_text prior path = option_and_then (λ text. text) (get prior path)
+-- a path has another text than the one that is kept for it
+unfoldable pub is_changed : Prior → Texts → List ℕ → Bool
+is_changed prior t path = option_map_or (λ kept. not (same_text kept (text_at t path))) (get prior path) false

@@ -1,5 +1,5 @@
 -- The texts of a session: those of files on disk, and those that the client has open (LSP 3.17, "Text Document Synchronization").
-use Rattle.std.specs.Prelude.{ℕ, ◌+◌, ℤ, List, [], ◌∷◌, ◌++◌, length, sum_by, Option, Some, None, option_map, refl}
+use Rattle.std.specs.Prelude.{ℕ, ◌+◌, ℤ, Bool, true, false, List, [], ◌∷◌, ◌++◌, length, sum_by, bytes_eq, Option, Some, None, option_map, refl}
 use Rattle.std.specs.Cmp.Lexicographic.{slice_cmp}
 use Rattle.std.specs.Coded.{Coded, code_by, coded_ℕ, coded_ℤ, coded_list, coded_option, coded×}
 use Rattle.std.specs.FinMap.{FinMap, get, insert, remove, keys, values, empty, code}
@@ -36,6 +36,13 @@ shown (Some document) on_disk = Some document.text
 
 unfoldable pub text_at : Texts → List ℕ → Option (List ℕ)
 text_at t path = shown (get t.opened path) (get t.disk path)
+
+-- two paths have the same text, or neither has one
+abbrev pub same_text : Option (List ℕ) → Option (List ℕ) → Bool
+same_text None None = true
+same_text None (Some b) = false
+same_text (Some a) None = false
+same_text (Some a) (Some b) = bytes_eq a b
 
 -- the version and the URI of an open document
 unfoldable pub version_at : Texts → List ℕ → Option ℤ

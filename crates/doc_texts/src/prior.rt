@@ -1,9 +1,9 @@
 // The texts that some paths had at an earlier moment.
-ghost use Rattle.std.specs.Prelude.{◌≡◌, ◌≤◌, length, option_map, OnOk, OnErr, IfOk, IfSome};
+ghost use Rattle.std.specs.Prelude.{◌≡◌, ◌≤◌, not, length, option_map, OnOk, OnErr, IfOk, IfSome};
 ghost use Rattle.std.specs.FinMap.{empty, keys};
 ghost use Rattle.doc_texts.specs.Limits.{longest_text};
-ghost use Rattle.doc_texts.specs.Texts.{text_at};
-ghost use Rattle.doc_texts.specs.Prior.{remembered, prior_text};
+ghost use Rattle.doc_texts.specs.Texts.{text_at, same_text};
+ghost use Rattle.doc_texts.specs.Prior.{remembered, is_changed};
 
 use crate::docs::Docs;
 use crate::kept::KeptText;
@@ -68,15 +68,26 @@ impl PriorTexts {
         Ok(paths)
     }
 
-    /// The text that is kept for a path, if it had one. It takes no memory and costs a logarithm of the number of paths.
-    pub fn text(&self, path: &Path) -> Option<&str>
-        ensures text { option_map (λ text. text.now) result ≡ prior_text self.now path.now }
-        ensures short { IfSome result (λ text. length text.now ≤ 4194304) }
+    /// Whether the text of a path, or that it has none, is another than what is kept for it; not where nothing is kept. It takes
+    /// no memory.
+    pub fn is_changed(&self, docs: &Docs, path: &Path) -> bool
+        ensures { result ≡ is_changed self.now docs.now path.now }
     {
         match self.texts.get(path) {
-            Some(kept) => lent(kept),
-            None => None,
+            Some(kept) => has_other(docs, path, kept),
+            None => false,
         }
+    }
+}
+
+/// Whether a path has another text than the one that is kept, if there is one.
+fn has_other(docs: &Docs, path: &Path, kept: &Option<KeptText>) -> bool
+    ensures { result ≡ not (same_text kept.now (text_at docs.now path.now)) }
+{
+    match (lent(kept), docs.text(path)) {
+        (None, None) => false,
+        (Some(a), Some(b)) => a != b,
+        _ => true,
     }
 }
 

@@ -1,6 +1,9 @@
 pub mod CommandLemmas
+pub mod FaultLemmas
+pub mod FirstLemmas
 pub mod HeaderLemmas
 pub mod Lawful
+pub mod ParamLemmas
 pub mod Runnings
 pub mod SameLemmas
 pub mod TellLemmas

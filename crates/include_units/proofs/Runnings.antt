@@ -3,8 +3,8 @@ use Rattle.std.proofs.Common.{◌≡◌, refl, sym, ap, ◌∙◌, List, [], ◌
 use Rattle.asking.specs.Asking.{Gives, Asks, and_then}
 use Rattle.asking.specs.LookUps.{LookUp, Looked, Ends, Needs, run_by, by_found, found_all, unanswered, and_look, look_up}
 use Rattle.include_units.specs.declared.types.FileAnswer.{FileAnswer}
-use Rattle.include_units.specs.declared.told.Stop.{Stop}
-use Rattle.include_units.specs.declared.told.Stop.TheVariants.{Need, NoMemory}
+use Rattle.include_units.specs.declared.stop.Stop.{Stop}
+use Rattle.include_units.specs.declared.stop.Stop.TheVariants.{Need, NoMemory}
 use Rattle.include_units.specs.Coming.{Stops, question}
 use Rattle.include_units.specs.Files.{Question, files, FromFiles}
 

@@ -3,7 +3,8 @@ use Rattle.std.proofs.Common.{◌≡◌, refl, sym, ap, ◌∙◌, subst, arith,
 use Rattle.tok_data.specs.declared.tokens.PpToken.{PpToken}
 use Rattle.tok_data.specs.declared.tokens.OutToken.{OutToken}
 use Rattle.macro_expand.specs.Tokens.{is_hash}
-use Rattle.include_units.specs.Texts.{Part, Run, Directive, source_token, source_tokens, in_line, lines_from, before_run, before, parts_of, parts_from, width, front_parts, run_parts}
+use Rattle.include_units.specs.Texts.{Part, Run, Directive, source_token, source_tokens, in_line, lines_from, before_run, before, parts_of, parts_from}
+use Rattle.include_units.specs.Fronts.{width, front_parts, run_parts}
 use Rattle.include_units.specs.declared.texts.Front.{Front}
 
 -- a line of the token and so many behind it, and the lines behind that

@@ -8,7 +8,7 @@ use Rattle.include_units.specs.declared.types.UnitTokens.{UnitTokens}
 use Rattle.asking.specs.Asking.{Gives, and_then}
 use Rattle.asking.specs.LookUps.{Ends, look_up, run_by}
 use Rattle.include_units.specs.declared.types.FileAnswer.{FileAnswer}
-use Rattle.include_units.specs.declared.told.Stop.{Stop}
+use Rattle.include_units.specs.declared.stop.Stop.{Stop}
 use Rattle.include_units.specs.declared.inclusion.Lead.{Lead}
 use Rattle.include_units.specs.declared.inclusion.Lead.TheVariants.{On, Into}
 use Rattle.include_units.specs.Coming.{Stops}

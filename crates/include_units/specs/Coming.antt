@@ -6,8 +6,8 @@ use Rattle.include_units.specs.declared.types.FileAnswer.TheVariants.{Absent, Th
 use Rattle.include_units.specs.declared.types.FileAnswer.TheVariants as told
 use Rattle.include_units.specs.declared.types.Want.{Want}
 use Rattle.include_units.specs.declared.types.Want.TheVariants as want
-use Rattle.include_units.specs.declared.told.Stop.{Stop}
-use Rattle.include_units.specs.declared.told.Stop.TheVariants.{Need, NoMemory}
+use Rattle.include_units.specs.declared.stop.Stop.{Stop}
+use Rattle.include_units.specs.declared.stop.Stop.TheVariants.{Need, NoMemory}
 use Rattle.include_units.specs.Files.{Question, Exists, Text, Lines, files, FromFiles}
 
 abbrev pub question : Want → Question

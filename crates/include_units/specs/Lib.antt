@@ -1,11 +1,17 @@
+pub mod Names
+pub mod First
+pub mod Own
+pub mod Shown
 pub mod Files
 pub mod Texts
+pub mod Fronts
 pub mod Made
 pub mod Literals
 pub mod Runs
 pub mod Coming
 pub mod Conditionals
 pub mod Definitions
+pub mod Params
 pub mod Inclusion
 pub mod Units
 pub mod Going

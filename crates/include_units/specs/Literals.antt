@@ -1,12 +1,10 @@
 -- Literals that their line leaves open (rule 102), each shown once in a unit.
-use Rattle.std.specs.Prelude.{ℕ, ◌==◌, ◌&&◌, not, Bool, true, false, List, [], ◌∷◌, if◌then◌else◌, bytes_eq}
-use Rattle.std.specs.List.{list_any}
-use Rattle.tok_data.specs.declared.sources.TokId.{TokId}
-use Rattle.tok_data.specs.declared.faults.PpFault.{PpFault}
+use Rattle.std.specs.Prelude.{ℕ, ◌==◌, ◌&&◌, not, Bool, true, false, List, [], ◌∷◌, if◌then◌else◌}
 use Rattle.tok_data.specs.declared.tokens.PpKind.{PpKind}
 use Rattle.tok_data.specs.declared.tokens.PpKind.TheVariants.{Char, Str}
 use Rattle.tok_data.specs.declared.tokens.OutToken.{OutToken}
 use Rattle.include_units.specs.Made.{Made, with_fault}
+use Rattle.include_units.specs.Shown.{is_shown}
 
 -- the text ends in a quote that closes the literal: an escape takes two characters. `escaped` says that the next
 -- character belongs to an escape, `closed` that the one before it was a quote that closes
@@ -27,12 +25,6 @@ is_open_by _ text = false
 
 abbrev pub is_open : OutToken → Bool
 is_open t = is_open_by t.kind t.spelling
-
-abbrev pub is_at : TokId → TokId → Bool
-is_at a b = a.at == b.at && bytes_eq a.file b.file
-
-abbrev pub is_shown : ℕ → TokId → List PpFault → Bool
-is_shown rule tok faults = list_any (λ fault. fault.rule == rule && is_at fault.tok tok) faults
 
 abbrev pub shown_open : OutToken → Made → Made
 shown_open t m = if is_open t && not (is_shown 102 t.site m.faults) then with_fault 102 t.site [] m else m

@@ -1,6 +1,5 @@
 -- What is made of a unit as it is read, and what is counted and noted on the way.
-use Rattle.std.specs.Prelude.{ℕ, Bool, List, [], ◌∷◌, ◌++◌, if◌then◌else◌, bytes_eq}
-use Rattle.std.specs.List.{list_any}
+use Rattle.std.specs.Prelude.{ℕ, List, [], ◌∷◌, ◌++◌, if◌then◌else◌}
 use Rattle.std.specs.FinMap as map
 use Rattle.tok_data.specs.declared.sources.TokId.{TokId}
 use Rattle.tok_data.specs.declared.faults.PpFault.{PpFault}
@@ -9,6 +8,7 @@ use Rattle.tok_data.specs.declared.macros.MacroRole.{MacroRole}
 use Rattle.macro_expand.specs.Expansion.{Definitions}
 use Rattle.pp_cond.specs.Defined.{occurrence}
 pub use Rattle.include_units.specs.declared.made.Made.{Made}
+pub use Rattle.include_units.specs.Names.{is_one_of}
 
 abbrev pub definitions : Made → Definitions
 definitions m = map.get m.table
@@ -21,9 +21,6 @@ with_fault rule tok text m = record m { faults = m.faults ++ fault rule tok text
 
 abbrev pub with_occurrence : MacroRole → OutToken → Made → Made
 with_occurrence role t m = record m { macros = m.macros ++ occurrence (definitions m) role t ∷ [] }
-
-abbrev pub is_one_of : List (List ℕ) → List ℕ → Bool
-is_one_of names name = list_any (λ n. bytes_eq n name) names
 
 abbrev pub with_read : List ℕ → Made → Made
 with_read path m = if is_one_of m.reads path then m else record m { reads = m.reads ++ path ∷ [] }

@@ -5,9 +5,7 @@ use Rattle.tok_data.specs.declared.sources.TokId.{TokId}
 use Rattle.tok_data.specs.declared.tokens.PpKind.{PpKind}
 use Rattle.tok_data.specs.declared.tokens.PpKind.TheVariants.{Str, Stray}
 use Rattle.tok_data.specs.declared.tokens.OutToken.{OutToken}
-use Rattle.text_lines.specs.Positions.{line_starts}
 use Rattle.c_tokens.specs.declared.types.Places.{Places}
-use Rattle.c_tokens.specs.Lexed.{lexed}
 use Rattle.macro_expand.specs.declared.types.Expanded.{Expanded}
 use Rattle.macro_expand.specs.Expansion.{expanded}
 use Rattle.macro_expand.specs.Tokens.{is_mark}
@@ -17,14 +15,7 @@ use Rattle.include_units.specs.Files.{files, FromFiles, Lines}
 use Rattle.include_units.specs.Texts.{Source, File, Own, Text}
 use Rattle.include_units.specs.Made.{Made, definitions, with_fault}
 use Rattle.include_units.specs.Literals.{all_open}
-
--- the places of a text of the server's own
-abbrev pub own_places : List ℕ → Places
-own_places text = record {
-  places = (lexed text).places;
-  lines = line_starts text;
-  faults = (lexed text).faults;
-}
+pub use Rattle.include_units.specs.Own.{own_places}
 
 abbrev pub places_of : Source → FromFiles Places
 places_of (File path) = asks_one {kind = files} (Lines path) (λ places. Gives places)

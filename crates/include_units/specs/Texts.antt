@@ -1,6 +1,5 @@
 -- The logical lines of a text that is read (ISO C11 6.10p1, p2): text lines, and directives, which `#` begins.
-use Rattle.std.specs.Prelude.{ℕ, ◌+◌, Bool, true, false, List, [], ◌∷◌, ◌++◌, take, drop, not, Option, None, Some, if◌then◌else◌}
-use Rattle.std.specs.List.{prefix_len}
+use Rattle.std.specs.Prelude.{ℕ, ◌+◌, Bool, true, false, List, [], ◌∷◌, ◌++◌, if◌then◌else◌}
 use Rattle.tok_data.specs.declared.sources.TokId.{TokId}
 use Rattle.tok_data.specs.declared.tokens.Spelt.TheVariants.{At}
 use Rattle.tok_data.specs.declared.tokens.PpToken.{PpToken}
@@ -11,7 +10,6 @@ pub use Rattle.include_units.specs.declared.texts.Source.TheVariants.{File, Own}
 pub use Rattle.include_units.specs.declared.texts.Text.{Text}
 pub use Rattle.include_units.specs.declared.texts.Part.{Part}
 pub use Rattle.include_units.specs.declared.texts.Part.TheVariants.{Run, Directive}
-use Rattle.include_units.specs.declared.texts.Front.{Front}
 
 abbrev pub token : List ℕ → ℕ → TokId
 token name at = record { file = name; at = at }
@@ -64,19 +62,3 @@ parts_from name at ts = parts_of (lines_from name at ts)
 
 abbrev pub parts : List ℕ → List PpToken → List Part
 parts name ts = parts_from name 0 ts
-
--- ---- what reading them one by one gives
-
-abbrev pub front_parts : List ℕ → Front → List Part
-front_parts name f = f.part ∷ parts_from name f.at f.behind.now
-
-abbrev pub all_parts : List ℕ → Option Front → List Part
-all_parts name None = []
-all_parts name (Some f) = front_parts name f
-
-abbrev pub width : List PpToken → ℕ
-width ts = prefix_len (λ t. not t.line_start) ts
-
-abbrev pub run_parts : List ℕ → ℕ → OutToken → List PpToken → List Part
-run_parts name at first ts =
-    before_run (first ∷ source_tokens name at (take (width ts) ts)) (parts_from name (at + width ts) (drop (width ts) ts))

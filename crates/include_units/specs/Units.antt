@@ -4,7 +4,6 @@ use Rattle.std.specs.FinMap as map
 use Rattle.tok_data.specs.declared.sources.TokId.{TokId}
 use Rattle.tok_data.specs.declared.tokens.PpToken.{PpToken}
 use Rattle.tok_data.specs.declared.tokens.OutToken.{OutToken}
-use Rattle.c_tokens.specs.Lexed.{lexed}
 use Rattle.project_conf.specs.declared.options.Define.{Define}
 use Rattle.project_conf.specs.declared.options.Define.TheVariants.{Set, Unset}
 use Rattle.project_conf.specs.declared.conf.UnitConf.{UnitConf}
@@ -13,14 +12,13 @@ use Rattle.asking.specs.Asking.{Gives, asks_one, and_then}
 use Rattle.include_units.specs.declared.types.UnitTokens.{UnitTokens}
 use Rattle.include_units.specs.declared.inclusion.Lead.{Lead}
 use Rattle.include_units.specs.declared.inclusion.Lead.TheVariants.{On, Into}
-use Rattle.include_units.specs.declared.units.Tokens.{Tokens}
-use Rattle.include_units.specs.declared.units.Tokens.TheVariants.{Told, Lexed}
 use Rattle.include_units.specs.Files.{files, FromFiles}
 use Rattle.include_units.specs.Files as file
 use Rattle.include_units.specs.Texts.{Source, File, Own, Text, Part, Run, Directive, parts, token}
 use Rattle.include_units.specs.Made.{Made, with_fault, with_read}
 use Rattle.include_units.specs.Literals.{open_where}
 use Rattle.include_units.specs.Runs.{run_of}
+pub use Rattle.include_units.specs.Own.{own_tokens}
 use Rattle.include_units.specs.Conditionals.{Open, Stand, is_taken, outer_taken, fault_where, if_group, ifdef_group, elif_group, else_group, endif_line, unclosed}
 use Rattle.include_units.specs.Definitions.{define_line, undef_line, command}
 use Rattle.include_units.specs.Inclusion.{Led, led, joined, include_line, whole_budget, spent}
@@ -131,16 +129,9 @@ part folders deep text (Directive hash ts) os m = directive folders deep text ha
 abbrev pub Reader : Type 0
 Reader = Text → List PpToken → Made → FromFiles Made
 
-abbrev pub own_tokens : List ℕ → List PpToken
-own_tokens text = (lexed text).tokens
-
 abbrev pub tokens_of : Source → FromFiles (List PpToken)
 tokens_of (File path) = asks_one {kind = files} (file.Text path) (λ ts. Gives ts)
 tokens_of (Own text) = Gives (own_tokens text)
-
-abbrev pub listed : Tokens → List PpToken
-listed (Told ts) = ts.now
-listed (Lexed ts) = ts
 
 -- a text is entered by a token
 abbrev pub read_in : Source → Made → Made

@@ -7,17 +7,16 @@ ghost use Rattle.include_units.specs.Conditionals as spec;
 
 use crate::made::{Made, is_predefined};
 use crate::runs::lines_in;
+use crate::stop::Stop;
 use crate::texts::Text;
 use crate::tokens::is_ident;
-use crate::told::Stop;
-use crate::types::FileAnswer;
+use crate::told::Told;
 use macro_table::MacroTable;
 use pp_cond::{Cond, Truth, condition};
 use std::alloc::{AllocError, Global};
 use std::collections::VecDeque;
 use std::marker::Model;
 use tok_data::{MacroRole, OutToken, TokId};
-use uri_paths::Path;
 
 // A conditional whose `#endif` isn't read yet.
 #[derive(Debug, Drop)]
@@ -157,7 +156,7 @@ fn last_group(one: Open) -> Open
 
 fn condition_again(
     alloc: Global,
-    files: &[(Path, FileAnswer)],
+    files: &Told,
     text: &Text,
     tokens: &[OutToken],
     made: &Made,
@@ -186,7 +185,7 @@ fn asks(truth: &Truth) -> bool
 
 fn condition_in(
     alloc: Global,
-    files: &[(Path, FileAnswer)],
+    files: &Told,
     text: &Text,
     tokens: &[OutToken],
     made: &Made,
@@ -233,7 +232,7 @@ fn tell(alloc: Global, name: &OutToken, cond: Cond, made: &mut Made) -> Result<b
 // Whether the group behind a condition is taken.
 fn decide(
     alloc: Global,
-    files: &[(Path, FileAnswer)],
+    files: &Told,
     text: &Text,
     name: &OutToken,
     tokens: &[OutToken],
@@ -260,7 +259,7 @@ fn open_one(name: &OutToken, outer: bool, value: bool, opens: &mut Opens) -> Res
 // `#if`.
 pub(crate) fn if_group(
     alloc: Global,
-    files: &[(Path, FileAnswer)],
+    files: &Told,
     text: &Text,
     name: &OutToken,
     tokens: &[OutToken],
@@ -359,7 +358,7 @@ pub(crate) fn fault_where(
 // `#elif`, where its condition is read.
 fn elif_by(
     alloc: Global,
-    files: &[(Path, FileAnswer)],
+    files: &Told,
     text: &Text,
     name: &OutToken,
     tokens: &[OutToken],
@@ -381,7 +380,7 @@ fn elif_by(
 // `#elif`.
 pub(crate) fn elif_group(
     alloc: Global,
-    files: &[(Path, FileAnswer)],
+    files: &Told,
     text: &Text,
     name: &OutToken,
     tokens: &[OutToken],

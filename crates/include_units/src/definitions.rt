@@ -4,10 +4,12 @@ ghost use Rattle.std.specs.List.{list_any};
 ghost use Rattle.std.specs.FinMap as map;
 ghost use Rattle.include_units.specs.Made as counts;
 ghost use Rattle.include_units.specs.Definitions as spec;
+ghost use Rattle.include_units.specs.Params.{param_names};
 
 use crate::grown::Grown;
 use crate::heads::{Head, head_of};
-use crate::made::{Made, fault, is_name_in};
+use crate::known::KnownNames;
+use crate::made::{Made, fault};
 use crate::tokens::{is_hash, is_ident, is_paste, is_word};
 use macro_table::{Defined, MacroDef, Params};
 use shared_text::Name;
@@ -36,14 +38,14 @@ fn add_name_faults(
 
 fn add_twice_faults(
     alloc: Global,
-    seen: &[Name],
+    seen: &KnownNames,
     token: &OutToken,
     faults: &mut Grown<PpFault>,
 ) -> Result<(), AllocError>
     ensures { OnOk result (faults.new ≡ faults.old ++ spec.twice_faults seen.now token.now) }
 {
     let name = token.spelling.as_str();
-    if is_name_in(seen, name) {
+    if seen.has(name) {
         let fault = fault(alloc, 210, &token.site, name)?;
         return faults.push(fault);
     }
@@ -57,59 +59,84 @@ fn add_param_faults(
 ) -> Result<(), AllocError>
     ensures { OnOk result (faults.new ≡ faults.old ++ spec.param_faults [] params.now) }
 {
-    let mut seen = Grown::new(alloc);
+    let mut seen = KnownNames::new(alloc);
     let mut rest = params;
     while let Some((param, behind)) = rest.split_first() {
         rest = behind;
         add_name_faults(alloc, param, faults)?;
-        add_twice_faults(alloc, seen.as_slice(), param, faults)?;
-        let name = param.spelling.share()?;
-        seen.push(name)?;
+        add_twice_faults(alloc, &seen, param, faults)?;
+        seen.push(param.spelling.as_str())?;
     }
     Ok(())
 }
 
-fn is_token_of(params: &[OutToken], name: &str) -> bool
-    ensures { result ≡ spec.is_token_of params.now name.now }
+fn push_params(params: &[OutToken], names: &mut KnownNames) -> Result<(), AllocError>
+    ensures { OnOk result (names.new ≡ names.old ++ list_map (λ t. t.spelling) params.now) }
 {
-    params.iter().any(|param| param.spelling.as_str() == name)
+    let mut rest = params;
+    while let Some((param, behind)) = rest.split_first() {
+        rest = behind;
+        names.push(param.spelling.as_str())?;
+    }
+    Ok(())
 }
 
-fn is_param_of(params: &Option<OutTokens>, name: &str) -> bool
-    ensures { result ≡ spec.is_param_of params.now name.now }
+// The parameters, found by their names.
+fn known_params(alloc: Global, params: &Option<OutTokens>) -> Result<KnownNames, AllocError>
+    ensures { IfOk result (λ names. names ≡ param_names params.now) }
 {
+    let mut names = KnownNames::new(alloc);
     match params {
-        Some(params) => is_token_of(params.as_slice(), name),
-        None => false,
+        Some(params) => {
+            push_params(params.as_slice(), &mut names)?;
+            Ok(names)
+        }
+        None => Ok(names),
     }
 }
 
+fn is_param_of(params: &Option<OutTokens>, names: &KnownNames, name: &str) -> bool
+    requires { names.now ≡ param_names params.now }
+    ensures { result ≡ spec.is_param_of params.now name.now }
+{
+    names.has(name)
+}
+
 // The token is a parameter.
-fn is_parameter(head: &Head, token: &OutToken) -> bool
+fn is_parameter(head: &Head, names: &KnownNames, token: &OutToken) -> bool
+    requires { names.now ≡ param_names head.now.params }
     ensures { result ≡ spec.is_parameter head.now token.now }
 {
     if !is_ident(token.kind) {
         return false;
     }
     let name = token.spelling.as_str();
-    if is_param_of(&head.params, name) {
+    if is_param_of(&head.params, names, name) {
         return true;
     }
     head.variadic && is_variable(name)
 }
 
-fn begins_parameter(head: &Head, tokens: &[OutToken]) -> bool
+fn begins_parameter(head: &Head, names: &KnownNames, tokens: &[OutToken]) -> bool
+    requires { names.now ≡ param_names head.now.params }
     ensures { result ≡ spec.begins_parameter head.now tokens.now }
 {
     match tokens.split_first() {
-        Some((token, _)) => is_parameter(head, token),
+        Some((token, _)) => is_parameter(head, names, token),
         None => false,
     }
 }
 
 // The rule that a token of a replacement list breaks, or 0.
 #[tactic(auto, unfolding(crate::specs::Definitions::token_rule))]
-fn token_rule(head: &Head, first: bool, token: &OutToken, behind: &[OutToken]) -> u16
+fn token_rule(
+    head: &Head,
+    names: &KnownNames,
+    first: bool,
+    token: &OutToken,
+    behind: &[OutToken],
+) -> u16
+    requires { names.now ≡ param_names head.now.params }
     ensures { result ≡ spec.token_rule head.now first token.now behind.now }
 {
     if is_word("__VA_ARGS__", token) && !head.variadic {
@@ -119,7 +146,7 @@ fn token_rule(head: &Head, first: bool, token: &OutToken, behind: &[OutToken]) -
         return paste_rule(first, behind);
     }
     if head.params.is_some() {
-        return hash_rule(head, token, behind);
+        return hash_rule(head, names, token, behind);
     }
     0
 }
@@ -136,10 +163,11 @@ fn paste_rule(first: bool, behind: &[OutToken]) -> u16
     }
 }
 
-fn hash_rule(head: &Head, token: &OutToken, behind: &[OutToken]) -> u16
+fn hash_rule(head: &Head, names: &KnownNames, token: &OutToken, behind: &[OutToken]) -> u16
+    requires { names.now ≡ param_names head.now.params }
     ensures { result ≡ spec.hash_rule head.now token.now behind.now }
 {
-    if is_hash(token) && !begins_parameter(head, behind) {
+    if is_hash(token) && !begins_parameter(head, names, behind) {
         return 204;
     }
     0
@@ -163,15 +191,17 @@ fn add_token_fault(
 fn add_body_faults(
     alloc: Global,
     head: &Head,
+    names: &KnownNames,
     faults: &mut Grown<PpFault>,
 ) -> Result<(), AllocError>
+    requires { names.now ≡ param_names head.now.params }
     ensures { OnOk result (faults.new ≡ faults.old ++ spec.body_faults head.now true head.now.body) }
 {
     let mut first = true;
     let mut rest = head.body.as_slice();
     while let Some((token, behind)) = rest.split_first() {
         rest = behind;
-        let rule = token_rule(head, first, token, behind);
+        let rule = token_rule(head, names, first, token, behind);
         add_token_fault(alloc, rule, &token.site, faults)?;
         first = false;
     }
@@ -198,7 +228,8 @@ fn faults_of(alloc: Global, name: &OutToken, head: &Head) -> Result<Grown<PpFaul
     let mut faults = Grown::new(alloc);
     add_name_faults(alloc, name, &mut faults)?;
     add_params_faults(alloc, &head.params, &mut faults)?;
-    add_body_faults(alloc, head, &mut faults)?;
+    let names = known_params(alloc, &head.params)?;
+    add_body_faults(alloc, head, &names, &mut faults)?;
     Ok(faults)
 }
 

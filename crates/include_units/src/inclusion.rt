@@ -3,11 +3,13 @@ ghost use Rattle.std.specs.Prelude.{◌≡◌, ◌≤◌, ◌++◌, ◌∷◌, [
 ghost use Rattle.include_units.specs.Coming.{Comes};
 ghost use Rattle.include_units.specs.Inclusion as spec;
 
-use crate::made::{Made, is_name_in, is_path_in};
+use crate::made::Made;
+use crate::own::OwnText;
 use crate::runs::expanded_run;
-use crate::texts::{OwnText, Source, Text};
-use crate::told::{Stop, held_at};
-use crate::types::{FileAnswer, Want};
+use crate::stop::Stop;
+use crate::texts::{Source, Text};
+use crate::told::{Told, held_at};
+use crate::types::Want;
 use lib_texts::library;
 use shared_text::Name;
 use std::alloc::{AllocError, Global};
@@ -200,7 +202,7 @@ fn candidates(
 }
 
 // The first of these paths at which a text is held.
-fn first_held(files: &[(Path, FileAnswer)], paths: &[Path]) -> Result<Option<Path>, Stop>
+fn first_held(files: &Told, paths: &[Path]) -> Result<Option<Path>, Stop>
     ensures { Comes files.now (spec.first_held paths.now) (λ path. path) result }
 {
     let mut rest = paths;
@@ -224,7 +226,7 @@ fn first_held(files: &[(Path, FileAnswer)], paths: &[Path]) -> Result<Option<Pat
 fn lead_to_file(alloc: Global, by: &TokId, path: Path, made: &Made) -> Result<Lead, AllocError>
     ensures { IfOk result (λ lead. spec.led lead made.now ≡ spec.lead_to_file by.now path made.now) }
 {
-    if is_path_in(made.once.as_slice(), &path) {
+    if made.once.has(path.as_str()) {
         return Ok(Lead::On);
     }
     let name = Name::from_str(alloc, path.as_str())?;
@@ -241,7 +243,7 @@ fn lead_to_file(alloc: Global, by: &TokId, path: Path, made: &Made) -> Result<Le
 fn is_read(name: &str, made: &Made) -> bool
     ensures { result ≡ spec.is_read name.now made.now }
 {
-    is_name_in(made.libraries.as_slice(), name) && name != "assert.h"
+    made.libraries.has(name) && name != "assert.h"
 }
 
 fn library_name(alloc: Global, name: &str) -> Result<Name, AllocError>
@@ -266,8 +268,7 @@ fn lead_to_own(
     if is_read(name, made) {
         return Ok(Lead::On);
     }
-    let short = Name::from_str(alloc, name)?;
-    made.libraries.push(short)?;
+    made.libraries.push(name)?;
     let name = library_name(alloc, name)?;
     let own = OwnText::from_str(alloc, text)?;
     let by = by.copy()?;
@@ -315,7 +316,7 @@ fn lead_to(
 fn find(
     alloc: Global,
     folders: &[Path],
-    files: &[(Path, FileAnswer)],
+    files: &Told,
     source: &Source,
     quoted: bool,
     text: &str,
@@ -329,7 +330,7 @@ fn find(
 fn search(
     alloc: Global,
     folders: &[Path],
-    files: &[(Path, FileAnswer)],
+    files: &Told,
     text: &Text,
     by: &TokId,
     whole: &str,
@@ -376,7 +377,7 @@ fn explode(alloc: Global, by: &TokId, made: &mut Made) -> Result<(), AllocError>
 fn include_name(
     alloc: Global,
     folders: &[Path],
-    files: &[(Path, FileAnswer)],
+    files: &Told,
     deep: bool,
     text: &Text,
     by: &TokId,
@@ -401,7 +402,7 @@ fn include_name(
 fn include_run(
     alloc: Global,
     folders: &[Path],
-    files: &[(Path, FileAnswer)],
+    files: &Told,
     deep: bool,
     text: &Text,
     directive: &OutToken,
@@ -435,7 +436,7 @@ fn include_run(
 pub(crate) fn include_line(
     alloc: Global,
     folders: &[Path],
-    files: &[(Path, FileAnswer)],
+    files: &Told,
     deep: bool,
     text: &Text,
     directive: &OutToken,

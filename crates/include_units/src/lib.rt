@@ -3,13 +3,19 @@
 
 mod conditionals;
 mod definitions;
+mod faults;
+mod firsts;
 mod grown;
 mod heads;
 mod inclusion;
+mod known;
 mod laws;
 mod literals;
 mod made;
+mod own;
 mod runs;
+mod shared;
+mod stop;
 mod texts;
 mod tokens;
 mod told;
@@ -20,5 +26,6 @@ mod units;
 pub use laws::{
     FileQuestions, UnitResults, files_are_lawful, units_are_right, units_ask_in_order, units_end,
 };
-pub use types::{Entered, Entry, FileAnswer, Go, Paths, PpTokens, UnitTokens, Want, Wants};
-pub use unit::{Unit, are_short, are_usable};
+pub use shared::{PpTokens, TextPlaces};
+pub use types::{Entered, Entry, FileAnswer, Go, Paths, UnitTokens, Want, Wants};
+pub use unit::{Unit, are_usable, is_short};

@@ -4,7 +4,7 @@ ghost use Rattle.include_units.specs.Literals as spec;
 
 use crate::made::Made;
 use std::alloc::{AllocError, Global};
-use tok_data::{OutToken, PpFault, PpKind, TokId};
+use tok_data::{OutToken, PpKind};
 
 // Whether the text, which stands behind a quote, ends in one that closes the literal.
 fn closes(quote: u8, text: &[u8]) -> bool
@@ -55,24 +55,10 @@ fn is_open(token: &OutToken) -> bool
     }
 }
 
-fn is_at(a: &TokId, b: &TokId) -> bool
-    ensures { result ≡ spec.is_at a.now b.now }
-{
-    a.at == b.at && a.file.as_str() == b.file.as_str()
-}
-
-fn is_shown(rule: u16, tok: &TokId, faults: &[PpFault]) -> bool
-    ensures { result ≡ spec.is_shown rule tok.now faults.now }
-{
-    faults
-        .iter()
-        .any(|fault| fault.rule == rule && is_at(&fault.tok, tok))
-}
-
 fn show_open(alloc: Global, token: &OutToken, made: &mut Made) -> Result<(), AllocError>
     ensures { OnOk result (made.new ≡ spec.shown_open token.now made.old) }
 {
-    if is_open(token) && !is_shown(102, &token.site, made.faults.as_slice()) {
+    if is_open(token) && !made.faults.has_open(&token.site) {
         return made.add_fault(alloc, 102, &token.site, "");
     }
     Ok(())

@@ -5,7 +5,9 @@ ghost use Rattle.pp_cond.specs.Defined as names;
 ghost use Rattle.include_units.specs.Made as spec;
 ghost use Rattle.include_units.specs.Units.{at_first, told};
 
+use crate::faults::Faults;
 use crate::grown::Grown;
+use crate::known::{KnownNames, KnownPaths};
 use crate::types::{Entered, Entry, Paths, UnitTokens};
 use macro_table::MacroTable;
 use shared_text::Name;
@@ -21,8 +23,8 @@ pub(crate) struct Made {
     // The macros that are defined.
     pub(crate) table: MacroTable,
     pub(crate) tokens: Grown<OutToken>,
-    pub(crate) faults: Grown<PpFault>,
-    pub(crate) reads: Grown<Path>,
+    pub(crate) faults: Faults,
+    pub(crate) reads: KnownPaths,
     pub(crate) spelled: Grown<TokId>,
     pub(crate) entered: Grown<Entered>,
     pub(crate) macros: Grown<MacroOcc>,
@@ -32,8 +34,8 @@ pub(crate) struct Made {
     pub(crate) inclusion: usize,
     pub(crate) exploded: bool,
     // The paths of texts that are read once, and the names of the library texts that were.
-    pub(crate) once: Grown<Path>,
-    pub(crate) libraries: Grown<Name>,
+    pub(crate) once: KnownNames,
+    pub(crate) libraries: KnownNames,
     // Output tokens were dropped.
     pub(crate) full: bool,
 }
@@ -94,18 +96,6 @@ fn occurrence(table: &MacroTable, role: MacroRole, token: &OutToken) -> Result<M
     })
 }
 
-pub(crate) fn is_path_in(paths: &[Path], path: &Path) -> bool
-    ensures { result ≡ spec.is_one_of paths.now path.now }
-{
-    paths.iter().any(|p| p == path)
-}
-
-pub(crate) fn is_name_in(names: &[Name], name: &str) -> bool
-    ensures { result ≡ spec.is_one_of names.now name.now }
-{
-    names.iter().any(|n| n.as_str() == name)
-}
-
 // A fault with this text.
 pub(crate) fn fault(
     alloc: Global,
@@ -128,16 +118,16 @@ impl Made {
         let mut made = Made {
             table: MacroTable::new(alloc),
             tokens: Grown::new(alloc),
-            faults: Grown::new(alloc),
-            reads: Grown::new(alloc),
+            faults: Faults::new(alloc),
+            reads: KnownPaths::new(alloc),
             spelled: Grown::new(alloc),
             entered: Grown::new(alloc),
             macros: Grown::new(alloc),
             left: 4_000_000,
             inclusion: 16_777_216,
             exploded: false,
-            once: Grown::new(alloc),
-            libraries: Grown::new(alloc),
+            once: KnownNames::new(alloc),
+            libraries: KnownNames::new(alloc),
             full: false,
         };
         let file = FileId::from_name(Name::from_str(alloc, path.as_str())?);
@@ -208,7 +198,7 @@ impl Made {
     pub(crate) fn add_read(&mut self, path: &Path) -> Result<(), AllocError>
         ensures { OnOk result (self.new ≡ spec.with_read path.now self.old) }
     {
-        if is_path_in(self.reads.as_slice(), path) {
+        if self.reads.has(path) {
             return Ok(());
         }
         self.reads.push(path.share()?)?;

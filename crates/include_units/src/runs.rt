@@ -7,15 +7,15 @@ ghost use Rattle.include_units.specs.Runs as spec;
 
 use crate::literals::all_open;
 use crate::made::Made;
-use crate::texts::{OwnText, Source, Text};
+use crate::stop::Stop;
+use crate::texts::{Source, Text};
 use crate::tokens::{is_mark, is_word};
-use crate::told::{Stop, places_at};
-use crate::types::{FileAnswer, Want};
-use c_tokens::{Places, lex};
+use crate::told::{Told, places_at};
+use crate::types::Want;
+use c_tokens::Places;
 use macro_expand::{Expanded, expand};
 use std::alloc::{AllocError, Global};
 use tok_data::{OutToken, OutTokens, PpKind, TokId};
-use uri_paths::Path;
 
 fn start_of(places: &[(u32, u32)], at: u32) -> u32
     ensures { result ≡ spec.start_of places.now at }
@@ -60,19 +60,10 @@ fn lines_by(
     Ok(lines)
 }
 
-fn own_places(alloc: Global, text: &OwnText) -> Result<Places, AllocError>
-    ensures { IfOk result (λ places. places ≡ spec.own_places text.now) }
-{
-    let text = text.as_str();
-    let lexed = lex(alloc, text)?;
-    let (_tokens, places) = lexed.split(alloc, text)?;
-    Ok(places)
-}
-
 // The lines of tokens of a text.
 pub(crate) fn lines_in(
     alloc: Global,
-    files: &[(Path, FileAnswer)],
+    files: &Told,
     source: &Source,
     tokens: &[OutToken],
 ) -> Result<Vec<(TokId, u32)>, Stop>
@@ -80,13 +71,12 @@ pub(crate) fn lines_in(
 {
     match source {
         Source::Own(text) => {
-            let places = own_places(alloc, text)?;
-            let lines = lines_by(alloc, &places, tokens)?;
+            let lines = lines_by(alloc, text.places().as_places(), tokens)?;
             Ok(lines)
         }
         Source::File(path) => match places_at(files, path) {
             Some(places) => {
-                let lines = lines_by(alloc, places, tokens)?;
+                let lines = lines_by(alloc, places.as_places(), tokens)?;
                 Ok(lines)
             }
             None => {
@@ -99,7 +89,7 @@ pub(crate) fn lines_in(
 
 fn expand_in(
     alloc: Global,
-    files: &[(Path, FileAnswer)],
+    files: &Told,
     text: &Text,
     tokens: &[OutToken],
     made: &Made,
@@ -115,7 +105,7 @@ fn expand_in(
 
 fn expand_with_lines(
     alloc: Global,
-    files: &[(Path, FileAnswer)],
+    files: &Told,
     text: &Text,
     tokens: &[OutToken],
     made: &Made,
@@ -153,7 +143,7 @@ fn with_expansion(expanded: Expanded, made: &mut Made) -> Result<OutTokens, Allo
 // Expands tokens of a text; they are given, and the rest is noted.
 pub(crate) fn expanded_run(
     alloc: Global,
-    files: &[(Path, FileAnswer)],
+    files: &Told,
     text: &Text,
     tokens: &[OutToken],
     made: &mut Made,
@@ -277,7 +267,7 @@ fn put_output(alloc: Global, tokens: &[OutToken], made: &mut Made) -> Result<(),
 // Reads a run of text lines in a group that is taken.
 pub(crate) fn run_of(
     alloc: Global,
-    files: &[(Path, FileAnswer)],
+    files: &Told,
     text: &Text,
     tokens: &[OutToken],
     made: &mut Made,

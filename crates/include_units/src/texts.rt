@@ -2,47 +2,15 @@
 ghost use Rattle.std.specs.Prelude.{◌≡◌, ◌<◌, ◌≤◌, ◌+◌, ◌∷◌, [], ◌++◌, ℕ, List, ◌^◌, length, take, drop, not, IfOk, OnOk, IfSome};
 ghost use Rattle.std.specs.List.{prefix_len};
 ghost use Rattle.include_units.specs.Texts as spec;
+ghost use Rattle.include_units.specs.Fronts as fronts;
 
 use crate::grown::Grown;
+use crate::own::OwnText;
 use crate::tokens::is_hash;
 use shared_text::Name;
 use std::alloc::{AllocError, Global};
-use std::marker::Model;
 use tok_data::{FileId, OutToken, OutTokens, PpToken, Spelt, TokId};
 use uri_paths::Path;
-
-// A text of the server's own. Contracts see its bytes.
-#[derive(Debug, Drop)]
-pub(crate) struct OwnText {
-    text: Name,
-}
-
-impl Model for OwnText {
-    ghost use Rattle.std.specs.Prelude.{ℕ, List, ◌≤◌, length};
-
-    ghost Value = { List ℕ };
-
-    ghost view = { λ own. own.text };
-
-    ghost invariant = { λ own. length own.text ≤ 4290772992 };
-}
-
-impl OwnText {
-    pub(crate) fn from_str(alloc: Global, text: &str) -> Result<OwnText, AllocError>
-        requires { length text.now ≤ 4290772992 }
-        ensures { IfOk result (λ own. own ≡ text.now) }
-    {
-        let text = Name::from_str(alloc, text)?;
-        Ok(OwnText { text })
-    }
-
-    pub(crate) fn as_str(&self) -> &str
-        ensures text { result.now ≡ self.now }
-        ensures short { length self.now ≤ 4290772992 }
-    {
-        self.text.as_str()
-    }
-}
 
 // Where a text comes from: a file at a path, or a text of the server's own, which are the library texts and `<command>`.
 #[derive(Debug, Drop)]
@@ -133,9 +101,9 @@ fn add_line<'a>(
     tokens: &'a [PpToken],
 ) -> Result<Behind<'a>, AllocError>
     requires { at + length tokens.now < 2 ^ 32 }
-    ensures line { OnOk result (out.new ≡ out.old ++ spec.source_tokens name.now at (take (spec.width tokens.now) tokens.now)) }
-    ensures at { IfOk result (λ b. b.at ≡ at + spec.width tokens.now) }
-    ensures behind { IfOk result (λ b. b.tokens.now ≡ drop (spec.width tokens.now) tokens.now) }
+    ensures line { OnOk result (out.new ≡ out.old ++ spec.source_tokens name.now at (take (fronts.width tokens.now) tokens.now)) }
+    ensures at { IfOk result (λ b. b.at ≡ at + fronts.width tokens.now) }
+    ensures behind { IfOk result (λ b. b.tokens.now ≡ drop (fronts.width tokens.now) tokens.now) }
     ensures numbered { IfOk result (λ b. b.at + length b.tokens.now ≡ at + length tokens.now) }
     ensures shorter { IfOk result (λ b. length b.tokens.now ≤ length tokens.now) }
 {
@@ -170,7 +138,7 @@ fn run_in_front<'a>(
     tokens: &'a [PpToken],
 ) -> Result<Front<'a>, AllocError>
     requires { at + length tokens.now < 2 ^ 32 }
-    ensures parts { IfOk result (λ front. spec.before_run begun (spec.parts_from name.now at tokens.now) ≡ spec.front_parts name.now front) }
+    ensures parts { IfOk result (λ front. spec.before_run begun (spec.parts_from name.now at tokens.now) ≡ fronts.front_parts name.now front) }
     ensures numbered { IfOk result (λ front. front.at + length front.behind.now ≡ at + length tokens.now) }
     ensures shorter { IfOk result (λ front. length front.behind.now ≤ length tokens.now) }
 {
@@ -199,9 +167,9 @@ fn directive_in_front<'a>(
     tokens: &'a [PpToken],
 ) -> Result<Front<'a>, AllocError>
     requires { at + length tokens.now < 2 ^ 32 }
-    ensures part { IfOk result (λ front. front.part ≡ spec.Directive hash (spec.source_tokens name.now at (take (spec.width tokens.now) tokens.now))) }
-    ensures at { IfOk result (λ front. front.at ≡ at + spec.width tokens.now) }
-    ensures behind { IfOk result (λ front. front.behind.now ≡ drop (spec.width tokens.now) tokens.now) }
+    ensures part { IfOk result (λ front. front.part ≡ spec.Directive hash (spec.source_tokens name.now at (take (fronts.width tokens.now) tokens.now))) }
+    ensures at { IfOk result (λ front. front.at ≡ at + fronts.width tokens.now) }
+    ensures behind { IfOk result (λ front. front.behind.now ≡ drop (fronts.width tokens.now) tokens.now) }
     ensures numbered { IfOk result (λ front. front.at + length front.behind.now ≡ at + length tokens.now) }
     ensures shorter { IfOk result (λ front. length front.behind.now ≤ length tokens.now) }
 {
@@ -224,7 +192,7 @@ fn run_by<'a>(
     tokens: &'a [PpToken],
 ) -> Result<Front<'a>, AllocError>
     requires { at + length tokens.now < 2 ^ 32 }
-    ensures parts { IfOk result (λ front. spec.run_parts name.now at first tokens.now ≡ spec.front_parts name.now front) }
+    ensures parts { IfOk result (λ front. fronts.run_parts name.now at first tokens.now ≡ fronts.front_parts name.now front) }
     ensures numbered { IfOk result (λ front. front.at + length front.behind.now ≡ at + length tokens.now) }
     ensures shorter { IfOk result (λ front. length front.behind.now ≤ length tokens.now) }
 {
@@ -235,7 +203,6 @@ fn run_by<'a>(
 }
 
 // The part in front of tokens of a text, of which the first has this number; none where there is none.
-
 pub(crate) fn next_part<'a>(
     alloc: Global,
     name: &Name,
@@ -243,7 +210,7 @@ pub(crate) fn next_part<'a>(
     tokens: &'a [PpToken],
 ) -> Result<Option<Front<'a>>, AllocError>
     requires { at + length tokens.now < 2 ^ 32 }
-    ensures parts { IfOk result (λ front. spec.parts_from name.now at tokens.now ≡ spec.all_parts name.now front) }
+    ensures parts { IfOk result (λ front. spec.parts_from name.now at tokens.now ≡ fronts.all_parts name.now front) }
     ensures numbered { IfOk result (λ front. IfSome front (λ f. f.at + length f.behind.now ≡ at + length tokens.now)) }
     ensures shorter { IfOk result (λ front. IfSome front (λ f. length f.behind.now < length tokens.now)) }
 {

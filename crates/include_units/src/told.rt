@@ -1,114 +1,132 @@
 // What is told of files.
-ghost use Rattle.std.specs.Prelude.{◌≡◌, ◌≤◌, option_map, length, IfSome};
+ghost use Rattle.std.specs.Prelude.{◌≡◌, ◌≤◌, ◌++◌, ◌∷◌, [], ℕ, List, option_map, length, IfSome, OnOk, OnErr};
+ghost use Rattle.std.specs.HashMap.{get_by_text};
+ghost use Rattle.std.specs.Option.{option_or};
 ghost use Rattle.asking.specs.LookUps.{look_up};
-ghost use Rattle.include_units.specs.Coming.{AreShort};
+ghost use Rattle.include_units.specs.Coming.{IsShortAnswer};
 ghost use Rattle.include_units.specs.Files as spec;
 
-use crate::types::{FileAnswer, Want};
-use c_tokens::Places;
-use std::alloc::AllocError;
-use tok_data::PpToken;
+use crate::firsts::put;
+use crate::shared::{PpTokens, TextPlaces};
+use crate::types::FileAnswer;
+use std::alloc::{AllocError, Global};
+use std::collections::HashMap;
+use std::marker::Model;
 use uri_paths::Path;
 
-// Why reading stops.
-#[derive(Debug, Drop)]
-pub(crate) enum Stop {
-    // This isn't told.
-    Need(Want),
-    NoMemory,
+// Answers in the order in which they were told, looked up by their paths: the first one of its kind counts.
+#[derive(Drop)]
+pub(crate) struct Told {
+    alloc: Global,
+    answers: Vec<(Path, FileAnswer)>,
+    held: HashMap<String, bool>,
+    texts: HashMap<String, PpTokens>,
+    lines: HashMap<String, TextPlaces>,
 }
 
-impl From<AllocError> for Stop {
-    ghost use Rattle.std.specs.Prelude.{◌≡◌};
-    ghost use Rattle.include_units.specs.declared.told.Stop.TheVariants.{NoMemory};
+impl Model for Told {
+    ghost use Rattle.std.specs.Prelude.{◌≡◌, ℕ, List};
+    ghost use Rattle.std.specs.HashMap.{get_by_text};
+    ghost use Rattle.asking.specs.LookUps.{look_up};
+    ghost use Rattle.include_units.specs.declared.types.FileAnswer.{FileAnswer};
 
-    ghost from_gives = { λ _ e. e ≡ NoMemory };
+    ghost Value = { List (List ℕ × FileAnswer) };
 
-    fn from(_error: AllocError) -> Stop {
-        Stop::NoMemory
+    ghost view = { λ t. t.answers.items };
+
+    ghost use Rattle.include_units.specs.Coming.{AreShort};
+    ghost use Rattle.include_units.specs.Files.{files, Exists, Text, Lines};
+
+    ghost invariant = { λ t. ((path : List ℕ) → get_by_text t.held path ≡ look_up files t.answers.items (Exists path))
+        × ((path : List ℕ) → get_by_text t.texts path ≡ look_up files t.answers.items (Text path))
+        × ((path : List ℕ) → get_by_text t.lines path ≡ look_up files t.answers.items (Lines path))
+        × AreShort t.answers.items };
+}
+
+// Enters what an answer says of a path.
+fn enter(
+    alloc: Global,
+    held: &mut HashMap<String, bool>,
+    texts: &mut HashMap<String, PpTokens>,
+    lines: &mut HashMap<String, TextPlaces>,
+    path: &str,
+    answer: &FileAnswer,
+) -> Result<(), AllocError>
+    ensures held { OnOk result ((q : List ℕ) → get_by_text held.new q ≡ option_or (get_by_text held.old q) (spec.reads (spec.Exists q) (path.now, answer.now))) }
+    ensures texts { OnOk result ((q : List ℕ) → get_by_text texts.new q ≡ option_or (get_by_text texts.old q) (spec.reads (spec.Text q) (path.now, answer.now))) }
+    ensures lines { OnOk result ((q : List ℕ) → get_by_text lines.new q ≡ option_or (get_by_text lines.old q) (spec.reads (spec.Lines q) (path.now, answer.now))) }
+    ensures held_kept { OnErr result ((q : List ℕ) → get_by_text held.new q ≡ get_by_text held.old q) }
+    ensures texts_kept { OnErr result ((q : List ℕ) → get_by_text texts.new q ≡ get_by_text texts.old q) }
+    ensures lines_kept { OnErr result ((q : List ℕ) → get_by_text lines.new q ≡ get_by_text lines.old q) }
+{
+    match answer {
+        FileAnswer::Absent => put(alloc, held, path, false),
+        FileAnswer::There => put(alloc, held, path, true),
+        FileAnswer::Tokens(tokens) => {
+            let tokens = tokens.share()?;
+            put(alloc, texts, path, tokens)
+        }
+        FileAnswer::Lines(places) => {
+            let places = places.share()?;
+            put(alloc, lines, path, places)
+        }
     }
 }
 
-fn held_by(answer: &FileAnswer) -> Option<bool>
-    ensures { result ≡ spec.held_by answer.now }
-{
-    match answer {
-        FileAnswer::Absent => Some(false),
-        FileAnswer::There => Some(true),
-        FileAnswer::Tokens(_) => None,
-        FileAnswer::Lines(_) => None,
+impl Told {
+    pub(crate) fn new(alloc: Global) -> Told
+        ensures { result ≡ [] }
+    {
+        Told {
+            alloc,
+            answers: Vec::new(alloc),
+            held: HashMap::new(alloc),
+            texts: HashMap::new(alloc),
+            lines: HashMap::new(alloc),
+        }
     }
-}
 
-fn tokens_by(answer: &FileAnswer) -> Option<&[PpToken]>
-    ensures { option_map (λ ts. ts.now) result ≡ spec.tokens_by answer.now }
-{
-    match answer {
-        FileAnswer::Tokens(tokens) => Some(tokens.as_slice()),
-        FileAnswer::Absent => None,
-        FileAnswer::There => None,
-        FileAnswer::Lines(_) => None,
-    }
-}
-
-fn places_by(answer: &FileAnswer) -> Option<&Places>
-    ensures { option_map (λ p. p.now) result ≡ spec.places_by answer.now }
-{
-    match answer {
-        FileAnswer::Lines(places) => Some(places),
-        FileAnswer::Absent => None,
-        FileAnswer::There => None,
-        FileAnswer::Tokens(_) => None,
+    // One answer more.
+    pub(crate) fn tell(&mut self, path: Path, answer: FileAnswer) -> Result<(), AllocError>
+        requires { IsShortAnswer answer }
+        ensures told { OnOk result (self.new ≡ self.old ++ (path, answer) ∷ []) }
+        ensures kept { OnErr result (self.new ≡ self.old) }
+    {
+        self.answers.reserve(1)?;
+        enter(
+            self.alloc,
+            &mut self.held,
+            &mut self.texts,
+            &mut self.lines,
+            path.as_str(),
+            &answer,
+        )?;
+        self.answers.push_reserved((path, answer));
+        Ok(())
     }
 }
 
 // Whether a text is held at a path, where that is told.
-pub(crate) fn held_at(files: &[(Path, FileAnswer)], path: &Path) -> Option<bool>
+pub(crate) fn held_at(files: &Told, path: &Path) -> Option<bool>
     ensures { result ≡ look_up spec.files files.now (spec.Exists path.now) }
 {
-    let mut rest = files;
-    while let Some((first, behind)) = rest.split_first() {
-        rest = behind;
-        if first.0 == *path {
-            let held = held_by(&first.1);
-            if held.is_some() {
-                return held;
-            }
-        }
-    }
-    None
+    files.held.get(path.as_str()).copied()
 }
 
 // The tokens of the text at a path, where they are told.
-pub(crate) fn tokens_at<'a>(files: &'a [(Path, FileAnswer)], path: &Path) -> Option<&'a [PpToken]>
-    requires { AreShort files.now }
+pub(crate) fn tokens_at<'a>(files: &'a Told, path: &Path) -> Option<&'a PpTokens>
     ensures value { option_map (λ ts. ts.now) result ≡ look_up spec.files files.now (spec.Text path.now) }
     ensures short { IfSome result (λ ts. length ts.now ≤ 4290772992) }
 {
-    let mut rest = files;
-    while let Some((first, behind)) = rest.split_first() {
-        rest = behind;
-        if first.0 == *path {
-            if let Some(tokens) = tokens_by(&first.1) {
-                return Some(tokens);
-            }
-        }
+    match files.texts.get(path.as_str()) {
+        Some(tokens) => Some(tokens),
+        None => None,
     }
-    None
 }
 
 // The places of the tokens of the text at a path, where they are told.
-pub(crate) fn places_at<'a>(files: &'a [(Path, FileAnswer)], path: &Path) -> Option<&'a Places>
+pub(crate) fn places_at<'a>(files: &'a Told, path: &Path) -> Option<&'a TextPlaces>
     ensures { option_map (λ p. p.now) result ≡ look_up spec.files files.now (spec.Lines path.now) }
 {
-    let mut rest = files;
-    while let Some((first, behind)) = rest.split_first() {
-        rest = behind;
-        if first.0 == *path {
-            if let Some(places) = places_by(&first.1) {
-                return Some(places);
-            }
-        }
-    }
-    None
+    files.lines.get(path.as_str())
 }

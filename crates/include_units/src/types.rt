@@ -1,11 +1,8 @@
 // What a unit asks for, what it is told, and what comes of it.
-use c_tokens::Places;
+use crate::shared::{PpTokens, TextPlaces};
 use shared_list::Listing;
-use tok_data::{FileId, MacroOccs, OutTokens, PpFaults, PpToken, TokId, TokIds};
+use tok_data::{FileId, MacroOccs, OutTokens, PpFaults, TokId, TokIds};
 use uri_paths::Path;
-
-/// Tokens of a text, in order.
-pub type PpTokens = Listing<PpToken>;
 
 /// Paths, in order.
 pub type Paths = Listing<Path>;
@@ -20,7 +17,7 @@ pub enum FileAnswer {
     /// The tokens of the text.
     Tokens(PpTokens),
     /// The places of its tokens.
-    Lines(Places),
+    Lines(TextPlaces),
 }
 
 /// What a unit wants to be told.

@@ -1,12 +1,13 @@
 // A unit that is read as far as what it asks is told.
-ghost use Rattle.std.specs.Prelude.{◌≡◌, ◌≤◌, ◌+◌, ◌∷◌, [], IfOk, IfSome, length, true};
+ghost use Rattle.std.specs.Prelude.{◌≡◌, ◌≤◌, ◌+◌, ◌∷◌, [], IfOk, OnOk, OnErr, IfSome, length, true};
 ghost use Rattle.c_tokens.specs.Languages.{is_identifier};
 ghost use Rattle.project_conf.specs.Defines.{AreUsable, name_of, size_of};
-ghost use Rattle.include_units.specs.Coming.{AreShort, IsShortAnswer};
+ghost use Rattle.include_units.specs.Coming.{IsShortAnswer};
 ghost use Rattle.include_units.specs.Units.{command_text};
-ghost use Rattle.include_units.specs.Going.{IsGoing};
+ghost use Rattle.include_units.specs.Going.{IsGoing, begun, with_answer};
 
-use crate::told::Stop;
+use crate::stop::Stop;
+use crate::told::Told;
 use crate::types::{FileAnswer, Go, Want, Wants};
 use crate::units::unit_tokens;
 use c_tokens::is_identifier;
@@ -15,21 +16,23 @@ use std::alloc::{AllocError, Global};
 use std::marker::Model;
 use uri_paths::Path;
 
-/// A unit. Contracts see how it is read.
-#[derive(Debug, Drop)]
+/// A unit. Contracts see how it is read, and what it was told of files.
+#[derive(Drop)]
 pub struct Unit {
     conf: UnitConf,
+    files: Told,
     alloc: Global,
 }
 
 impl Model for Unit {
     ghost use Rattle.std.specs.Prelude.{◌≤◌, length};
-    ghost use Rattle.project_conf.specs.declared.conf.UnitConf.{UnitConf};
+    ghost use Rattle.include_units.specs.Going.{Asked};
+
+    ghost Value = { Asked };
+
+    ghost view = { λ u. record { conf = u.conf; answers = u.files } };
+
     ghost use Rattle.include_units.specs.Units.{command_text};
-
-    ghost Value = { UnitConf };
-
-    ghost view = { λ u. u.conf };
 
     ghost invariant = { λ u. length (command_text u.conf.defines) ≤ 4290772992 };
 }
@@ -94,9 +97,8 @@ fn needs(alloc: Global, want: Want) -> Result<Wants, AllocError>
 }
 
 // What a unit comes to over these answers.
-fn going(alloc: Global, conf: &UnitConf, files: &[(Path, FileAnswer)]) -> Result<Go, AllocError>
-    requires told { AreShort files.now }
-    requires short { length (command_text conf.now.defines) ≤ 4290772992 }
+fn going(alloc: Global, conf: &UnitConf, files: &Told) -> Result<Go, AllocError>
+    requires { length (command_text conf.now.defines) ≤ 4290772992 }
     ensures { IfOk result (λ go. IsGoing conf.now files.now go) }
 {
     match unit_tokens(alloc, conf, files) {
@@ -153,7 +155,8 @@ pub fn are_usable(defines: &[Define]) -> bool
     true
 }
 
-fn is_short(answer: &FileAnswer) -> bool
+/// Whether an answer has at most 4,290,772,992 tokens.
+pub fn is_short(answer: &FileAnswer) -> bool
     ensures { result ≡ true → IsShortAnswer answer.now }
 {
     match answer {
@@ -164,42 +167,36 @@ fn is_short(answer: &FileAnswer) -> bool
     }
 }
 
-/// Whether each list of tokens in these answers has at most 4,290,772,992 of them.
-#[tactic(auto, using(crate::proofs::TellLemmas::short_more, crate::proofs::TellLemmas::short_none))]
-pub fn are_short(files: &[(Path, FileAnswer)]) -> bool
-    ensures { result ≡ true → AreShort files.now }
-{
-    let mut rest = files;
-    while let Some((first, behind)) = rest.split_first() {
-        rest = behind;
-        if !is_short(&first.1) {
-            return false;
-        }
-    }
-    true
-}
-
 impl Unit {
-    /// The unit that is read so. Names of definitions are identifiers, and their names and texts have together at most
-    /// 2^28 bytes. It fails for want of memory alone.
+    /// The unit that is read so; it is told nothing. Names of definitions are identifiers, and their names and texts have
+    /// together at most 2^28 bytes. It fails for want of memory alone.
     pub fn start(alloc: Global, conf: &UnitConf) -> Result<Unit, AllocError>
         requires { AreUsable 268435456 conf.now.defines }
-        ensures { IfOk result (λ unit. unit ≡ conf.now) }
+        ensures { IfOk result (λ unit. unit ≡ begun conf.now) }
     {
         let conf = copied_conf(alloc, conf)?;
-        Ok(Unit { conf, alloc })
+        let files = Told::new(alloc);
+        Ok(Unit { conf, files, alloc })
     }
 
-    /// What the unit comes to over these answers, each of which is looked up by its path. Done comes with its tokens exactly
-    /// where the answers have all that it asks; else Need has what it asks next, which isn't among them. A list of tokens has
-    /// at most 4,290,772,992 of them. It fails for want of memory alone, and the unit is as before.
+    /// Tells an answer about a path, which has at most 4,290,772,992 tokens. Where a question was answered before, the first
+    /// answer counts. It fails for want of memory alone, and then nothing was told.
+    pub fn tell(&mut self, path: Path, answer: FileAnswer) -> Result<(), AllocError>
+        requires { IsShortAnswer answer }
+        ensures told { OnOk result (self.new ≡ with_answer self.old path answer) }
+        ensures kept { OnErr result (self.new ≡ self.old) }
+    {
+        self.files.tell(path, answer)
+    }
+
+    /// What the unit comes to over all that it was told. Done comes with its tokens exactly where that answers all that it
+    /// asks; else Need has what it asks next, which it wasn't told. It fails for want of memory alone.
     ///
     /// The unit is read anew from its front.
-    pub fn go(&mut self, files: &[(Path, FileAnswer)]) -> Result<Go, AllocError>
-        requires { AreShort files.now }
-        ensures going { IfOk result (λ go. IsGoing self.old files.now go) }
+    pub fn go(&mut self) -> Result<Go, AllocError>
+        ensures going { IfOk result (λ go. IsGoing self.old.conf self.old.answers go) }
         ensures same { self.new ≡ self.old }
     {
-        going(self.alloc, &self.conf, files)
+        going(self.alloc, &self.conf, &self.files)
     }
 }

@@ -1,6 +1,6 @@
 // The tokens of a unit (ISO C11 5.1.1.2p1, 6.10): its texts, part by part, with the conditionals that are open.
 ghost use Rattle.std.specs.Prelude.{◌≡◌, ◌≤◌, ◌∷◌, ◌++◌, [], IfOk, OnOk, IfSome, length, option_map, string_bytes};
-ghost use Rattle.include_units.specs.Coming.{Comes, AreShort};
+ghost use Rattle.include_units.specs.Coming.{Comes};
 ghost use Rattle.include_units.specs.Conditionals.{stand};
 ghost use Rattle.include_units.specs.Inclusion.{led};
 ghost use Rattle.include_units.specs.Units as spec;
@@ -12,12 +12,14 @@ use crate::definitions::{define_line, undef_line};
 use crate::inclusion::{Lead, include_line, joined};
 use crate::literals::open_where;
 use crate::made::Made;
+use crate::own::OwnText;
 use crate::runs::run_of;
-use crate::texts::{Front, OwnText, Part, Source, Text, next_part};
+use crate::shared::PpTokens;
+use crate::stop::Stop;
+use crate::texts::{Front, Part, Source, Text, next_part};
 use crate::tokens::{is_ident, is_word};
-use crate::told::{Stop, tokens_at};
-use crate::types::{Entered, FileAnswer, PpTokens, UnitTokens, Want};
-use c_tokens::lex;
+use crate::told::{Told, tokens_at};
+use crate::types::{Entered, UnitTokens, Want};
 use project_conf::{Define, UnitConf};
 use shared_text::Name;
 use std::alloc::{AllocError, Global};
@@ -50,10 +52,7 @@ fn once_in(source: &Source, made: &mut Made) -> Result<(), AllocError>
     ensures { OnOk result (made.new ≡ spec.once_in source.now made.old) }
 {
     match source {
-        Source::File(path) => {
-            let path = path.share()?;
-            made.once.push(path)
-        }
+        Source::File(path) => made.once.push(path.as_str()),
         Source::Own(_) => Ok(()),
     }
 }
@@ -101,7 +100,7 @@ fn plain_line(
 fn control_line(
     alloc: Global,
     folders: &[Path],
-    files: &[(Path, FileAnswer)],
+    files: &Told,
     deep: bool,
     text: &Text,
     name: &OutToken,
@@ -121,7 +120,7 @@ fn control_line(
 fn other_line(
     alloc: Global,
     folders: &[Path],
-    files: &[(Path, FileAnswer)],
+    files: &Told,
     deep: bool,
     text: &Text,
     name: &OutToken,
@@ -184,7 +183,7 @@ fn is_group(name: &OutToken) -> bool
 fn named_line(
     alloc: Global,
     folders: &[Path],
-    files: &[(Path, FileAnswer)],
+    files: &Told,
     deep: bool,
     text: &Text,
     name: &OutToken,
@@ -232,7 +231,7 @@ fn stands_taken(name: &OutToken, opens: &Opens) -> bool
 fn directive(
     alloc: Global,
     folders: &[Path],
-    files: &[(Path, FileAnswer)],
+    files: &Told,
     deep: bool,
     text: &Text,
     hash: &OutToken,
@@ -256,7 +255,7 @@ fn directive(
 
 fn text_lines(
     alloc: Global,
-    files: &[(Path, FileAnswer)],
+    files: &Told,
     text: &Text,
     tokens: &[OutToken],
     opens: &Opens,
@@ -277,7 +276,7 @@ fn text_lines(
 fn read_part(
     alloc: Global,
     folders: &[Path],
-    files: &[(Path, FileAnswer)],
+    files: &Told,
     deep: bool,
     text: &Text,
     part: &Part,
@@ -302,48 +301,20 @@ fn read_part(
     }
 }
 
-// The tokens of a text, as they are told or as they are lexed.
-#[derive(Debug, Drop)]
-enum Tokens<'a> {
-    Told(&'a [PpToken]),
-    Lexed(PpTokens),
-}
-
-impl Tokens<'_> {
-    fn as_slice(&self) -> &[PpToken]
-        ensures { result.now ≡ spec.listed self.now }
-    {
-        match self {
-            Tokens::Told(tokens) => tokens,
-            Tokens::Lexed(tokens) => tokens.as_slice(),
-        }
-    }
-}
-
-fn own_tokens(alloc: Global, text: &OwnText) -> Result<PpTokens, AllocError>
-    ensures value { IfOk result (λ ts. ts ≡ spec.own_tokens text.now) }
-    ensures short { IfOk result (λ ts. length ts ≤ 4290772992) }
-{
-    let lexed = lex(alloc, text.as_str())?;
-    Ok(lexed.tokens)
-}
-
-fn tokens_of<'a>(
-    alloc: Global,
-    files: &'a [(Path, FileAnswer)],
-    source: &Source,
-) -> Result<Tokens<'a>, Stop>
-    requires { AreShort files.now }
-    ensures value { Comes files.now (spec.tokens_of source.now) (λ tokens. spec.listed tokens) result }
-    ensures short { IfOk result (λ tokens. length (spec.listed tokens) ≤ 4290772992) }
+fn tokens_of(files: &Told, source: &Source) -> Result<PpTokens, Stop>
+    ensures value { Comes files.now (spec.tokens_of source.now) (λ tokens. tokens) result }
+    ensures short { IfOk result (λ tokens. length tokens ≤ 4290772992) }
 {
     match source {
         Source::Own(text) => {
-            let tokens = own_tokens(alloc, text)?;
-            Ok(Tokens::Lexed(tokens))
+            let tokens = text.tokens().share()?;
+            Ok(tokens)
         }
         Source::File(path) => match tokens_at(files, path) {
-            Some(tokens) => Ok(Tokens::Told(tokens)),
+            Some(tokens) => {
+                let tokens = tokens.share()?;
+                Ok(tokens)
+            }
             None => {
                 let path = path.share()?;
                 Err(Stop::Need(Want::Text(path)))
@@ -381,14 +352,13 @@ fn is_deep(depth: u8) -> bool
 fn text_tokens(
     alloc: Global,
     folders: &[Path],
-    files: &[(Path, FileAnswer)],
+    files: &Told,
     depth: u8,
     text: &Text,
     tokens: &[PpToken],
     made: &mut Made,
 ) -> Result<(), Stop>
-    requires told { AreShort files.now }
-    requires short { length tokens.now ≤ 4290772992 }
+    requires { length tokens.now ≤ 4290772992 }
     ensures { Comes files.now (spec.text_tokens folders.now depth text.now tokens.now made.old) (λ _. made.new) result }
 {
     let deep = is_deep(depth);
@@ -409,7 +379,7 @@ fn text_tokens(
                 if depth == 0 {
                     continue;
                 }
-                match tokens_of(alloc, files, &inner.source) {
+                match tokens_of(files, &inner.source) {
                     Ok(found) => {
                         entering(&inner, by, found.as_slice(), made)?;
                         match text_tokens(
@@ -438,14 +408,13 @@ fn text_tokens(
 fn read_text(
     alloc: Global,
     folders: &[Path],
-    files: &[(Path, FileAnswer)],
+    files: &Told,
     text: &Text,
     made: &mut Made,
 ) -> Result<(), Stop>
-    requires { AreShort files.now }
     ensures { Comes files.now (spec.read_text folders.now text.now made.old) (λ _. made.new) result }
 {
-    match tokens_of(alloc, files, &text.source) {
+    match tokens_of(files, &text.source) {
         Ok(tokens) => text_tokens(alloc, folders, files, 200, text, tokens.as_slice(), made),
         Err(stop) => Err(stop),
     }
@@ -518,13 +487,8 @@ fn file_of(alloc: Global, path: &Path) -> Result<Text, AllocError>
 }
 
 // The tokens of a unit, as far as what it asks is told.
-pub(crate) fn unit_tokens(
-    alloc: Global,
-    conf: &UnitConf,
-    files: &[(Path, FileAnswer)],
-) -> Result<UnitTokens, Stop>
-    requires told { AreShort files.now }
-    requires short { length (spec.command_text conf.now.defines) ≤ 4290772992 }
+pub(crate) fn unit_tokens(alloc: Global, conf: &UnitConf, files: &Told) -> Result<UnitTokens, Stop>
+    requires { length (spec.command_text conf.now.defines) ≤ 4290772992 }
     ensures { Comes files.now (spec.unit_tokens conf.now) (λ unit. unit) result }
 {
     let command = command_of(alloc, conf.defines.as_slice())?;

@@ -1,1 +1,5 @@
+pub mod Keys
+pub mod Lexed
+pub mod Listed
 pub mod Truth
+pub mod Within

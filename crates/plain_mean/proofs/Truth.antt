@@ -6,8 +6,6 @@ use Rattle.c_tokens.specs.declared.types.Places.{Places}
 use Rattle.c_tokens.specs.Lexed.{lexed}
 use Rattle.project_conf.specs.declared.conf.UnitConf.{UnitConf}
 use Rattle.std.specs.Option.{option_or}
-use Rattle.std.proofs.lemmas.List.Elements.{All-from_recursion}
-use Rattle.std.specs.List.{AllByRecursion}
 use Rattle.doc_texts.specs.Texts.{Texts, text_at}
 use Rattle.asking.specs.Laws.{Agrees, IsRight, LookedRight}
 use Rattle.asking.specs.LookUps.{LookUp, Looked, Ends, Needs, look_up, run_by, all_asked}
@@ -15,13 +13,12 @@ use Rattle.include_units.specs.declared.types.FileAnswer.{FileAnswer}
 use Rattle.include_units.specs.declared.types.FileAnswer.TheVariants.{Absent, There, Tokens}
 use Rattle.include_units.specs.declared.types.FileAnswer.TheVariants as told
 use Rattle.include_units.specs.declared.types.UnitTokens.{UnitTokens}
-use Rattle.include_units.specs.Coming.{IsShort, AreShort}
 use Rattle.include_units.specs.Files.{Question, Exists, Text, Lines, Answer, files, held_by, tokens_by, places_by, reads}
 use Rattle.include_units.specs.Runs.{own_places}
 use Rattle.include_units.specs.Units.{unit_tokens}
 use Rattle.plain_mean.specs.Given.{text_in, given, tokens_over, IsTrue, AreTrue}
 
-pub true_more : (texts : Texts) (es : List (List ℕ × FileAnswer)) (e : List ℕ × FileAnswer) → AreTrue texts es → IsTrue texts e → AreTrue texts (es ++ e ∷ [])
+true_more : (texts : Texts) (es : List (List ℕ × FileAnswer)) (e : List ℕ × FileAnswer) → AreTrue texts es → IsTrue texts e → AreTrue texts (es ++ e ∷ [])
 true_more texts [] e h t = (t, tt)
 true_more texts (x ∷ es) e h t = (h.0, true_more texts es e h.1 t)
 
@@ -35,12 +32,9 @@ true_agrees texts (x ∷ es) h =
     λ q answer e.
     either (reads q x) (look_up files es q) answer (λ a. a ≡ given texts q) (λ f. h.0.says q answer f) (λ f. true_agrees texts es h.1 q answer f) e
 
-shorts : (texts : Texts) (es : List (List ℕ × FileAnswer)) → AreTrue texts es → AllByRecursion IsShort es
-shorts texts [] h = tt
-shorts texts (x ∷ es) h = (h.0.short, shorts texts es h.1)
-
-pub true_short : (texts : Texts) (es : List (List ℕ × FileAnswer)) → AreTrue texts es → AreShort es
-true_short texts es h = All-from_recursion IsShort es (shorts texts es h)
+pub true_told : (texts : Texts) (es : List (List ℕ × FileAnswer)) (e : List ℕ × FileAnswer) (path : List ℕ) (answer : FileAnswer) →
+    AreTrue texts es → IsTrue texts e → e ≡ (path, answer) → AreTrue texts (es ++ (path, answer) ∷ [])
+true_told texts es e path answer h t p = true_more texts es (path, answer) h (subst (IsTrue texts) p t)
 
 -- ---- what one answer says
 
@@ -107,9 +101,9 @@ right_ends : {A : Type 0} (look : LookUp files) (x : A) (questions : List Questi
 right_ends look x questions (Ends z) y e h = ap (λ l. got l x) (sym e) ∙ h
 right_ends look x questions (Needs qs) y e h = absurd (subst (λ l. T (is_end l)) (sym e) tt)
 
-pub true_ends : (texts : Texts) (conf : UnitConf) (es xs : List (List ℕ × FileAnswer)) (tokens : UnitTokens) → LookedRight files UnitTokens → AreTrue texts es → xs ≡ es →
-    run_by (look_up files xs) (unit_tokens conf) ≡ Ends tokens → tokens ≡ tokens_over texts conf
-true_ends texts conf es xs tokens law h e r =
+pub true_ends : (texts : Texts) (conf : UnitConf) (es : List (List ℕ × FileAnswer)) (tokens : UnitTokens) → LookedRight files UnitTokens → AreTrue texts es →
+    run_by (look_up files es) (unit_tokens conf) ≡ Ends tokens → tokens ≡ tokens_over texts conf
+true_ends texts conf es tokens law h r =
     right_ends (look_up files es) (tokens_over texts conf) (all_asked (given texts) (unit_tokens conf)) (run_by (look_up files es) (unit_tokens conf)) tokens
-    (ap (λ ys. run_by (look_up files ys) (unit_tokens conf)) (sym e) ∙ r)
+    r
     (law (given texts) (look_up files es) (unit_tokens conf) (true_agrees texts es h))

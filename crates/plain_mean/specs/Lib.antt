@@ -1,1 +1,9 @@
+pub mod Confs
 pub mod Given
+pub mod Messages
+pub mod Sites
+pub mod Meanings
+pub mod Within
+pub mod Shown
+pub mod Lists
+pub mod Lexing

@@ -1,41 +1,12 @@
 // Answers to what a unit asks of files, by the texts of a session.
-ghost use Rattle.std.specs.Prelude.{◌≡◌, ◌≤◌, ◌++◌, ◌∷◌, [], ℕ, List, length, IfOk, OnOk};
-ghost use Rattle.c_tokens.specs.Lexed.{lexed};
-ghost use Rattle.include_units.specs.Runs.{own_places};
-ghost use Rattle.plain_mean.specs.Given.{text_in, IsTrue, AreTrue};
+ghost use Rattle.std.specs.Prelude.{◌≡◌, IfOk, OnOk};
+ghost use Rattle.plain_mean.specs.Given.{IsTrue, AreTrue};
 
-use c_tokens::{Places, lex};
+use crate::lexings::Lexings;
 use doc_texts::Docs;
-use include_units::{FileAnswer, PpTokens, Want};
-use std::alloc::{AllocError, Global};
+use include_units::{FileAnswer, Unit, Want};
+use std::alloc::AllocError;
 use uri_paths::Path;
-
-fn text_in<'a>(docs: &'a Docs, path: &Path) -> &'a str
-    ensures text { result.now ≡ text_in docs.now path.now }
-    ensures short { length result.now ≤ 4194304 }
-{
-    match docs.text(path) {
-        Some(text) => text,
-        None => "",
-    }
-}
-
-fn tokens_in(alloc: Global, docs: &Docs, path: &Path) -> Result<PpTokens, AllocError>
-    ensures tokens { IfOk result (λ ts. ts ≡ (lexed (text_in docs.now path.now)).tokens) }
-    ensures short { IfOk result (λ ts. length ts ≤ 4290772992) }
-{
-    let lexed = lex(alloc, text_in(docs, path))?;
-    Ok(lexed.tokens)
-}
-
-fn places_in(alloc: Global, docs: &Docs, path: &Path) -> Result<Places, AllocError>
-    ensures { IfOk result (λ places. places ≡ own_places (text_in docs.now path.now)) }
-{
-    let text = text_in(docs, path);
-    let lexed = lex(alloc, text)?;
-    let (_tokens, places) = lexed.split(alloc, text)?;
-    Ok(places)
-}
 
 fn held(docs: &Docs, path: Path) -> (Path, FileAnswer)
     ensures { IsTrue docs.now result }
@@ -46,43 +17,79 @@ fn held(docs: &Docs, path: Path) -> (Path, FileAnswer)
     }
 }
 
-fn lines_of(alloc: Global, docs: &Docs, path: Path) -> Result<(Path, FileAnswer), AllocError>
-    ensures { IfOk result (λ e. IsTrue docs.now e) }
+fn lines_of(lexings: &mut Lexings<'_>, path: Path) -> Result<(Path, FileAnswer), AllocError>
+    ensures answer { IfOk result (λ e. IsTrue lexings.old e) }
+    ensures same { lexings.new ≡ lexings.old }
 {
-    let places = places_in(alloc, docs, &path)?;
-    Ok((path, FileAnswer::Lines(places)))
+    let lexed = lexings.at(&path)?;
+    Ok((path, FileAnswer::Lines(lexed.places)))
 }
 
-fn tokens_of(alloc: Global, docs: &Docs, path: Path) -> Result<(Path, FileAnswer), AllocError>
-    ensures { IfOk result (λ e. IsTrue docs.now e) }
+fn tokens_of(lexings: &mut Lexings<'_>, path: Path) -> Result<(Path, FileAnswer), AllocError>
+    ensures answer { IfOk result (λ e. IsTrue lexings.old e) }
+    ensures same { lexings.new ≡ lexings.old }
 {
-    let tokens = tokens_in(alloc, docs, &path)?;
-    Ok((path, FileAnswer::Tokens(tokens)))
+    let lexed = lexings.at(&path)?;
+    Ok((path, FileAnswer::Tokens(lexed.tokens)))
 }
 
-fn answer(alloc: Global, docs: &Docs, want: Want) -> Result<(Path, FileAnswer), AllocError>
-    ensures { IfOk result (λ e. IsTrue docs.now e) }
+fn answer(lexings: &mut Lexings<'_>, want: Want) -> Result<(Path, FileAnswer), AllocError>
+    ensures answer { IfOk result (λ e. IsTrue lexings.old e) }
+    ensures same { lexings.new ≡ lexings.old }
 {
     match want {
-        Want::Exists(path) => Ok(held(docs, path)),
-        Want::Text(path) => tokens_of(alloc, docs, path),
-        Want::Lines(path) => lines_of(alloc, docs, path),
+        Want::Exists(path) => Ok(held(lexings.docs(), path)),
+        Want::Text(path) => tokens_of(lexings, path),
+        Want::Lines(path) => lines_of(lexings, path),
     }
 }
 
-// Adds an answer to each want.
-#[tactic(auto, using(crate::proofs::Truth::true_more))]
-pub(crate) fn add_answers(
-    alloc: Global,
-    docs: &Docs,
+// Tells a unit an answer to each want.
+#[tactic(auto, using(crate::proofs::Truth::true_told))]
+pub(crate) fn tell_answers(
+    lexings: &mut Lexings<'_>,
     wants: Vec<Want>,
-    files: &mut Vec<(Path, FileAnswer)>,
+    unit: &mut Unit,
 ) -> Result<(), AllocError>
-    requires { AreTrue docs.now files.old.items }
-    ensures { OnOk result (AreTrue docs.now files.new.items) }
+    requires { AreTrue lexings.old unit.old.answers }
+    ensures answers { OnOk result (AreTrue lexings.old unit.new.answers) }
+    ensures same { lexings.new ≡ lexings.old }
+    ensures conf { OnOk result (unit.new.conf ≡ unit.old.conf) }
 {
     'wants: for want in wants {
-        files.push(answer(alloc, docs, want)?)?;
+        let (path, answer) = answer(lexings, want)?;
+        unit.tell(path, answer)?;
+    }
+    Ok(())
+}
+
+// Tells a unit of a text, before it asks.
+fn tell_text(lexings: &mut Lexings<'_>, path: Path, unit: &mut Unit) -> Result<(), AllocError>
+    requires { AreTrue lexings.old unit.old.answers }
+    ensures answers { OnOk result (AreTrue lexings.old unit.new.answers) }
+    ensures same { lexings.new ≡ lexings.old }
+    ensures conf { OnOk result (unit.new.conf ≡ unit.old.conf) }
+{
+    let mut wants = Vec::new(lexings.alloc());
+    wants.push(Want::Exists(path.share()?))?;
+    wants.push(Want::Text(path))?;
+    tell_answers(lexings, wants, unit)?;
+    Ok(())
+}
+
+/// Tells a unit of these texts, before it asks.
+pub(crate) fn tell_texts(
+    lexings: &mut Lexings<'_>,
+    paths: Vec<Path>,
+    unit: &mut Unit,
+) -> Result<(), AllocError>
+    requires { AreTrue lexings.old unit.old.answers }
+    ensures answers { OnOk result (AreTrue lexings.old unit.new.answers) }
+    ensures same { lexings.new ≡ lexings.old }
+    ensures conf { OnOk result (unit.new.conf ≡ unit.old.conf) }
+{
+    'paths: for path in paths {
+        tell_text(lexings, path, unit)?;
     }
     Ok(())
 }

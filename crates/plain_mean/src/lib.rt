@@ -1,7 +1,21 @@
-// A unit of a session's texts, read anew: its tokens.
+// The units of a session's texts, read anew: what each means, and what each file shows.
 #![tactic(auto)]
 
 mod answers;
+mod confs;
+mod lexings;
+mod likely;
+mod lists;
+mod meaning;
+mod messages;
+mod shown;
+mod sites;
+mod types;
 mod units;
 
-pub use units::tokens_over;
+pub use confs::conf_of;
+pub use lexings::Lexings;
+pub use lists::{ShownLists, shown_lists};
+pub use meaning::mean;
+pub use messages::is_warning;
+pub use types::{Shown, ShownFaults, ShownList, UnitMeaning};

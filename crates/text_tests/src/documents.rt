@@ -260,9 +260,12 @@ fn earlier_texts_are_kept(rt: HostRuntime) -> Result<(), Fail> {
     let mut prior = PriorTexts::new(alloc);
     docs.load(&path, Some(b"int a;"))?;
     prior.remember(&docs, &path)?;
+    assert!(rt; !prior.is_changed(&docs, &path));
     docs.load(&path, None)?;
     prior.remember(&docs, &path)?;
-    assert!(rt; prior.text(&path) == Some("int a;"));
+    assert!(rt; prior.is_changed(&docs, &path));
+    docs.load(&path, Some(b"int a;"))?;
+    assert!(rt; !prior.is_changed(&docs, &path));
     Ok(())
 }
 

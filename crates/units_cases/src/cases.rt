@@ -1,6 +1,8 @@
 // A case: the texts of a project, and how a unit is read.
 use c_tokens::lex;
-use include_units::{FileAnswer, Go, PpTokens, Unit, UnitTokens, Want, are_short, are_usable};
+use include_units::{
+    FileAnswer, Go, PpTokens, TextPlaces, Unit, UnitTokens, Want, are_usable, is_short,
+};
 use percent_encoding::percent_decode;
 use project_conf::{Define, Defines, IncludePaths, UnitConf};
 use shared_text::Name;
@@ -11,7 +13,7 @@ use uri_paths::Path;
 pub struct Case {
     includes: Vec<Path>,
     defines: Vec<Define>,
-    files: Vec<(Path, FileAnswer)>,
+    files: Vec<(Path, String)>,
     brief: bool,
 }
 
@@ -24,43 +26,114 @@ fn decoded(alloc: Global, text: &str) -> Result<String, AllocError> {
     }
 }
 
-// Goes on until the unit is read; a path of which nothing is told has no text. None where it can't begin, and where a text
-// that is there isn't told.
+fn text_at<'a>(files: &'a [(Path, String)], path: &Path) -> Option<&'a str> {
+    for file in files {
+        if file.0 == *path {
+            return Some(file.1.as_str());
+        }
+    }
+    None
+}
+
+fn tell(unit: &mut Unit, path: Path, answer: FileAnswer) -> Result<bool, AllocError> {
+    if !is_short(&answer) {
+        return Ok(false);
+    }
+    unit.tell(path, answer)?;
+    Ok(true)
+}
+
+fn tokens_of(alloc: Global, text: &str) -> Result<FileAnswer, AllocError> {
+    if text.len() > 4_000_000_000 {
+        return Ok(FileAnswer::Absent);
+    }
+    let lexed = lex(alloc, text)?;
+    let tokens = PpTokens::from_vec(alloc, lexed.tokens.into_vec())?;
+    Ok(FileAnswer::Tokens(tokens))
+}
+
+fn places_of(alloc: Global, text: &str) -> Result<FileAnswer, AllocError> {
+    if text.len() > 4_000_000_000 {
+        return Ok(FileAnswer::Absent);
+    }
+    let lexed = lex(alloc, text)?;
+    let (_tokens, places) = lexed.split(alloc, text)?;
+    let places = TextPlaces::from_places(alloc, places)?;
+    Ok(FileAnswer::Lines(places))
+}
+
+fn is_there(files: &[(Path, String)], path: &Path) -> FileAnswer {
+    match text_at(files, path) {
+        Some(_) => FileAnswer::There,
+        None => FileAnswer::Absent,
+    }
+}
+
+// Tells what is wanted; false where a text that is wanted isn't there.
+fn answer(
+    alloc: Global,
+    files: &[(Path, String)],
+    want: Want,
+    unit: &mut Unit,
+) -> Result<bool, AllocError> {
+    match want {
+        Want::Exists(path) => {
+            let there = is_there(files, &path);
+            tell(unit, path, there)
+        }
+        Want::Text(path) => match text_at(files, &path) {
+            Some(text) => {
+                let tokens = tokens_of(alloc, text)?;
+                tell(unit, path, tokens)
+            }
+            None => Ok(false),
+        },
+        Want::Lines(path) => match text_at(files, &path) {
+            Some(text) => {
+                let places = places_of(alloc, text)?;
+                tell(unit, path, places)
+            }
+            None => Ok(false),
+        },
+    }
+}
+
+fn answer_all(
+    alloc: Global,
+    files: &[(Path, String)],
+    wants: Vec<Want>,
+    unit: &mut Unit,
+) -> Result<bool, AllocError> {
+    for want in wants {
+        if !answer(alloc, files, want, unit)? {
+            return Ok(false);
+        }
+    }
+    Ok(true)
+}
+
+// Goes on until the unit is read, and tells what it wants; a path that the case doesn't have has no text. None where the unit
+// can't begin, and where its own text isn't there.
 fn read(
     alloc: Global,
     conf: &UnitConf,
-    files: Vec<(Path, FileAnswer)>,
+    files: &[(Path, String)],
 ) -> Result<Option<UnitTokens>, AllocError> {
     if !are_usable(conf.defines.as_slice()) {
         return Ok(None);
     }
-    let mut files = files;
     let mut unit = Unit::start(alloc, conf)?;
-    for _ in 0..10_000 {
-        if !are_short(files.as_slice()) {
-            return Ok(None);
-        }
-        match unit.go(files.as_slice())? {
+    for _ in 0..100_000_000u32 {
+        match unit.go()? {
             Go::Done(tokens) => return Ok(Some(tokens)),
             Go::Need(wants) => {
-                if !add_absent(wants.into_vec(), &mut files)? {
+                if !answer_all(alloc, files, wants.into_vec(), &mut unit)? {
                     return Ok(None);
                 }
             }
         }
     }
     Ok(None)
-}
-
-fn add_absent(wants: Vec<Want>, files: &mut Vec<(Path, FileAnswer)>) -> Result<bool, AllocError> {
-    for want in wants {
-        match want {
-            Want::Exists(path) => files.push((path, FileAnswer::Absent))?,
-            Want::Text(_) => return Ok(false),
-            Want::Lines(_) => return Ok(false),
-        }
-    }
-    Ok(true)
 }
 
 impl Case {
@@ -124,24 +197,9 @@ impl Case {
         };
         let path = decoded(alloc, path)?;
         let text = decoded(alloc, text)?;
-        match Path::read(alloc, path.as_str())? {
-            Some(path) => self.add_file(alloc, path, text.as_str()),
-            None => Ok(()),
+        if let Some(path) = Path::read(alloc, path.as_str())? {
+            self.files.push((path, text))?;
         }
-    }
-
-    fn add_file(&mut self, alloc: Global, path: Path, text: &str) -> Result<(), AllocError> {
-        if text.len() > 4_000_000_000 {
-            return Ok(());
-        }
-        let lexed = lex(alloc, text)?;
-        let (tokens, places) = lexed.split(alloc, text)?;
-        let copy = path.share()?;
-        self.files.push((copy, FileAnswer::There))?;
-        let copy = path.share()?;
-        self.files
-            .push((copy, FileAnswer::Tokens(PpTokens::from_vec(tokens))))?;
-        self.files.push((path, FileAnswer::Lines(places)))?;
         Ok(())
     }
 
@@ -160,7 +218,7 @@ impl Case {
                     includes: IncludePaths::from_vec(includes),
                     defines: Defines::from_vec(defines),
                 };
-                read(alloc, &conf, files)
+                read(alloc, &conf, files.as_slice())
             }
             None => Ok(None),
         }

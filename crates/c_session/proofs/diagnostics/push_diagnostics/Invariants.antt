@@ -1,7 +1,7 @@
 use Rattle.std.proofs.Common.{◌≡◌, ◌++◌, false, length, map, string_bytes}
 use Rattle.serde_json.specs.View.{items_of}
 use Rattle.serde_json.specs.Written.{items_text}
-use Rattle.c_session.specs.Faults.{AreWithin}
+use Rattle.plain_mean.specs.Within.{AreWithin}
 use Rattle.c_session.specs.Replies.{diagnostic}
 use Rattle.c_session.proofs.diagnostics.push_diagnostics.Given as goal
 

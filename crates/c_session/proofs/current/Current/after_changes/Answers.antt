@@ -1,5 +1,6 @@
-use Rattle.std.proofs.Common.{refl, map}
+use Rattle.std.proofs.Common.{map}
 use Rattle.c_session.specs.SeenParams.{seen_file_change}
+use Rattle.plain_mean.specs.Lists.{shown_in}
 use Rattle.c_session.specs.Sessions.{current_state}
 use Rattle.c_session.proofs.Telling.{watched_tells, watched_refused, watched_wants}
 use Rattle.c_session.proofs.current.Current.after_changes.Goals as goal
@@ -9,9 +10,10 @@ returns-in-Err-clause-refused g c = watched_refused (current_state c.args.self.n
     c.in-Err.ensures.refused c.new-logs.ensures.items
 
 pub returns-in-Ok-finish-clause-handled : goal.returns-in-Ok-finish-clause-handled
-returns-in-Ok-finish-clause-handled g c = watched_tells (current_state c.args.self.now) _ (map seen_file_change c.args.changes.now) c.new-logs.result.items c.update_all.new.logs.items
-    c.as_slice.result.now c.new.result.items c.in-Ok-finish.bytes.items c.new-prior.result c.update_all.new.prior _ _ c.in-Ok.ensures.updated c.new-logs.ensures.items c.new-prior.ensures refl
-    c.in-Ok.ensures.prior c.in-Ok-finish.ensures c.new.ensures.items c.as_slice.ensures.value
+returns-in-Ok-finish-clause-handled g c = watched_tells (current_state c.args.self.now) (current_state c.finish.new.self) c.update_all.new.docs (map seen_file_change c.args.changes.now) c.new-logs.result.items
+    c.update_all.new.logs.items c.as_slice.result.now c.new.result.items c.in-Ok-finish.bytes.items (shown_in c.args.self.now.shown) (shown_in c.finish.new.self.shown) c.new-prior.result c.update_all.new.prior _ _
+    c.in-Ok-finish.ensures.same c.in-Ok.ensures.updated c.new-logs.ensures.items c.new-prior.ensures c.in-Ok.ensures.prior c.requires.kept.right c.in-Ok-finish.ensures.kept.right c.in-Ok-finish.ensures.wrote
+    c.new.ensures.items c.as_slice.ensures.value
 
 pub returns-clause-refused : goal.returns-clause-refused
 returns-clause-refused g c = (

@@ -1,4 +1,5 @@
 use Rattle.std.proofs.Common.{refl}
+use Rattle.plain_mean.specs.Lists.{shown_in}
 use Rattle.c_session.specs.Sessions.{current_state}
 use Rattle.c_session.proofs.Asking.{gave_up, stays}
 use Rattle.c_session.proofs.Telling.{closes_tells, closed_refused, not_closed}
@@ -6,7 +7,7 @@ use Rattle.c_session.proofs.current.Current.on_close.Goals as goal
 
 pub returns-in-Ok-after_close-clause-handled : goal.returns-in-Ok-after_close-clause-handled
 returns-in-Ok-after_close-clause-handled g c = closes_tells (current_state c.args.self.now) _ (current_state c.after_close.new.self) _ c.in-Ok.path c.in-Ok-after_close.bytes.items
-    c.new-prior.result c.close_document.new.prior _ _ c.in-Ok.ensures.meant refl c.new-prior.ensures c.in-Ok.ensures.prior c.in-Ok-after_close.ensures.handled
+    (shown_in c.args.self.now.shown) (shown_in c.after_close.new.self.shown) c.new-prior.result c.close_document.new.prior _ _ c.in-Ok.ensures.meant refl c.new-prior.ensures c.in-Ok.ensures.prior c.requires.kept.right c.in-Ok-after_close.ensures.kept.right c.in-Ok-after_close.ensures.handled
 
 pub returns-in-Ok-clause-refused : goal.returns-in-Ok-clause-refused
 returns-in-Ok-clause-refused g c = closed_refused (current_state c.args.self.now) c.close_document.new.docs _ c.in-Ok.path _ _ _ _ c.in-Err-after_close.error

@@ -13,7 +13,7 @@ returns-in-Err-load_root-clause-refused g c = began_refused (current_state c.arg
 
 pub returns-in-Ok-begin-clause-handled : goal.returns-in-Ok-begin-clause-handled
 returns-in-Ok-begin-clause-handled g c = began_then (current_state c.args.self.now) (current_state c.begin.new.self) c.args.id.now _ (seen_beginning c.in-Ok.beginning)
-    (loading c.in-Ok-load_root.loaded.docs c.in-Ok-load_root.loaded.logs.items) c.in-Ok-begin.bytes.items _ _ c.in-Ok.ensures c.in-Ok-load_root.ensures.loaded c.in-Ok-begin.ensures
+    (loading c.in-Ok-load_root.loaded.docs c.in-Ok-load_root.loaded.logs.items) c.in-Ok-begin.bytes.items _ _ c.in-Ok.ensures c.in-Ok-load_root.ensures.loaded c.in-Ok-begin.ensures.told
 
 pub returns-in-Err-begin-clause-refused : goal.returns-in-Err-begin-clause-refused
 returns-in-Err-begin-clause-refused g c = (

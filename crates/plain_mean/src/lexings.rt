@@ -1,0 +1,110 @@
+// What lexing gives of the texts that units read, once for all units.
+ghost use Rattle.std.specs.Prelude.{◌≡◌, ◌≤◌, length, IfOk};
+ghost use Rattle.plain_mean.specs.Given.{text_in};
+ghost use Rattle.plain_mean.specs.Lexing.{IsLexed};
+
+use c_tokens::lex;
+use doc_texts::Docs;
+use include_units::{PpTokens, TextPlaces};
+use std::alloc::{AllocError, Global};
+use std::collections::BTreeMap;
+use std::marker::Model;
+use uri_paths::Path;
+
+/// The tokens of a text, and their places. A copy shares them.
+#[derive(Debug, Drop)]
+pub(crate) struct LexedText {
+    pub tokens: PpTokens,
+    pub places: TextPlaces,
+}
+
+impl LexedText {
+    fn share(&self) -> Result<LexedText, AllocError>
+        ensures { IfOk result (λ copy. copy ≡ self.now) }
+    {
+        let tokens = self.tokens.share()?;
+        let places = self.places.share()?;
+        Ok(LexedText { tokens, places })
+    }
+}
+
+fn lexed_text(alloc: Global, text: &str) -> Result<LexedText, AllocError>
+    requires { length text.now ≤ 4194304 }
+    ensures { IfOk result (λ l. IsLexed text.now l) }
+{
+    let lexed = lex(alloc, text)?;
+    let (tokens, places) = lexed.split(alloc, text)?;
+    let tokens = PpTokens::from_vec(alloc, tokens)?;
+    let places = TextPlaces::from_places(alloc, places)?;
+    Ok(LexedText { tokens, places })
+}
+
+fn text_in<'a>(docs: &'a Docs, path: &Path) -> &'a str
+    ensures text { result.now ≡ text_in docs.now path.now }
+    ensures short { length result.now ≤ 4194304 }
+{
+    match docs.text(path) {
+        Some(text) => text,
+        None => "",
+    }
+}
+
+/// The texts of a session, each lexed when it is first wanted. Contracts see the texts.
+#[derive(Drop)]
+pub struct Lexings<'a> {
+    alloc: Global,
+    docs: &'a Docs,
+    kept: BTreeMap<Path, LexedText>,
+}
+
+impl<'a> Model for Lexings<'a> {
+    ghost use Rattle.doc_texts.specs.Texts.{Texts, texts_code};
+    ghost use Rattle.plain_mean.specs.Lexing.{AreLexed};
+
+    ghost Value = { Texts };
+
+    ghost coded = { texts_code };
+
+    ghost view = { λ l. l.docs.now };
+
+    ghost invariant = { λ l. AreLexed l.docs.now l.kept };
+}
+
+impl<'a> Lexings<'a> {
+    /// These texts, of which none is lexed yet. It takes no memory.
+    pub fn new(alloc: Global, docs: &'a Docs) -> Lexings<'a>
+        ensures { result ≡ docs.now }
+    {
+        Lexings {
+            alloc,
+            docs,
+            kept: BTreeMap::new(alloc),
+        }
+    }
+
+    pub(crate) fn alloc(&self) -> Global {
+        self.alloc
+    }
+
+    /// The texts.
+    pub(crate) fn docs(&self) -> &'a Docs
+        ensures { result.now ≡ self.now }
+    {
+        self.docs
+    }
+
+    /// What lexing gives of the text at a path, which is empty where there is none.
+    pub(crate) fn at(&mut self, path: &Path) -> Result<LexedText, AllocError>
+        ensures lexed { IfOk result (λ l. IsLexed (text_in self.old path.now) l) }
+        ensures same { self.new ≡ self.old }
+    {
+        match self.kept.get(path) {
+            Some(kept) => return kept.share(),
+            None => {}
+        }
+        let lexed = lexed_text(self.alloc, text_in(self.docs, path))?;
+        let copy = lexed.share()?;
+        self.kept.insert(path.share()?, lexed)?;
+        Ok(copy)
+    }
+}

@@ -1,0 +1,288 @@
+// What all files show, over all units of the texts.
+ghost use Rattle.std.specs.Prelude.{◌≡◌, ℕ, ◌+◌, ◌||◌, false, List, [], ◌∷◌, ◌++◌, length, flat_map, bytes_eq, IfOk, OnOk, if◌then◌else◌};
+ghost use Rattle.std.specs.List.{filter, list_any};
+ghost use Rattle.doc_texts.specs.Texts.{text_at};
+ghost use Rattle.project_conf.specs.Defines.{AreUsable};
+ghost use Rattle.plain_mean.specs.Meanings.{meaning};
+ghost use Rattle.plain_mean.specs.Given.{text_in};
+ghost use Rattle.plain_mean.specs.Shown.{falls_on, is_source, of_file, units};
+ghost use Rattle.plain_mean.specs.Lists.{AreShown, faults_at, has_read, shown_in};
+ghost use Rattle.plain_mean.specs.Within.{AreWithin};
+
+use crate::lexings::Lexings;
+use crate::meaning::mean;
+use crate::shown::of_text;
+use crate::types::{Shown, ShownFaults, ShownList};
+use doc_texts::{Docs, paths_are_sets};
+use project_conf::Conf;
+use shared_text::Name;
+use std::alloc::{AllocError, Global};
+use std::collections::BTreeMap;
+use std::sync::ledger::Ledger;
+use steps::Steps;
+use tok_data::{FileId, ShownFault};
+use uri_paths::Path;
+
+// The faults of some units, by the text that they fall on.
+#[derive(Drop)]
+struct ByFile {
+    alloc: Global,
+    lists: BTreeMap<FileId, ShownFaults>,
+}
+
+impl ByFile {
+    fn new(alloc: Global) -> ByFile
+        ensures { (file : List ℕ) → faults_at result file ≡ [] }
+    {
+        ByFile {
+            alloc,
+            lists: BTreeMap::new(alloc),
+        }
+    }
+
+    // Takes the faults of a text away, to add to them.
+    fn take(&mut self, file: &FileId) -> Vec<ShownFault>
+        ensures taken { result.items ≡ faults_at self.old file.now }
+        ensures others { (q : List ℕ) → bytes_eq q file.now ≡ false → faults_at self.new q ≡ faults_at self.old q }
+    {
+        match self.lists.remove(file) {
+            Some(faults) => faults.into_vec(),
+            None => Vec::new(self.alloc),
+        }
+    }
+
+    fn put(&mut self, file: FileId, faults: Vec<ShownFault>) -> Result<(), AllocError>
+        ensures here { OnOk result (faults_at self.new file ≡ faults.items) }
+        ensures others { OnOk result ((q : List ℕ) → bytes_eq q file ≡ false → faults_at self.new q ≡ faults_at self.old q) }
+    {
+        self.lists.insert(file, ShownFaults::from_vec(faults))?;
+        Ok(())
+    }
+
+    fn add(&mut self, fault: ShownFault) -> Result<(), AllocError>
+        ensures { OnOk result ((q : List ℕ) → faults_at self.new q ≡ faults_at self.old q ++ filter (falls_on q) (fault ∷ [])) }
+    {
+        let file = fault.tok.file.copy()?;
+        let mut faults = self.take(&file);
+        faults.push(fault)?;
+        self.put(file, faults)
+    }
+
+    fn add_all(&mut self, faults: Vec<ShownFault>) -> Result<(), AllocError>
+        ensures { OnOk result ((q : List ℕ) → faults_at self.new q ≡ faults_at self.old q ++ filter (falls_on q) faults.items) }
+    {
+        'faults: for fault in faults {
+            self.add(fault)?;
+        }
+        Ok(())
+    }
+
+    fn of(&self, file: &FileId) -> &[ShownFault]
+        ensures { result.now ≡ faults_at self.now file.now }
+    {
+        match self.lists.get(file) {
+            Some(faults) => faults.as_slice(),
+            None => &[],
+        }
+    }
+}
+
+// Paths that units read.
+#[derive(Drop)]
+struct Reads {
+    paths: BTreeMap<Path, ()>,
+}
+
+impl Reads {
+    fn new(alloc: Global) -> Reads
+        ensures { (q : List ℕ) → has_read result q ≡ false }
+    {
+        Reads {
+            paths: BTreeMap::new(alloc),
+        }
+    }
+
+    fn add(&mut self, path: Path) -> Result<(), AllocError>
+        ensures { OnOk result ((q : List ℕ) → has_read self.new q ≡ (bytes_eq q path || has_read self.old q)) }
+    {
+        self.paths.insert(path, ())?;
+        Ok(())
+    }
+
+    fn add_all(&mut self, paths: Vec<Path>) -> Result<(), AllocError>
+        ensures { OnOk result ((q : List ℕ) → has_read self.new q ≡ (has_read self.old q || list_any (bytes_eq q) paths.items)) }
+    {
+        'paths: for path in paths {
+            self.add(path)?;
+        }
+        Ok(())
+    }
+
+    fn has(&self, path: &Path) -> bool
+        ensures { result ≡ has_read self.now path.now }
+    {
+        self.paths.contains_key(path)
+    }
+}
+
+// What the units of the texts come to: their faults, and the texts that they read.
+#[derive(Drop)]
+struct Found {
+    faults: ByFile,
+    reads: Reads,
+}
+
+fn is_source(path: &Path) -> bool
+    ensures { result ≡ is_source path.now }
+{
+    path.as_str().as_bytes().ends_with(b".c")
+}
+
+fn sources(alloc: Global, paths: &[Path]) -> Result<Vec<Path>, AllocError>
+    ensures { IfOk result (λ units. units.items ≡ filter is_source paths.now) }
+{
+    let mut out = Vec::new(alloc);
+    let mut rest = paths;
+    'paths: while let Some((path, behind)) = rest.split_first() {
+        rest = behind;
+        if !is_source(path) {
+            continue;
+        }
+        out.push(path.share()?)?;
+    }
+    Ok(out)
+}
+
+#[tactic(auto, unfolding(crate::specs::Shown::units))]
+fn units(alloc: Global, docs: &Docs) -> Result<Vec<Path>, AllocError>
+    ensures { IfOk result (λ list. list.items ≡ units docs.now) }
+{
+    let paths = docs.paths()?;
+    let mut units = sources(alloc, paths.as_slice())?;
+    units.truncate(1024);
+    Ok(units)
+}
+
+fn found_in<L: Ledger>(
+    alloc: Global,
+    lexings: &mut Lexings<'_>,
+    conf: &Conf,
+    units: &[Path],
+    steps: &mut Steps<L>,
+) -> Result<Found, AllocError>
+    requires { AreUsable 268435456 conf.now.defines }
+    ensures faults { IfOk result (λ found. (q : List ℕ) → faults_at found.faults q ≡ filter (falls_on q) (flat_map (λ unit. (meaning lexings.old conf.now unit).faults) units.now)) }
+    ensures reads { IfOk result (λ found. (q : List ℕ) → has_read found.reads q ≡ list_any (bytes_eq q) (flat_map (λ unit. (meaning lexings.old conf.now unit).reads) units.now)) }
+    ensures same { lexings.new ≡ lexings.old }
+    ensures steps { OnOk result (steps.new ≡ steps.old + length units.now) }
+{
+    let mut faults = ByFile::new(alloc);
+    let mut reads = Reads::new(alloc);
+    let mut rest = units;
+    'units: while let Some((unit, behind)) = rest.split_first() {
+        rest = behind;
+        let meant = mean(alloc, lexings, conf, unit, steps)?;
+        faults.add_all(meant.faults.into_vec())?;
+        reads.add_all(meant.reads.into_vec())?;
+    }
+    Ok(Found { faults, reads })
+}
+
+// What a file shows; one that no unit reads, and on which nothing falls, isn't lexed.
+fn list_of(
+    alloc: Global,
+    lexings: &mut Lexings<'_>,
+    found: &Found,
+    path: &Path,
+) -> Result<ShownList, AllocError>
+    ensures shown { IfOk result (λ list. list ≡ of_file (text_at lexings.old path.now) (faults_at found.now.faults path.now) (has_read found.now.reads path.now)) }
+    ensures within { IfOk result (λ list. AreWithin (length (text_in lexings.old path.now)) list) }
+    ensures same { lexings.new ≡ lexings.old }
+{
+    let Some(text) = lexings.docs().text(path) else {
+        return Ok(ShownList::from_vec(Vec::new(alloc)));
+    };
+    let file = FileId::from_name(Name::from_str(alloc, path.as_str())?);
+    let faults = found.faults.of(&file);
+    let read = found.reads.has(path);
+    if faults.is_empty() && !read {
+        return Ok(ShownList::from_vec(Vec::new(alloc)));
+    }
+    let lexed = lexings.at(path)?;
+    of_text(alloc, text, &lexed, faults, read)
+}
+
+/// What files show, by path.
+#[derive(Drop)]
+pub struct ShownLists {
+    lists: BTreeMap<Path, ShownList>,
+}
+
+impl ShownLists {
+    /// What no file shows. It takes no memory.
+    pub fn new(alloc: Global) -> ShownLists
+        ensures { (q : List ℕ) → shown_in result q ≡ [] }
+    {
+        ShownLists {
+            lists: BTreeMap::new(alloc),
+        }
+    }
+
+    fn insert(&mut self, path: Path, list: ShownList) -> Result<(), AllocError>
+        ensures { OnOk result ((q : List ℕ) → shown_in self.new q ≡ (if bytes_eq q path then list else shown_in self.old q)) }
+    {
+        self.lists.insert(path, list)?;
+        Ok(())
+    }
+
+    /// What a file shows, in order; nothing where it isn't among these. It takes no memory.
+    pub fn of(&self, path: &Path) -> &[Shown]
+        ensures { result.now ≡ shown_in self.now path.now }
+    {
+        match self.lists.get(path) {
+            Some(list) => list.as_slice(),
+            None => &[],
+        }
+    }
+}
+
+fn listed(
+    alloc: Global,
+    lexings: &mut Lexings<'_>,
+    found: &Found,
+    paths: &[Path],
+) -> Result<ShownLists, AllocError>
+    ensures listed { IfOk result (λ lists. (q : List ℕ) → shown_in lists q ≡ (if list_any (bytes_eq q) paths.now then of_file (text_at lexings.old q) (faults_at found.now.faults q) (has_read found.now.reads q) else [])) }
+    ensures within { IfOk result (λ lists. (q : List ℕ) → AreWithin (length (text_in lexings.old q)) (shown_in lists q)) }
+    ensures same { lexings.new ≡ lexings.old }
+{
+    let mut lists = ShownLists::new(alloc);
+    let mut rest = paths;
+    'paths: while let Some((path, behind)) = rest.split_first() {
+        rest = behind;
+        let list = list_of(alloc, lexings, found, path)?;
+        lists.insert(path.share()?, list)?;
+    }
+    Ok(lists)
+}
+
+/// What each file of the texts shows, each unit worked out once, which is one step each. Names of definitions are identifiers,
+/// and their names and texts have together at most 2^28 bytes. It fails as `mean` does.
+pub fn shown_lists<L: Ledger>(
+    alloc: Global,
+    docs: &Docs,
+    conf: &Conf,
+    steps: &mut Steps<L>,
+) -> Result<ShownLists, AllocError>
+    requires { AreUsable 268435456 conf.now.defines }
+    ensures shown { IfOk result (λ lists. AreShown docs.now conf.now lists) }
+    ensures steps { OnOk result (steps.new ≡ steps.old + length (units docs.now)) }
+{
+    paths_are_sets();
+    let units = units(alloc, docs)?;
+    let mut lexings = Lexings::new(alloc, docs);
+    let found = found_in(alloc, &mut lexings, conf, units.as_slice(), steps)?;
+    let paths = docs.paths()?;
+    let lists = listed(alloc, &mut lexings, &found, paths.as_slice())?;
+    Ok(lists)
+}

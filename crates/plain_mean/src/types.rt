@@ -1,0 +1,70 @@
+// What comes of a unit, and what a file shows.
+ghost use Rattle.std.specs.Prelude.{◌≡◌, IfOk};
+ghost use Rattle.std.proofs.Common.{rules};
+ghost use Rattle.std.specs.Cmp.{partial_order_from_own_ties};
+ghost use Rattle.std.specs.Cmp.Lexicographic.{slice_cmp};
+ghost use Rattle.std.specs.Cmp.Rules.{comparing};
+ghost use Rattle.std.specs.Ordering.{nat_cmp, on, then_cmp, as_partial_cmp};
+
+use include_units::Paths;
+use shared_list::Listing;
+use shared_text::Name;
+use std::alloc::AllocError;
+use std::cmp::Ordering;
+use tok_data::ShownFault;
+
+/// Faults with their messages, in order.
+pub type ShownFaults = Listing<ShownFault>;
+
+/// What a unit means: so far the faults of its preprocessing (ISO C11 6.10), and what it reads.
+#[derive(Debug, Drop)]
+pub struct UnitMeaning {
+    /// The faults, in the order in which they were met. The number 2^32-1 of a token stands for the empty range at the front of
+    /// its text.
+    pub faults: ShownFaults,
+    /// The paths whose texts were read, each once, in the order of their first entry; the unit's own first.
+    pub reads: Paths,
+}
+
+/// A fault that a file shows. Faults are ordered by place, then rule, then message.
+#[derive(Debug, PartialEq, Eq, Drop)]
+pub struct Shown {
+    /// The range in bytes of the file's text.
+    pub start: u32,
+    pub end: u32,
+    /// The number of the rule that is broken.
+    pub rule: u16,
+    /// The message.
+    pub text: Name,
+}
+
+impl Ord for Shown {
+    ghost cmp = { then_cmp (on (λ s. s.start) nat_cmp) (then_cmp (on (λ s. s.end) nat_cmp) (then_cmp (on (λ s. s.rule) nat_cmp) (on (λ s. s.text) (slice_cmp nat_cmp)))) };
+
+    ghost total = { Prim.search (comparing, rules) depth 9 };
+
+    ghost matches_partial_cmp = { Prim.search (comparing, rules) depth 9 };
+
+    ghost matches_eq = { Prim.search (comparing, rules) depth 9 };
+
+    fn cmp(&self, other: &Shown) -> Ordering {
+        self.start
+            .cmp(&other.start)
+            .then(self.end.cmp(&other.end))
+            .then(self.rule.cmp(&other.rule))
+            .then(self.text.cmp(&other.text))
+    }
+}
+
+impl PartialOrd for Shown {
+    ghost partial_cmp = { as_partial_cmp (then_cmp (on (λ s. s.start) nat_cmp) (then_cmp (on (λ s. s.end) nat_cmp) (then_cmp (on (λ s. s.rule) nat_cmp) (on (λ s. s.text) (slice_cmp nat_cmp))))) };
+
+    ghost laws = { partial_order_from_own_ties (Prim.search (comparing, rules) depth 9) (Prim.search (comparing, rules) depth 9) };
+
+    fn partial_cmp(&self, other: &Shown) -> Option<Ordering> {
+        Some(self.cmp(other))
+    }
+}
+
+/// What a file shows, in order.
+pub type ShownList = Listing<Shown>;
