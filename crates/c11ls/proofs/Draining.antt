@@ -3,10 +3,10 @@ use Rattle.std.proofs.Common.{◌≡◌, ℕ, List, Option, Some, subst, ◌∙�
 use Rattle.io_edges.specs.Store.{Entry}
 use Rattle.io_edges.specs.Wire.{Traffic}
 use Rattle.lsp_framing.specs.Standing.{Standing}
-use Rattle.c11ls.specs.Going.{Going, Ended}
+use Rattle.c11ls.specs.Ties.Going.{Going, Ended}
 use Rattle.project_conf.specs.declared.options.Options.{Options}
 use Rattle.c_session.specs.State.{State}
-use Rattle.c11ls.specs.Turn.{Turned, Stands}
+use Rattle.c11ls.specs.Ties.Turn.{Turned, Stands}
 use Rattle.c11ls.specs.declared.status.Status.{Status}
 use Rattle.c11ls.specs.declared.status.Status.TheVariants.{Done, Unclean, Usage, BadFrame, ReadFault, WriteFault, StoreFault, NoMemory, LongInput}
 use Rattle.c11ls.proofs.EndingUp.{ends_done, ends_unclean, ends_unwritten, ends_lacking, ends_giving_up}

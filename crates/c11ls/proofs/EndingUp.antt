@@ -9,13 +9,13 @@ use Rattle.lsp_framing.specs.Frames.{Framed, Rest, Empty, Open, Bad, frames}
 use Rattle.lsp_framing.specs.Standing.{Standing, Follows, IsEmptyOrOpen}
 use Rattle.lsp_framing.specs.declared.FrameKind.{FrameKind}
 use Rattle.lsp_framing.specs.declared.FrameKind.TheVariants.{Cut}
-use Rattle.c11ls.specs.Going.{Going, Settled, Moves, Ended, Outcome, Plays, moved, through}
+use Rattle.c11ls.specs.Ties.Going.{Going, Settled, Moves, Ended, Outcome, Plays, moved, through}
 use Rattle.c11ls.specs.Plain.{Played, Plain, Exited, Lacks, Through, Verdict, Done, Unclean, Faulty, play, played, plain, plain_of, verdict_of, go_on}
 use Rattle.c_session.specs.React.{Reaction, Replies, Wants, react}
 use Rattle.c11ls.specs.Serve.{WouldGoOn, IsThrough, IsInterrupted, Begins}
 use Rattle.project_conf.specs.declared.options.Options.{Options}
 use Rattle.c_session.specs.State.{State, fresh}
-use Rattle.c11ls.specs.Turn.{Wrote, WroteFront, WroteUnclean, GaveUp, Lacked}
+use Rattle.c11ls.specs.Ties.Turn.{Wrote, WroteFront, WroteUnclean, GaveUp, Lacked}
 use Rattle.c11ls.specs.declared.status.Status.{Status}
 use Rattle.c11ls.specs.declared.status.Status.TheVariants as status
 use Rattle.c11ls.proofs.Framing.{ContentsStay, BadStays}

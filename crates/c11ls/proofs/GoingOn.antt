@@ -8,7 +8,7 @@ use Rattle.io_edges.specs.Store.{Entry}
 use Rattle.io_edges.specs.Wire.{Traffic, after_read}
 use Rattle.lsp_framing.specs.Frames.{frames}
 use Rattle.lsp_framing.specs.Standing.{Standing, Follows, IsEmptyOrOpen}
-use Rattle.c11ls.specs.Going.{Going, Settled, Moves, Ended, Outcome, through}
+use Rattle.c11ls.specs.Ties.Going.{Going, Settled, Moves, Ended, Outcome, through}
 use Rattle.c_session.specs.Asking.{Asking, after_all}
 use Rattle.c_session.specs.Handled.{Answered}
 use Rattle.c_session.specs.React.{Outcome as Reply, asks}
@@ -16,7 +16,7 @@ use Rattle.c11ls.specs.Plain.{Played, play, played}
 use Rattle.c11ls.specs.Serve.{IsPrompt, IsThrough, IsInterrupted, EachWanted, most_read}
 use Rattle.project_conf.specs.declared.options.Options.{Options}
 use Rattle.c_session.specs.State.{State, fresh}
-use Rattle.c11ls.specs.Turn.{Wrote}
+use Rattle.c11ls.specs.Ties.Turn.{Wrote}
 use Rattle.c11ls.specs.declared.status.Status.{Status}
 use Rattle.c11ls.specs.declared.status.Status.TheVariants.{NoMemory}
 use Rattle.c11ls.proofs.Framing.{ContentsStay}

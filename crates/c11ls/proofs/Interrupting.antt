@@ -7,7 +7,7 @@ use Rattle.c_session.specs.Asking.{Asking, after_all}
 use Rattle.c_session.specs.React.{Outcome, asks}
 use Rattle.c_session.specs.State.{State, fresh}
 use Rattle.project_conf.specs.declared.options.Options.{Options}
-use Rattle.c11ls.specs.Going.{through}
+use Rattle.c11ls.specs.Ties.Going.{through}
 use Rattle.c11ls.specs.Plain.{Played, play}
 use Rattle.c11ls.specs.Serve.{WereGiven, AreLeft, IsInterrupted}
 use Rattle.c11ls.proofs.Playing.{IsComplete, play_stays}

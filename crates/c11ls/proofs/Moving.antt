@@ -6,7 +6,7 @@ use Rattle.io_edges.specs.Wire.{Traffic, after_read, after_write, mark_of}
 use Rattle.io_edges.specs.declared.ends.Mark.{Mark}
 use Rattle.lsp_framing.specs.Frames.{frames}
 use Rattle.lsp_framing.specs.Standing.{IsEmptyOrOpen}
-use Rattle.c11ls.specs.Going.{Moves, moved, mark_at}
+use Rattle.c11ls.specs.Ties.Going.{Moves, moved, mark_at}
 use Rattle.c_session.specs.Handled.{Answered}
 use Rattle.c11ls.specs.Plain.{Played, Stop, Exited, Lacks, Through, played, plain}
 use Rattle.c11ls.specs.Serve.{IsPrompt, EachPrompt, EachWanted, IsThrough, most_read, ArePortions}

@@ -8,11 +8,11 @@ use Rattle.io_edges.specs.Wire.{Traffic, after_read}
 use Rattle.lsp_framing.specs.Standing.{Standing, Follows}
 use Rattle.lsp_framing.specs.declared.FrameKind.{FrameKind}
 use Rattle.lsp_framing.specs.declared.FrameKind.TheVariants.{Cut}
-use Rattle.c11ls.specs.Going.{Going, Settled, Ended, EndsInput, IsInStep}
+use Rattle.c11ls.specs.Ties.Going.{Going, Settled, Ended, EndsInput, IsInStep}
 use Rattle.project_conf.specs.declared.options.Options.{Options}
 use Rattle.c_session.specs.State.{State, fresh}
 use Rattle.c11ls.specs.Serve.{most_read}
-use Rattle.c11ls.specs.Turn.{IsCounted, Stands}
+use Rattle.c11ls.specs.Ties.Turn.{IsCounted, Stands}
 use Rattle.c11ls.specs.declared.status.Status.{Status}
 use Rattle.c11ls.specs.declared.status.Status.TheVariants.{Done, Unclean, Usage, BadFrame, ReadFault, WriteFault, StoreFault, NoMemory, LongInput}
 use Rattle.c11ls.proofs.EndingUp.{ends_empty, ends_cut}

@@ -3,7 +3,7 @@ use Rattle.std.proofs.Common.{◌≡◌, ℕ, List, [], ◌++◌, take, drop, le
 use Rattle.std.proofs.lemmas.List.{take-append-drop}
 use Rattle.std.proofs.Math.Seq.{take-append_seam}
 use Rattle.io_edges.specs.Wire.{Traffic, after_write}
-use Rattle.c11ls.specs.Turn.{Sent, SentFront}
+use Rattle.c11ls.specs.Ties.Turn.{Sent, SentFront}
 
 wrote_nothing : (w : Option Traffic) → w ≡ option_map (after_write []) w
 wrote_nothing None = refl

@@ -6,7 +6,7 @@ use Rattle.io_edges.specs.Store.{Entry}
 use Rattle.io_edges.specs.Wire.{Traffic}
 use Rattle.io_edges.specs.declared.ends.Mark.{Mark}
 use Rattle.c11ls.specs.Calls.{Call, call_of, since, IfTold, AddsUp}
-use Rattle.c11ls.specs.Going.{Ended, Outcome, IsServing, moved, mark_at}
+use Rattle.c11ls.specs.Ties.Going.{Ended, Outcome, IsServing, moved, mark_at}
 use Rattle.c11ls.specs.Plain.{Plain, Played}
 use Rattle.c11ls.specs.Exchanges.{HasAnswered}
 use Rattle.c11ls.specs.Serve.{HadNoEnd, HasWritten, HasUsed, HasVerdict, HasReadPortions, ArePrompt, AreWanted}

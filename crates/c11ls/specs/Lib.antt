@@ -1,9 +1,8 @@
 pub mod Calls
 pub mod Codes
 pub mod Exchanges
-pub mod Going
 pub mod Lines
 pub mod Plain
 pub mod Serve
 pub mod Served
-pub mod Turn
+pub mod Ties

@@ -1,11 +1,11 @@
 // The loops of a call: read, handle each whole frame, and read again.
 ghost use Rattle.std.specs.Prelude.{◌≡◌, ◌+◌, ◌<◌, ◌≤◌, ◌^◌, length, take, option_map, IfOk, IfSome, OnErr, MatchResult, vec_len, None, Some, []};
 ghost use Rattle.io_edges.specs.Wire.{after_read};
-ghost use Rattle.c11ls.specs.Going.{Drained, Ended, EndsInput, IsInStep};
-ghost use Rattle.c_session.specs.Sessions.{state_of, handled_by};
+ghost use Rattle.c11ls.specs.Ties.Going.{Drained, Ended, EndsInput, IsInStep};
+ghost use Rattle.c_session.specs.Ties.Sessions.{state_of, handled_by};
 ghost use Rattle.project_conf.specs.Defines.{AreUsable};
 ghost use Rattle.project_conf.specs.declared.options.Options.{Options};
-ghost use Rattle.c11ls.specs.Turn.{IsCounted};
+ghost use Rattle.c11ls.specs.Ties.Turn.{IsCounted};
 
 use crate::status::Status;
 use crate::turn::turn;

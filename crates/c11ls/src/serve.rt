@@ -2,10 +2,10 @@
 ghost use Rattle.std.specs.Prelude.{◌≡◌, ◌⊎◌, ◌↔◌, ◌+◌, ◌<◌, ◌≤◌, ◌^◌, length, true, false};
 ghost use Rattle.c11ls.specs.Calls.{IfTold};
 ghost use Rattle.c11ls.specs.Codes.{line_of};
-ghost use Rattle.c11ls.specs.Going.{Ended};
+ghost use Rattle.c11ls.specs.Ties.Going.{Ended};
 ghost use Rattle.c11ls.specs.Lines.{WritesLine};
 ghost use Rattle.c11ls.specs.Served.{Served};
-ghost use Rattle.c11ls.specs.Turn.{IsCounted};
+ghost use Rattle.c11ls.specs.Ties.Turn.{IsCounted};
 ghost use Rattle.project_conf.specs.Words.{texts, are_grammatical, serves, options_of};
 ghost use Rattle.std.specs.Prelude.{Some};
 

@@ -1,7 +1,7 @@
 // Handling one content, and writing its reply.
 ghost use Rattle.std.specs.Prelude.{◌≡◌, ◌+◌, ◌<◌, ◌^◌, None};
-ghost use Rattle.c_session.specs.Sessions.{state_of, handled_by};
-ghost use Rattle.c11ls.specs.Turn.{Turned, IsCounted};
+ghost use Rattle.c_session.specs.Ties.Sessions.{state_of, handled_by};
+ghost use Rattle.c11ls.specs.Ties.Turn.{Turned, IsCounted};
 
 use crate::status::Status;
 use crate::writing::write_reply;

@@ -1,7 +1,7 @@
 // Writing a reply to the wire.
 ghost use Rattle.std.specs.Prelude.{◌≡◌, ◌+◌, ◌<◌, ◌^◌, option_map, OnOk, OnErr, MatchResult};
 ghost use Rattle.io_edges.specs.Wire.{after_write};
-ghost use Rattle.c11ls.specs.Turn.{SentFront};
+ghost use Rattle.c11ls.specs.Ties.Turn.{SentFront};
 
 use io_edges::{Failed, Wire};
 

@@ -7,7 +7,8 @@ use Rattle.io_edges.specs.declared.ends.Found.{Found}
 use Rattle.asking.specs.Asking.{Asks}
 use Rattle.asking.proofs.InTurn.{after_append, then_answered}
 use Rattle.c_session.specs.Asking.{Asking, Gives, calls, asks_list, asks_read, and_then, after_all, next_call}
-use Rattle.c_session.specs.Handled.{Answered, Reached, GaveUp, IsFault, Refused}
+use Rattle.c_session.specs.Handled.{Answered, Reached}
+use Rattle.c_session.specs.Ties.Interrupted.{GaveUp, IsFault, Refused}
 use Rattle.c_session.specs.declared.error.SessionError.{SessionError}
 use Rattle.c_session.specs.declared.error.SessionError.TheVariants.{StoreFault, NoMemory}
 

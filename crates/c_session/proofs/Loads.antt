@@ -6,7 +6,8 @@ use Rattle.io_edges.specs.declared.ends.Listed.{Listed}
 use Rattle.doc_texts.specs.Texts.{Texts, texts_under}
 use Rattle.c_session.specs.Asking.{Asking, Gives, asks_read}
 use Rattle.c_session.specs.Files.{with_found, to_load, unreadable_logs}
-use Rattle.c_session.specs.Handled.{Reached, Refused, GaveUp, IsFault}
+use Rattle.c_session.specs.Handled.{Reached}
+use Rattle.c_session.specs.Ties.Interrupted.{Refused, GaveUp, IsFault}
 use Rattle.c_session.specs.Loading.{Loading, with_file, loads, loads_root, settles, load_log, is_read, read_back, updates_at, updates_all}
 use Rattle.c_session.specs.Params.{FileChange}
 use Rattle.c_session.specs.Reasons.{by_uri}

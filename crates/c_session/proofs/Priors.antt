@@ -17,7 +17,7 @@ use Rattle.doc_texts.specs.declared.error.DocError.{DocError}
 use Rattle.doc_texts.specs.declared.error.DocError.TheVariants.{OutsideRoot, AlreadyOpen, NotOpen, NotText, TooLong, TooManyFiles, TooMuchText}
 use Rattle.c_session.specs.Files.{with_found}
 use Rattle.c_session.specs.Loading.{Loading, settles}
-use Rattle.c_session.specs.News.{IsPrior, KeepsPrior, SameBut}
+use Rattle.c_session.specs.Ties.News.{IsPrior, KeepsPrior, SameBut}
 
 -- ---- maps
 
@@ -34,19 +34,19 @@ here m path x other same = get-insert nat_list_cmp_total m path x other ∙ ap (
 
 pub disk_differs : (t : Texts) (path text : List ℕ) → SameBut path t (with_disk t path text)
 unfolding text_at
-disk_differs t path text other apart = ap (shown (get t.opened other)) (elsewhere t.disk path text other apart)
+disk_differs t path text = record { others = λ other apart. ap (shown (get t.opened other)) (elsewhere t.disk path text other apart); root = refl }
 
 pub disk_dropped : (t : Texts) (path : List ℕ) → SameBut path t (without_disk t path)
 unfolding text_at
-disk_dropped t path other apart = ap (shown (get t.opened other)) (elsewhere_removed t.disk path other apart)
+disk_dropped t path = record { others = λ other apart. ap (shown (get t.opened other)) (elsewhere_removed t.disk path other apart); root = refl }
 
 pub open_differs : (t : Texts) (path : List ℕ) (document : OpenText) → SameBut path t (with_open t path document)
 unfolding text_at
-open_differs t path document other apart = ap (λ o. shown o (get t.disk other)) (elsewhere t.opened path document other apart)
+open_differs t path document = record { others = λ other apart. ap (λ o. shown o (get t.disk other)) (elsewhere t.opened path document other apart); root = refl }
 
 pub open_dropped : (t : Texts) (path : List ℕ) → SameBut path t (without_open t path)
 unfolding text_at
-open_dropped t path other apart = ap (λ o. shown o (get t.disk other)) (elsewhere_removed t.opened path other apart)
+open_dropped t path = record { others = λ other apart. ap (λ o. shown o (get t.disk other)) (elsewhere_removed t.opened path other apart); root = refl }
 
 -- an open document has its text
 pub open_shows : (t : Texts) (path : List ℕ) (document : OpenText) → text_at (with_open t path document) path ≡ Some document.text
@@ -132,7 +132,7 @@ closed_differs t t' path is = closes_if (contains_key t.opened path) t t' path (
 pub settled_differs : (log_of : DocError → List ℕ) (l l' : Loading) (path : List ℕ) (r : Result Texts DocError) →
     ((t : Texts) → r ≡ Ok t → SameBut path l.texts t) → l' ≡ settles log_of l r → SameBut path l.texts l'.texts
 settled_differs log_of l l' path (Ok t) differs is = subst (λ (x : Loading). SameBut path l.texts x.texts) (sym is) (differs t refl)
-settled_differs log_of l l' path (Err e) differs is = subst (λ (x : Loading). SameBut path l.texts x.texts) (sym is) (λ other apart. refl)
+settled_differs log_of l l' path (Err e) differs is = subst (λ (x : Loading). SameBut path l.texts x.texts) (sym is) (record { others = λ other apart. refl; root = refl })
 
 -- ---- what is remembered
 
@@ -164,8 +164,8 @@ module _ (start : Texts) (m : Prior) (t t' : Texts) (path : List ℕ) (differs :
 
   rest_by : (same contains : Bool) (other : List ℕ) → bytes_eq other path ≡ same → contains_key m path ≡ contains →
       get (cond contains m kept) other ≡ None → text_at t' other ≡ text_at start other
-  rest_by false true other e c g = differs other e ∙ is.rest other g
-  rest_by false false other e c g = differs other e ∙ is.rest other (sym (elsewhere m path (text_at t path) other e) ∙ g)
+  rest_by false true other e c g = differs.others other e ∙ is.rest other g
+  rest_by false false other e c g = differs.others other e ∙ is.rest other (sym (elsewhere m path (text_at t path) other e) ∙ g)
   rest_by true true other e c g = some_is_there (get m path) c (ap (get m) (sym ((bytes_eq-Decides other path).0 e)) ∙ g)
   rest_by true false other e c g = not_none (text_at t path) (sym (here m path (text_at t path) other e) ∙ g)
 
@@ -178,4 +178,11 @@ module _ (start : Texts) (m : Prior) (t t' : Texts) (path : List ℕ) (differs :
 
 -- a text is remembered, and changes
 pub keeps_prior : (m : Prior) (t t' : Texts) (path : List ℕ) → SameBut path t t' → KeepsPrior m t (remembered m t path) t'
-keeps_prior m t t' path differs start is = prior_kept start m t t' path differs is
+keeps_prior m t t' path differs = record { earlier = λ start is. prior_kept start m t t' path differs is; root = differs.root }
+
+-- nothing was remembered, and no text changed
+pub keeps_itself : (m : Prior) (t : Texts) → KeepsPrior m t m t
+keeps_itself m t = record { earlier = λ start is. is; root = refl }
+
+pub keeps_then : (m m' m'' : Prior) (t t' t'' : Texts) → KeepsPrior m t m' t' → KeepsPrior m' t' m'' t'' → KeepsPrior m t m'' t''
+keeps_then m m' m'' t t' t'' first second = record { earlier = λ start is. second.earlier start (first.earlier start is); root = second.root ∙ first.root }

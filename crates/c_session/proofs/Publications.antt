@@ -7,7 +7,7 @@ use Rattle.std.proofs.lemmas.Bool.{or_right}
 use Rattle.std.proofs.lemmas.Slice.Eq.{bytes_eq-Decides}
 use Rattle.doc_texts.specs.Texts.{Texts, text_at, same_text, path_set, paths_of, marked, add_all}
 use Rattle.doc_texts.specs.Prior.{Prior, is_changed}
-use Rattle.c_session.specs.News.{IsPrior, ByPath, is_told, news, may_have_news}
+use Rattle.c_session.specs.Ties.News.{IsPrior, ByPath, is_told, news, may_have_news}
 use Rattle.c_session.specs.Shown.{shows, has_news, is_published, publication, publications}
 use Rattle.c_session.specs.State.{State}
 use Rattle.c_session.proofs.Nothing.{nothing_of}

@@ -4,7 +4,7 @@ use Rattle.serde_json.specs.Data.{Data, string}
 use Rattle.serde_json.specs.View.{items_of}
 use Rattle.serde_json.specs.Written.{compact_text, items_text}
 use Rattle.serde_json.proofs.OnLiterals.{serde_json_on_literals}
-use Rattle.c_session.specs.Published.{number_data, publish_start, publish_end, version_part}
+use Rattle.c_session.specs.Ties.Published.{number_data, publish_start, publish_end, version_part}
 use Rattle.c_session.specs.Replies.{header, framed, publish, publish_data}
 
 -- the text as it is made of its members

@@ -6,7 +6,7 @@ use Rattle.std.specs.List.{list_any}
 use Rattle.std.proofs.lemmas.Bool.{or_parts}
 use Rattle.doc_texts.specs.Texts.{Texts, text_at, paths_of}
 use Rattle.doc_texts.specs.Prior.{Prior, remembered}
-use Rattle.c_session.specs.News.{IsPrior, all_remembered}
+use Rattle.c_session.specs.Ties.News.{IsPrior, all_remembered}
 use Rattle.c_session.proofs.PathSets.{or_none, swap_or, by_bytes, ties, tied_is, has_put, has_path}
 
 some_is : {X : Type 0} (x y : X) → Some x ≡ Some y → x ≡ y

@@ -13,15 +13,16 @@ use Rattle.doc_texts.specs.Prior.{Prior, remembered}
 use Rattle.doc_texts.specs.declared.error.DocError.{DocError}
 use Rattle.c_session.specs.Asking.{Asking, Gives, and_then}
 use Rattle.json_view.specs.declared.id.Id.{Id}
-use Rattle.c_session.specs.Handled.{Reached, Refused, GaveUp}
+use Rattle.c_session.specs.Handled.{Reached}
+use Rattle.c_session.specs.Ties.Interrupted.{Refused, GaveUp}
 use Rattle.c_session.specs.Loading.{Loading, read_back, updates_all, loads_root, did_change_watched}
-use Rattle.c_session.specs.News.{IsPrior, KeepsPrior, ByPath, HasPublished, news}
+use Rattle.c_session.specs.Ties.News.{IsPrior, KeepsPrior, ByPath, HasPublished, news}
 use Rattle.c_session.specs.Params.{FileChange, opening_in, changing_in}
 use Rattle.c_session.specs.React.{Outcome, Edited, tells, has_texts, edits, opened_by, changed_by, closes, did_close, watches, Beginning, begins, starts, invalid_params, on_message, asks}
 use Rattle.c_session.specs.Message.{Message, value_of, of_read}
 use Rattle.c_session.specs.Reasons.{Reason, reason_text, by_params, by_uri, by_texts, if_ok}
-use Rattle.c_session.specs.Refused.{reason, Answers, Leaves, edited, IsReply, IsBehind}
-use Rattle.c_session.specs.Sessions.{current_state, IsKept}
+use Rattle.c_session.specs.Ties.Refused.{reason, Answers, Leaves, edited, IsReply, IsBehind}
+use Rattle.c_session.specs.Ties.Sessions.{current_state, IsKept}
 use Rattle.c_session.specs.declared.current.Current.{Current}
 use Rattle.plain_mean.specs.Lists.{shown_in}
 use Rattle.c_session.specs.Replies as Replies
@@ -145,7 +146,7 @@ kept_behind (Err e) c t new same leaves was = subst IsKept (sym (same ∙ ap (λ
 -- the text that a document had before it was opened or changed
 edit_prior : (start t : Texts) (path : List ℕ) (none prior : Prior) → IsEdit path start t → none ≡ empty → prior ≡ remembered none start path → IsEdit path start t × IsPrior start prior t
 edit_prior start t path none prior edit nothing is =
-    (edit, subst (λ m. IsPrior start m t) (sym (is ∙ ap (λ m. remembered m start path) nothing)) (keeps_prior empty start t path edit.others start (nothing_remembered start)))
+    (edit, subst (λ m. IsPrior start m t) (sym (is ∙ ap (λ m. remembered m start path) nothing)) ((keeps_prior empty start t path edit.others).earlier start (nothing_remembered start)))
 
 pub opening_prior : (t t' : Texts) (params : Option Data) (r : Result (List ℕ) Refusal) (none prior : Prior) → none ≡ empty → IfOk r (λ path. prior ≡ remembered none t path) →
     IfOk r (λ path. opened_by t params ≡ Ok (edited t' path) → IsEdit path t t' × IsPrior t prior t')
@@ -185,7 +186,7 @@ pub closed_then : (s s1 s' : State) (meant : Result Edited Reason) (path bytes :
 closed_then s s1 s' meant path bytes before after prior old new meets settings is was are h =
     subst (λ m. Reached (closes s m) (Gives (tells s' bytes)) old new) (sym meets)
     (published_then s s' (read_back (record { texts = s1.texts; logs = [] }) path) bytes h.logs h.last before after old new h.reached
-    (h.settings ∙ ap (with_texts s'.texts) settings) (h.keeps s.texts is) was are
+    (h.settings ∙ ap (with_texts s'.texts) settings) (h.keeps.earlier s.texts is) was are
     (h.wrote ∙ ap (λ (x : State). h.logs ++ news [] x.encoding before after h.last s'.texts) settings))
 
 -- what reading a file back published
@@ -226,7 +227,7 @@ pub watched_then : (s s' : State) (changes : List FileChange) (bytes logs : List
     KeepsPrior empty s.texts prior s'.texts → ShowsAll s before → ShowsAll s' after → bytes ≡ logs ++ news [] s.encoding before after prior s'.texts →
     Reached (watches s (Ok changes)) (Gives (tells s' bytes)) old new
 watched_then s s' changes bytes logs before after prior old new reached settings keeps was are wrote =
-    published_then s s' (updates_all (record { texts = s.texts; logs = [] }) changes) bytes logs prior before after old new reached settings (keeps s.texts (nothing_remembered s.texts)) was are wrote
+    published_then s s' (updates_all (record { texts = s.texts; logs = [] }) changes) bytes logs prior before after old new reached settings (keeps.earlier s.texts (nothing_remembered s.texts)) was are wrote
 
 -- ---- the beginning
 
@@ -312,7 +313,7 @@ pub closes_tells : (s s1 s' : State) (meant : Result Edited Reason) (path bytes 
     meant ≡ Ok (edited s1.texts path) → s1 ≡ with_texts s1.texts s → prior0 ≡ empty → KeepsPrior prior0 s.texts prior s1.texts → ShowsAll s before → ShowsAll s' after →
     HasPublished (read_back (loaded_with s1.texts []) path) s1 s' bytes before after prior old new → Reached (closes s meant) (Gives (tells s' bytes)) old new
 closes_tells s s1 s' meant path bytes before after prior0 prior old new meets settings nothing keeps was are h =
-    closed_then s s1 s' meant path bytes before after prior old new meets settings (keeps s.texts (subst (λ (m : Prior). IsPrior s.texts m s.texts) (sym nothing) (nothing_remembered s.texts))) was are h
+    closed_then s s1 s' meant path bytes before after prior old new meets settings (keeps.earlier s.texts (subst (λ (m : Prior). IsPrior s.texts m s.texts) (sym nothing) (nothing_remembered s.texts))) was are h
 
 -- the texts that the session begins with
 abbrev pub begun : State → Texts → Encoding → State

@@ -1,13 +1,12 @@
 -- What the handling of one content does: what the plain server's reaction does, with the store's answers that it got.
-use Rattle.std.specs.Prelude.{◌≡◌, ◌<◌, ℕ, List, ◌++◌, Option, Some, option_map}
-use Rattle.io_edges.specs.Store.{Call, Entry}
-use Rattle.io_edges.specs.declared.ends.StoreFail.{StoreFail}
-use Rattle.io_edges.specs.declared.ends.StoreFail.TheVariants as fail
-use Rattle.c_session.specs.Asking.{Asking, Gives, after_all, next_call}
+use Rattle.std.specs.Prelude.{◌≡◌, ◌+◌, ℕ, false, List, ◌++◌, length, Option, Some, option_map}
+use Rattle.io_edges.specs.Store.{Entry}
+use Rattle.doc_texts.specs.Texts.{text_at, same_text}
+use Rattle.plain_mean.specs.Shown.{units}
+use Rattle.c_session.specs.Asking.{Asking, Gives, after_all}
 use Rattle.c_session.specs.React.{Outcome, asks}
 use Rattle.c_session.specs.State.{State}
-use Rattle.c_session.specs.declared.error.SessionError.{SessionError}
-use Rattle.c_session.specs.declared.error.SessionError.TheVariants.{StoreFault, NoMemory}
+use Rattle.c_session.specs.declared.phase.Phase.TheVariants.{Fresh, Running}
 
 -- The store answered these entries between two moments; what it tells, it tells at both.
 abbrev pub Answered : List Entry → Option (List Entry) → Option (List Entry) → Type 0
@@ -19,37 +18,20 @@ pub record Reached {A : Type 0} (asking next : Asking A) (old new : Option (List
   pub answered : Answered added old new
   pub follows : after_all asking added ≡ Some next
 
--- The store failed at the call that is asked next.
-pub record Failed {A : Type 0} (asking : Asking A) (old new : Option (List Entry)) : Type 0 where
-  pub next : Asking A
-  pub reached : Reached asking next old new
-  pub call : Call
-  pub asked : next_call next ≡ Some call
-
--- Memory was wanted on the way.
-pub record GaveUp {A : Type 0} (asking : Asking A) (old new : Option (List Entry)) : Type 0 where
-  pub next : Asking A
-  pub reached : Reached asking next old new
-
--- what a refusal of the store is to the session
-abbrev pub session_error : StoreFail → SessionError
-session_error fail.Failed = StoreFault
-session_error fail.NoMemory = NoMemory
-
--- how a refused call of the store leaves its count of faults
-abbrev pub IsFault : SessionError → ℕ → ℕ → Type 0
-IsFault StoreFault faults faults' = faults < faults'
-IsFault NoMemory faults faults' = faults' ≡ faults
-
--- Why something that asks the store gave no result: the store's count of faults rose, or memory was wanted. Each answer
--- that the store gave was to the call that was asked.
-abbrev pub Refused : {A : Type 0} → SessionError → Asking A → Option (List Entry) → Option (List Entry) → ℕ → ℕ → Type 0
-Refused StoreFault asking old new faults faults' = (faults < faults') × Failed asking old new
-Refused NoMemory asking old new faults faults' = (faults' ≡ faults) × GaveUp asking old new
-
 abbrev pub outcome : State → List ℕ → Option ℕ → Outcome
 outcome s bytes end = record { state = s; bytes = bytes; end = end }
 
 -- The reply and the next state are the reaction to the content.
 abbrev pub Handled : State → List ℕ → State → List ℕ → Option ℕ → Option (List Entry) → Option (List Entry) → Type 0
 Handled s content s' bytes end old new = Reached (asks s content) (Gives (outcome s' bytes end)) old new
+
+-- The session began with a message, or the message left some file another text.
+pub data Differ (s s' : State) : Type 0 where
+  Began : s.phase ≡ Fresh → s'.phase ≡ Running → Differ s s'
+  DifferAt : (path : List ℕ) → same_text (text_at s.texts path) (text_at s'.texts path) ≡ false → Differ s s'
+
+-- How the counter of steps stands behind a message: no unit was worked out, or, where texts differ, each unit of those that it
+-- left, once.
+pub data IsWork (s s' : State) (old new : ℕ) : Type 0 where
+  NoUnit : new ≡ old → IsWork s s' old new
+  EachUnit : Differ s s' → new ≡ old + length (units s'.texts) → IsWork s s' old new

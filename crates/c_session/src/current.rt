@@ -1,30 +1,36 @@
 // What the server keeps between two contents, and its reaction to a message.
-ghost use Rattle.std.specs.Prelude.{◌≡◌, ◌≢◌, ◌+◌, ◌++◌, ◌<◌, ◌^◌, [], length, None, Some, Ok, IfOk, IfErr, OnOk, option_map, map, codes};
+ghost use Rattle.std.specs.Prelude.{◌≡◌, ◌≢◌, ◌+◌, ◌++◌, ◌<◌, ◌^◌, ℕ, false, List, [], length, None, Some, Ok, IfOk, IfErr, OnOk, option_map, map, codes};
+ghost use Rattle.doc_texts.specs.Prior.{Prior};
+ghost use Rattle.doc_texts.specs.Texts.{Texts};
 ghost use Rattle.serde_json.specs.View.{view};
 ghost use Rattle.c_session.specs.Asking.{Gives};
-ghost use Rattle.c_session.specs.Handled.{Reached, Refused};
+ghost use Rattle.c_session.specs.Handled.{Reached, IsWork};
+ghost use Rattle.c_session.specs.Ties.Interrupted.{Refused};
 ghost use Rattle.c_session.specs.React.{tells, edits, opened_by, changed_by, closed_by, closes, watches, starts, beginning_by, begins, did_open, did_change, running_request, running_notification, fresh_request, on_request, on_notification, on_other, on_message, rejects, invalid_params};
 ghost use Rattle.c_session.specs.Params.{watching_in};
 ghost use Rattle.c_session.specs.Reasons.{reason_text, by_params};
-ghost use Rattle.c_session.specs.Refused.{reason, IsReply, IsBehind};
+ghost use Rattle.c_session.specs.Ties.Refused.{reason, IsReply, IsBehind, IsKeptBy, IsWorked};
 ghost use Rattle.c_session.specs.Loading.{read_back};
-ghost use Rattle.c_session.specs.News.{touched_by, news, HasPublished};
+ghost use Rattle.c_session.specs.Ties.News.{KeepsPrior, any_changed, touched_by, news, HasPublished};
+ghost use Rattle.plain_mean.specs.Given.{text_in};
 ghost use Rattle.plain_mean.specs.Lists.{AreShown, shown_in};
 ghost use Rattle.plain_mean.specs.Shown.{units};
+ghost use Rattle.plain_mean.specs.Within.{AreWithin};
 ghost use Rattle.project_conf.specs.Defines.{AreUsable};
 ghost use Rattle.c_session.specs.Replies.{log, error};
-ghost use Rattle.c_session.specs.SeenParams.{seen_file_change};
-ghost use Rattle.c_session.specs.Seen.{seen};
-ghost use Rattle.c_session.specs.Sessions.{current_state, loading, outcome_of, IsKept, IsWork};
+ghost use Rattle.c_session.specs.Ties.SeenParams.{seen_file_change};
+ghost use Rattle.c_session.specs.Ties.Seen.{seen};
+ghost use Rattle.c_session.specs.Ties.Sessions.{current_state, loading, outcome_of, IsKept, WereKept, WereShown, worked};
 ghost use Rattle.c_session.specs.Shown.{conf_in};
-ghost use Rattle.c_session.specs.State.{fresh};
+ghost use Rattle.c_session.specs.State.{fresh, with_texts};
+ghost use Rattle.c_session.specs.declared.phase.Phase.TheVariants.{Fresh};
 ghost use Rattle.c_session.specs.declared.reasons.Refusal.TheVariants.{NoMemory};
 
 use crate::documents::{change_document, close_document, open_document};
 use crate::error::SessionError;
 use crate::loading::read_back;
 use crate::message::Message;
-use crate::news::{Change, prior_of, push_news};
+use crate::news::{Change, any_changed, prior_of, push_news};
 use crate::params::{FileChange, watching_in};
 use crate::phase::Phase;
 use crate::reasons::Refusal;
@@ -35,7 +41,7 @@ use crate::words::Words;
 use doc_texts::{Docs, PriorTexts};
 use io_edges::Store;
 use json_view::Id;
-use plain_mean::{ShownLists, shown_lists};
+use plain_mean::{ShownLists, shown_follows, shown_lists};
 use project_conf::Options;
 use serde_json::Value;
 use shared_list::Listing;
@@ -143,9 +149,10 @@ impl Current {
         prior: &PriorTexts,
         steps: &mut Steps<L>,
     ) -> Result<Vec<u8>, AllocError>
+        requires kept { IsKeptBy edited prior.now self.old }
         ensures reply { IfOk result (λ v. IsReply method.now self.old.docs self.old.encoding edited v.items (shown_in self.old.shown) (shown_in self.new.shown) prior.now) }
         ensures behind { OnOk result (IsBehind edited self.old self.new) }
-        ensures steps { OnOk result (IsWork self.new.docs steps.old steps.new) }
+        ensures steps { OnOk result (IsWorked edited prior.now self.old.docs steps.old steps.new) }
         ensures same { OnOk result (current_state self.new ≡ current_state self.old) }
     {
         match edited {
@@ -169,7 +176,7 @@ impl Current {
         requires { IsKept self.old }
         ensures told { IfOk result (λ v. edits (current_state self.old) did_open (opened_by self.old.docs (option_map (λ v. view v.now) params.entry)) ≡ tells (current_state self.new) v.items) }
         ensures kept { OnOk result (IsKept self.new) }
-        ensures steps { OnOk result (IsWork self.new.docs steps.old steps.new) }
+        ensures steps { OnOk result (IsWork (current_state self.old) (current_state self.new) steps.old steps.new) }
     {
         let mut prior = PriorTexts::new(self.alloc);
         let edited = open_document(self.alloc, &mut self.docs, &mut prior, params);
@@ -186,7 +193,7 @@ impl Current {
         requires { IsKept self.old }
         ensures told { IfOk result (λ v. edits (current_state self.old) did_change (changed_by self.old.docs self.old.encoding (option_map (λ v. view v.now) params.entry)) ≡ tells (current_state self.new) v.items) }
         ensures kept { OnOk result (IsKept self.new) }
-        ensures steps { OnOk result (IsWork self.new.docs steps.old steps.new) }
+        ensures steps { OnOk result (IsWork (current_state self.old) (current_state self.new) steps.old steps.new) }
     {
         let mut prior = PriorTexts::new(self.alloc);
         let edited = change_document(
@@ -221,8 +228,24 @@ impl Current {
     }
 
     /// A response, and behind it log messages and the diagnostics of the files that have news, and of the one that was opened
-    /// or changed. What the files show is worked out anew.
-    fn finish<L: Ledger>(
+    /// or changed.
+    fn told(
+        &self,
+        response: Vec<u8>,
+        logs: &[u8],
+        change: Change<'_>,
+    ) -> Result<Vec<u8>, AllocError>
+        requires within { (q : List ℕ) → AreWithin (length (text_in self.now.docs q)) (shown_in change.after.now q) }
+        ensures { IfOk result (λ v. v.items ≡ (response.items ++ logs.now) ++ news (touched_by (option_map (λ p. p.now) change.entry.touched)) self.now.encoding (shown_in change.entry.before.now) (shown_in change.entry.after.now) change.entry.prior.now self.now.docs) }
+    {
+        let mut out = response;
+        out.extend_from_slice(logs)?;
+        push_news(self.alloc, &mut out, &self.docs, self.encoding, change)?;
+        Ok(out)
+    }
+
+    /// The same, where what the files show is worked out anew.
+    fn finish_anew<L: Ledger>(
         &mut self,
         response: Vec<u8>,
         logs: &[u8],
@@ -236,17 +259,43 @@ impl Current {
         ensures same { OnOk result (current_state self.new ≡ current_state self.old) }
     {
         let after = self.shown_now(steps)?;
-        let mut out = response;
-        out.extend_from_slice(logs)?;
         let change = Change {
             before: &self.shown,
             after: &after,
             prior,
             touched,
         };
-        push_news(self.alloc, &mut out, &self.docs, self.encoding, change)?;
+        let out = self.told(response, logs, change)?;
         self.shown = after;
         Ok(out)
+    }
+
+    /// The same, where what the files show is worked out anew if some text differs, and else stays.
+    fn finish<L: Ledger>(
+        &mut self,
+        response: Vec<u8>,
+        logs: &[u8],
+        prior: &PriorTexts,
+        touched: Option<&Path>,
+        steps: &mut Steps<L>,
+    ) -> Result<Vec<u8>, AllocError>
+        requires kept { any_changed prior.now self.old.docs ≡ false → WereKept self.old }
+        ensures wrote { IfOk result (λ v. v.items ≡ (response.items ++ logs.now) ++ news (touched_by (option_map (λ p. p.now) touched.entry)) self.old.encoding (shown_in self.old.shown) (shown_in self.new.shown) prior.now self.old.docs) }
+        ensures kept { OnOk result (IsKept self.new) }
+        ensures steps { OnOk result (steps.new ≡ worked (any_changed prior.now self.old.docs) self.old.docs steps.old) }
+        ensures same { OnOk result (current_state self.new ≡ current_state self.old) }
+    {
+        if any_changed(&self.docs, prior)? {
+            return self.finish_anew(response, logs, prior, touched, steps);
+        }
+        shown_follows();
+        let change = Change {
+            before: &self.shown,
+            after: &self.shown,
+            prior,
+            touched,
+        };
+        self.told(response, logs, change)
     }
 
     /// `textDocument/didClose`.
@@ -260,7 +309,7 @@ impl Current {
         requires kept { IsKept self.old }
         ensures handled { IfOk result (λ v. Reached (closes (current_state self.old) (closed_by self.old.docs (option_map (λ v. view v.now) params.entry))) (Gives (tells (current_state self.new) v.items)) (D.answers store.old) (D.answers store.new)) }
         ensures kept { OnOk result (IsKept self.new) }
-        ensures steps { OnOk result (IsWork self.new.docs steps.old steps.new) }
+        ensures steps { OnOk result (IsWork (current_state self.old) (current_state self.new) steps.old steps.new) }
         ensures counted { OnOk result (D.faults store.new ≡ D.faults store.old) }
         ensures refused { IfErr result (λ e. Refused e (closes (current_state self.old) (closed_by self.old.docs (option_map (λ v. view v.now) params.entry))) (D.answers store.old) (D.answers store.new) (D.faults store.old) (D.faults store.new)) }
     {
@@ -285,10 +334,12 @@ impl Current {
         store: &mut D,
         steps: &mut Steps<L>,
     ) -> Result<Vec<u8>, SessionError>
-        requires { D.faults store.old + 1 < 2 ^ 64 }
+        requires store { D.faults store.old + 1 < 2 ^ 64 }
+        requires kept { (last : Prior) (t : Texts) → KeepsPrior prior.old self.old.docs last t → any_changed last t ≡ false → WereShown t (conf_in (with_texts t (current_state self.old))) self.old.shown }
         ensures handled { IfOk result (λ v. HasPublished (read_back (loading self.old.docs []) path.now) (current_state self.old) (current_state self.new) v.items (shown_in self.old.shown) (shown_in self.new.shown) prior.old (D.answers store.old) (D.answers store.new)) }
         ensures kept { OnOk result (IsKept self.new) }
-        ensures steps { OnOk result (IsWork self.new.docs steps.old steps.new) }
+        ensures prior { OnOk result (KeepsPrior prior.old self.old.docs prior.new self.new.docs) }
+        ensures steps { OnOk result (steps.new ≡ worked (any_changed prior.new self.new.docs) self.new.docs steps.old) }
         ensures counted { OnOk result (D.faults store.new ≡ D.faults store.old) }
         ensures refused { IfErr result (λ e. Refused e (read_back (loading self.old.docs []) path.now) (D.answers store.old) (D.answers store.new) (D.faults store.old) (D.faults store.new)) }
     {
@@ -314,7 +365,7 @@ impl Current {
         requires kept { IsKept self.old }
         ensures handled { IfOk result (λ v. Reached (watches (current_state self.old) (by_params (watching_in (option_map (λ v. view v.now) params.entry)))) (Gives (tells (current_state self.new) v.items)) (D.answers store.old) (D.answers store.new)) }
         ensures kept { OnOk result (IsKept self.new) }
-        ensures steps { OnOk result (IsWork self.new.docs steps.old steps.new) }
+        ensures steps { OnOk result (IsWork (current_state self.old) (current_state self.new) steps.old steps.new) }
         ensures counted { OnOk result (D.faults store.new ≡ D.faults store.old) }
         ensures refused { IfErr result (λ e. Refused e (watches (current_state self.old) (by_params (watching_in (option_map (λ v. view v.now) params.entry)))) (D.answers store.old) (D.answers store.new) (D.faults store.old) (D.faults store.new)) }
     {
@@ -344,7 +395,7 @@ impl Current {
         requires kept { IsKept self.old }
         ensures handled { IfOk result (λ v. Reached (watches (current_state self.old) (Ok (map seen_file_change changes.now))) (Gives (tells (current_state self.new) v.items)) (D.answers store.old) (D.answers store.new)) }
         ensures kept { OnOk result (IsKept self.new) }
-        ensures steps { OnOk result (IsWork self.new.docs steps.old steps.new) }
+        ensures steps { OnOk result (IsWork (current_state self.old) (current_state self.new) steps.old steps.new) }
         ensures counted { OnOk result (D.faults store.new ≡ D.faults store.old) }
         ensures refused { IfErr result (λ e. Refused e (watches (current_state self.old) (Ok (map seen_file_change changes.now))) (D.answers store.old) (D.answers store.new) (D.faults store.old) (D.faults store.new)) }
     {
@@ -375,10 +426,11 @@ impl Current {
         loaded: Loaded,
         steps: &mut Steps<L>,
     ) -> Result<Vec<u8>, AllocError>
-        requires { IsKept self.old }
+        requires kept { IsKept self.old }
+        requires fresh { self.old.phase ≡ Fresh }
         ensures told { IfOk result (λ v. begins (current_state self.old) id.now encoding (loading loaded.docs loaded.logs.items) ≡ tells (current_state self.new) v.items) }
         ensures kept { OnOk result (IsKept self.new) }
-        ensures steps { OnOk result (IsWork self.new.docs steps.old steps.new) }
+        ensures steps { OnOk result (IsWork (current_state self.old) (current_state self.new) steps.old steps.new) }
     {
         let Loaded { docs, logs } = loaded;
         let prior = prior_of(self.alloc, &self.docs, &docs)?;
@@ -387,7 +439,7 @@ impl Current {
         self.docs = docs;
         self.encoding = encoding;
         self.phase = Phase::Running;
-        match self.finish(bytes, logs.as_slice(), &prior, None, steps) {
+        match self.finish_anew(bytes, logs.as_slice(), &prior, None, steps) {
             Ok(bytes) => Ok(bytes),
             Err(_) => Err(AllocError),
         }
@@ -403,9 +455,10 @@ impl Current {
     ) -> Result<Vec<u8>, SessionError>
         requires store { D.faults store.old + 1 < 2 ^ 64 }
         requires kept { IsKept self.old }
+        requires fresh { self.old.phase ≡ Fresh }
         ensures handled { IfOk result (λ v. Reached (starts (current_state self.old) id.now (beginning_by (option_map (λ v. view v.now) params.entry))) (Gives (tells (current_state self.new) v.items)) (D.answers store.old) (D.answers store.new)) }
         ensures kept { OnOk result (IsKept self.new) }
-        ensures steps { OnOk result (IsWork self.new.docs steps.old steps.new) }
+        ensures steps { OnOk result (IsWork (current_state self.old) (current_state self.new) steps.old steps.new) }
         ensures counted { OnOk result (D.faults store.new ≡ D.faults store.old) }
         ensures refused { IfErr result (λ e. Refused e (starts (current_state self.old) id.now (beginning_by (option_map (λ v. view v.now) params.entry))) (D.answers store.old) (D.answers store.new) (D.faults store.old) (D.faults store.new)) }
     {
@@ -441,9 +494,10 @@ impl Current {
     ) -> Result<Vec<u8>, SessionError>
         requires store { D.faults store.old + 1 < 2 ^ 64 }
         requires kept { IsKept self.old }
+        requires fresh { self.old.phase ≡ Fresh }
         ensures handled { IfOk result (λ v. Reached (fresh_request (current_state self.old) id.now method.now (option_map (λ v. view v.now) params.entry)) (Gives (tells (current_state self.new) v.items)) (D.answers store.old) (D.answers store.new)) }
         ensures kept { OnOk result (IsKept self.new) }
-        ensures steps { OnOk result (IsWork self.new.docs steps.old steps.new) }
+        ensures steps { OnOk result (IsWork (current_state self.old) (current_state self.new) steps.old steps.new) }
         ensures counted { OnOk result (D.faults store.new ≡ D.faults store.old) }
         ensures refused { IfErr result (λ e. Refused e (fresh_request (current_state self.old) id.now method.now (option_map (λ v. view v.now) params.entry)) (D.answers store.old) (D.answers store.new) (D.faults store.old) (D.faults store.new)) }
     {
@@ -486,7 +540,7 @@ impl Current {
         requires kept { IsKept self.old }
         ensures handled { IfOk result (λ v. Reached (on_request self.old.phase (current_state self.old) id.now method.now (option_map (λ v. view v.now) params.entry)) (Gives (tells (current_state self.new) v.items)) (D.answers store.old) (D.answers store.new)) }
         ensures kept { OnOk result (IsKept self.new) }
-        ensures steps { OnOk result (IsWork self.new.docs steps.old steps.new) }
+        ensures steps { OnOk result (IsWork (current_state self.old) (current_state self.new) steps.old steps.new) }
         ensures counted { OnOk result (D.faults store.new ≡ D.faults store.old) }
         ensures refused { IfErr result (λ e. Refused e (on_request self.old.phase (current_state self.old) id.now method.now (option_map (λ v. view v.now) params.entry)) (D.answers store.old) (D.answers store.new) (D.faults store.old) (D.faults store.new)) }
     {
@@ -516,7 +570,7 @@ impl Current {
         requires kept { IsKept self.old }
         ensures handled { IfOk result (λ v. Reached (running_notification (current_state self.old) method.now (option_map (λ v. view v.now) params.entry)) (Gives (tells (current_state self.new) v.items)) (D.answers store.old) (D.answers store.new)) }
         ensures kept { OnOk result (IsKept self.new) }
-        ensures steps { OnOk result (IsWork self.new.docs steps.old steps.new) }
+        ensures steps { OnOk result (IsWork (current_state self.old) (current_state self.new) steps.old steps.new) }
         ensures counted { OnOk result (D.faults store.new ≡ D.faults store.old) }
         ensures refused { IfErr result (λ e. Refused e (running_notification (current_state self.old) method.now (option_map (λ v. view v.now) params.entry)) (D.answers store.old) (D.answers store.new) (D.faults store.old) (D.faults store.new)) }
     {
@@ -554,7 +608,7 @@ impl Current {
         requires kept { IsKept self.old }
         ensures handled { IfOk result (λ reply. Reached (on_notification (current_state self.old) method.now (option_map (λ v. view v.now) params.entry)) (Gives (outcome_of self.new reply)) (D.answers store.old) (D.answers store.new)) }
         ensures kept { OnOk result (IsKept self.new) }
-        ensures steps { OnOk result (IsWork self.new.docs steps.old steps.new) }
+        ensures steps { OnOk result (IsWork (current_state self.old) (current_state self.new) steps.old steps.new) }
         ensures counted { OnOk result (D.faults store.new ≡ D.faults store.old) }
         ensures refused { IfErr result (λ e. Refused e (on_notification (current_state self.old) method.now (option_map (λ v. view v.now) params.entry)) (D.answers store.old) (D.answers store.new) (D.faults store.old) (D.faults store.new)) }
     {
@@ -606,7 +660,7 @@ impl Current {
         requires kept { IsKept self.old }
         ensures handled { IfOk result (λ reply. Reached (on_message (current_state self.old) (seen message.now)) (Gives (outcome_of self.new reply)) (D.answers store.old) (D.answers store.new)) }
         ensures kept { OnOk result (IsKept self.new) }
-        ensures steps { OnOk result (IsWork self.new.docs steps.old steps.new) }
+        ensures steps { OnOk result (IsWork (current_state self.old) (current_state self.new) steps.old steps.new) }
         ensures counted { OnOk result (D.faults store.new ≡ D.faults store.old) }
         ensures refused { IfErr result (λ e. Refused e (on_message (current_state self.old) (seen message.now)) (D.answers store.old) (D.answers store.new) (D.faults store.old) (D.faults store.new)) }
     {

@@ -4,7 +4,7 @@ ghost use Rattle.serde_json.specs.View.{view, items_of};
 ghost use Rattle.serde_json.specs.Written.{compact_text, items_text, comma_if};
 ghost use Rattle.plain_mean.specs.Within.{AreWithin};
 ghost use Rattle.c_session.specs.Replies.{severity, pos_data, fault_data, diagnostic_data, diagnostic, publish};
-ghost use Rattle.c_session.specs.Published.{number_data, publish_start, publish_end, version_part};
+ghost use Rattle.c_session.specs.Ties.Published.{number_data, publish_start, publish_end, version_part};
 ghost use Rattle.serde_json.specs.Data.{string};
 
 use crate::replies::push_framed;
@@ -155,7 +155,7 @@ fn push_version(alloc: Global, body: &mut String, version: Option<i32>) -> Resul
 }
 
 /// Writes what follows the Diagnostics.
-#[tactic(auto, unfolding(crate::specs::Published::publish_end))]
+#[tactic(auto, unfolding(crate::specs::Ties::Published::publish_end))]
 fn push_end(
     alloc: Global,
     body: &mut String,

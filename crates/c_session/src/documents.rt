@@ -5,8 +5,8 @@ ghost use Rattle.uri_paths.specs.Uris.{path_of_uri};
 ghost use Rattle.doc_texts.specs.Prior.{remembered};
 ghost use Rattle.c_session.specs.React.{opened_by, changed_by, closing_path, closed_by};
 ghost use Rattle.c_session.specs.Reasons.{by_uri};
-ghost use Rattle.c_session.specs.News.{KeepsPrior};
-ghost use Rattle.c_session.specs.Refused.{Answers, Leaves, edited};
+ghost use Rattle.c_session.specs.Ties.News.{KeepsPrior};
+ghost use Rattle.c_session.specs.Ties.Refused.{Answers, Leaves, edited};
 
 use crate::params::{changing_in, closing_in, opening_in};
 use crate::reasons::Refusal;

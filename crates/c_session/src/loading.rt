@@ -4,11 +4,12 @@ ghost use Rattle.io_edges.specs.Store.{Reads, after_answer};
 ghost use Rattle.doc_texts.specs.Docs.{IsDone};
 ghost use Rattle.c_session.specs.Asking.{Gives};
 ghost use Rattle.c_session.specs.Files.{with_found};
-ghost use Rattle.c_session.specs.Handled.{Reached, Refused, IsFault, session_error};
+ghost use Rattle.c_session.specs.Handled.{Reached};
+ghost use Rattle.c_session.specs.Ties.Interrupted.{Refused, IsFault, session_error};
 ghost use Rattle.c_session.specs.Loading.{with_file, loads, load_log, settles, read_back};
-ghost use Rattle.c_session.specs.News.{KeepsPrior};
+ghost use Rattle.c_session.specs.Ties.News.{KeepsPrior};
 ghost use Rattle.c_session.specs.Replies.{log};
-ghost use Rattle.c_session.specs.Sessions.{loading};
+ghost use Rattle.c_session.specs.Ties.Sessions.{loading};
 
 use crate::error::SessionError;
 use crate::files::is_read;

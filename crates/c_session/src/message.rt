@@ -4,7 +4,7 @@ ghost use Rattle.std.specs.Result.{result_ok};
 ghost use Rattle.serde_json.specs.View.{view};
 ghost use Rattle.json_view.specs.Members.{id_of};
 ghost use Rattle.c_session.specs.Message.{value_of, of_value, of_read};
-ghost use Rattle.c_session.specs.Seen.{seen};
+ghost use Rattle.c_session.specs.Ties.Seen.{seen};
 
 use json_view::{Id, ViewError, get_id};
 use serde_json::Value;

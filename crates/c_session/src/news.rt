@@ -6,7 +6,7 @@ ghost use Rattle.plain_mean.specs.Given.{text_in};
 ghost use Rattle.plain_mean.specs.Lists.{shown_in};
 ghost use Rattle.plain_mean.specs.Within.{AreWithin};
 ghost use Rattle.c_session.specs.Shown.{same_fault, same_list, has_news, uri_for, publication};
-ghost use Rattle.c_session.specs.News.{IsPrior, all_remembered, touched_by, is_told, news_of, may_have_news, news};
+ghost use Rattle.c_session.specs.Ties.News.{IsPrior, any_changed, all_remembered, touched_by, is_told, news_of, may_have_news, news};
 
 use crate::diagnostics::{Showing, push_diagnostics_of};
 use doc_texts::{Docs, PathSet, PriorTexts};
@@ -136,6 +136,21 @@ fn push_news_of(
         return Ok(());
     }
     push_shown(alloc, out, docs, encoding, path, change.after.of(path))
+}
+
+/// Whether some file has another text than the one that is kept for it.
+pub(crate) fn any_changed(docs: &Docs, prior: &PriorTexts) -> Result<bool, AllocError>
+    ensures { IfOk result (λ differs. differs ≡ any_changed prior.now docs.now) }
+{
+    let paths = prior.paths()?;
+    let mut rest = paths.as_slice();
+    'paths: while let Some((path, behind)) = rest.split_first() {
+        rest = behind;
+        if prior.is_changed(docs, path) {
+            return Ok(true);
+        }
+    }
+    Ok(false)
 }
 
 fn add_paths(set: &mut PathSet, paths: Vec<Path>) -> Result<(), AllocError>

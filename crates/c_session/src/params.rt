@@ -9,7 +9,7 @@ ghost use Rattle.json_view.specs.Members.{object_in, array_of};
 ghost use Rattle.json_view.specs.Refusals.{NoMemory, seen, and_then};
 ghost use Rattle.c_session.specs.Params.{given, each_in, params_of, document_in, opening_in, closing_in, change_range, change_in, changing_in, kind_in, file_change_in, watching_in};
 ghost use Rattle.c_session.specs.Params.{root_uri_in, folder_uri_in, folder_uris_in, first_of, encoding_named, first_named, offers_in, chosen, starting_in};
-ghost use Rattle.c_session.specs.SeenParams.{seen_opening, seen_changing, seen_file_change, seen_starting};
+ghost use Rattle.c_session.specs.Ties.SeenParams.{seen_opening, seen_changing, seen_file_change, seen_starting};
 
 use json_view::{ViewError, get_array, get_i32, get_object, get_range, get_str, get_text, get_u32};
 use serde_json::Value;

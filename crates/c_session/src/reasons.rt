@@ -1,6 +1,6 @@
 // Why the params of a message are refused.
 ghost use Rattle.std.specs.Prelude.{◌≡◌, ◌≢◌, IfOk, string_bytes};
-ghost use Rattle.c_session.specs.Refused.{reason, of_params, of_uri, of_texts};
+ghost use Rattle.c_session.specs.Ties.Refused.{reason, of_params, of_uri, of_texts};
 ghost use Rattle.c_session.specs.Reasons.{reason_text};
 ghost use Rattle.c_session.specs.declared.reasons.Refusal.TheVariants.{NoMemory};
 

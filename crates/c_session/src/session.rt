@@ -1,10 +1,11 @@
 // The session with one client, and how it handles a content.
 ghost use Rattle.std.specs.Prelude.{◌≡◌, ◌+◌, ◌<◌, ◌^◌, true, IfOk, IfErr, OnOk};
-ghost use Rattle.c_session.specs.Handled.{Handled, Refused};
+ghost use Rattle.c_session.specs.Handled.{Handled, IsWork};
+ghost use Rattle.c_session.specs.Ties.Interrupted.{Refused};
 ghost use Rattle.c_session.specs.Message.{message};
 ghost use Rattle.c_session.specs.React.{asks};
 ghost use Rattle.c_session.specs.Responses.{IsAnswered, IsRefusal};
-ghost use Rattle.c_session.specs.Sessions.{state_of, handled_by, is_whole, current_state, IsKept, IsWork};
+ghost use Rattle.c_session.specs.Ties.Sessions.{state_of, handled_by, is_whole, current_state, IsKept};
 ghost use Rattle.c_session.specs.State.{fresh};
 ghost use Rattle.project_conf.specs.Defines.{AreUsable};
 
@@ -29,7 +30,7 @@ pub struct Session {
 
 impl Model for Session {
     ghost use Rattle.std.specs.Prelude.{◌≡◌, true};
-    ghost use Rattle.c_session.specs.Sessions.{SessionView, current_state, IsKept};
+    ghost use Rattle.c_session.specs.Ties.Sessions.{SessionView, current_state, IsKept};
     ghost use Rattle.std.specs.Coded.{codes};
     ghost use Rattle.doc_texts.specs.Texts.{texts_code};
 
@@ -83,8 +84,8 @@ impl Session {
     }
 
     /// Handles one content: what the plain server does with it, asking the store for what that wants. Each answer that
-    /// the store gives was wanted then. A content that is refused leaves the state. Where texts were opened, changed, closed or
-    /// loaded, each unit of the texts is worked out, which is one step each, and otherwise none is. After an error of this call
+    /// the store gives was wanted then. A content that is refused leaves the state. Where the session began,
+    /// or some file has another text than before, each unit of the texts is worked out, which is one step each, and otherwise none is. After an error of this call
     /// the session isn't used again.
     pub fn handle<D: Store, L: Ledger>(
         &mut self,
@@ -99,7 +100,7 @@ impl Session {
         ensures kept { IfOk result (λ reply. IsRefusal (message content.now) reply.bytes → state_of self.new ≡ state_of self.old) }
         ensures count { OnOk result (handled_by self.new ≡ handled_by self.old + 1) }
         ensures whole { OnOk result (is_whole self.new ≡ true) }
-        ensures steps { OnOk result (is_whole self.old ≡ true → IsWork (state_of self.new).texts steps.old steps.new) }
+        ensures steps { OnOk result (is_whole self.old ≡ true → IsWork (state_of self.old) (state_of self.new) steps.old steps.new) }
         ensures counted { OnOk result (D.faults store.new ≡ D.faults store.old) }
         ensures refused { IfErr result (λ e. Refused e (asks (state_of self.old) content.now) (D.answers store.old) (D.answers store.new) (D.faults store.old) (D.faults store.new)) }
     {

@@ -3,11 +3,12 @@ ghost use Rattle.std.specs.Prelude.{◌≡◌, ◌+◌, ◌<◌, ◌^◌, IfOk, 
 ghost use Rattle.io_edges.specs.Store.{Lists, after_answer};
 ghost use Rattle.serde_json.specs.View.{view};
 ghost use Rattle.c_session.specs.Asking.{Gives};
-ghost use Rattle.c_session.specs.Handled.{Reached, Refused, IsFault};
+ghost use Rattle.c_session.specs.Handled.{Reached};
+ghost use Rattle.c_session.specs.Ties.Interrupted.{Refused, IsFault};
 ghost use Rattle.c_session.specs.Loading.{loads_root};
 ghost use Rattle.c_session.specs.React.{root_by, beginning_by};
-ghost use Rattle.c_session.specs.Refused.{Answers};
-ghost use Rattle.c_session.specs.Sessions.{loading, seen_beginning};
+ghost use Rattle.c_session.specs.Ties.Refused.{Answers};
+ghost use Rattle.c_session.specs.Ties.Sessions.{loading, seen_beginning};
 
 use crate::documents::path_at;
 use crate::error::SessionError;

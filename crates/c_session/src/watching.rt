@@ -3,16 +3,17 @@ ghost use Rattle.std.specs.Prelude.{◌≡◌, ◌≢◌, ◌+◌, ◌<◌, ◌^
 ghost use Rattle.doc_texts.specs.Docs.{loaded};
 ghost use Rattle.c_session.specs.Files.{with_found};
 ghost use Rattle.c_session.specs.Asking.{Gives};
-ghost use Rattle.c_session.specs.Handled.{Reached, Refused};
+ghost use Rattle.c_session.specs.Handled.{Reached};
+ghost use Rattle.c_session.specs.Ties.Interrupted.{Refused};
 ghost use Rattle.c_session.specs.Loading.{settles, watched_log, updates, updates_at, updates_all};
-ghost use Rattle.c_session.specs.News.{KeepsPrior, SameBut};
+ghost use Rattle.c_session.specs.Ties.News.{KeepsPrior, SameBut};
 ghost use Rattle.c_session.specs.Reasons.{ByTexts, by_uri};
-ghost use Rattle.c_session.specs.Refused.{reason};
+ghost use Rattle.c_session.specs.Ties.Refused.{reason};
 ghost use Rattle.c_session.specs.declared.params.FileChangeKind.TheVariants.{Changed};
 ghost use Rattle.c_session.specs.declared.reasons.Refusal.TheVariants.{NoMemory};
 ghost use Rattle.c_session.specs.Replies.{log};
-ghost use Rattle.c_session.specs.SeenParams.{seen_file_change};
-ghost use Rattle.c_session.specs.Sessions.{loading};
+ghost use Rattle.c_session.specs.Ties.SeenParams.{seen_file_change};
+ghost use Rattle.c_session.specs.Ties.Sessions.{loading};
 ghost use Rattle.uri_paths.specs.Uris.{path_of_uri};
 
 use crate::documents::path_at;

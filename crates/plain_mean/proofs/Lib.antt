@@ -1,3 +1,4 @@
+pub mod Followed
 pub mod Keys
 pub mod Lexed
 pub mod Listed

@@ -3,6 +3,7 @@
 
 mod answers;
 mod confs;
+mod laws;
 mod lexings;
 mod likely;
 mod lists;
@@ -14,6 +15,7 @@ mod types;
 mod units;
 
 pub use confs::conf_of;
+pub use laws::shown_follows;
 pub use lexings::Lexings;
 pub use lists::{ShownLists, shown_lists};
 pub use meaning::mean;

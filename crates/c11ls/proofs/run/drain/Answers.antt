@@ -1,5 +1,5 @@
 use Rattle.std.proofs.Common.{refl}
-use Rattle.c_session.specs.Sessions.{state_of}
+use Rattle.c_session.specs.Ties.Sessions.{state_of}
 use Rattle.c11ls.proofs.Draining.{turn_ends, stands_on}
 use Rattle.c11ls.proofs.EndingUp.{ends_bad, ends_before}
 use Rattle.c11ls.proofs.GoingOn.{going_turns, going_settles}

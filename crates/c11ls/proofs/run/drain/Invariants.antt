@@ -1,8 +1,8 @@
 use Rattle.std.proofs.Common.{length}
-use Rattle.c11ls.specs.Going.{GoesOn, IsInStep}
-use Rattle.c_session.specs.Sessions.{state_of, handled_by}
+use Rattle.c11ls.specs.Ties.Going.{GoesOn, IsInStep}
+use Rattle.c_session.specs.Ties.Sessions.{state_of, handled_by}
 use Rattle.project_conf.specs.declared.options.Options.{Options}
-use Rattle.c11ls.specs.Turn.{Stands}
+use Rattle.c11ls.specs.Ties.Turn.{Stands}
 use Rattle.c11ls.proofs.run.drain.Given as goal
 
 abbrev pub invariant-frames : goal.invariant-frames

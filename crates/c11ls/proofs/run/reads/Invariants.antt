@@ -1,7 +1,7 @@
 use Rattle.std.proofs.Common.{◌≡◌, ◌<◌, ◌+◌, ◌-◌, ◌^◌, vec_len}
-use Rattle.c11ls.specs.Going.{Going, IsInStep}
-use Rattle.c_session.specs.Sessions.{state_of, handled_by}
-use Rattle.c11ls.specs.Turn.{Stands}
+use Rattle.c11ls.specs.Ties.Going.{Going, IsInStep}
+use Rattle.c_session.specs.Ties.Sessions.{state_of, handled_by}
+use Rattle.c11ls.specs.Ties.Turn.{Stands}
 use Rattle.c11ls.proofs.run.reads.Given as goal
 
 abbrev pub invariant-reads : goal.invariant-reads

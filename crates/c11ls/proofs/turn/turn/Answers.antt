@@ -3,7 +3,7 @@ use Rattle.io_edges.specs.Store.{Entry}
 use Rattle.io_edges.specs.Wire.{Traffic}
 use Rattle.c_session.specs.Handled.{Handled}
 use Rattle.c_session.specs.State.{State}
-use Rattle.c11ls.specs.Turn.{SentFront, WroteFront}
+use Rattle.c11ls.specs.Ties.Turn.{SentFront, WroteFront}
 use Rattle.c11ls.proofs.turn.turn.Goals as goal
 
 front_written : (s s' : State) (content bytes given : List ℕ) (end : Option ℕ) (w w' : Option Traffic) (a a' : Option (List Entry)) →

@@ -1,5 +1,5 @@
 use Rattle.std.proofs.Common.{◌≡◌, length}
-use Rattle.c11ls.specs.Turn.{Sent}
+use Rattle.c11ls.specs.Ties.Turn.{Sent}
 use Rattle.c11ls.proofs.writing.write_reply.Given as goal
 
 abbrev pub invariant-pieces : goal.invariant-pieces

@@ -1,6 +1,6 @@
 use Rattle.std.proofs.Common.{rules, ◌≡◌, string_bytes}
 use Rattle.serde_json.specs.Written.{compact_text}
-use Rattle.c_session.specs.Published.{number_data}
+use Rattle.c_session.specs.Ties.Published.{number_data}
 use Rattle.c_session.proofs.Publishing.{versioned}
 use Rattle.c_session.proofs.diagnostics.push_version.Goals as goal
 

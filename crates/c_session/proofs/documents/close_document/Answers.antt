@@ -1,5 +1,5 @@
 use Rattle.std.proofs.Common.{subst, sym}
-use Rattle.c_session.specs.News.{KeepsPrior}
+use Rattle.c_session.specs.Ties.News.{KeepsPrior}
 use Rattle.c_session.proofs.Priors.{keeps_prior, closed_differs}
 use Rattle.c_session.proofs.documents.close_document.Goals as goal
 

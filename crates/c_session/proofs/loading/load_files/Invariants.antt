@@ -1,7 +1,7 @@
 use Rattle.std.proofs.Common.{◌≡◌, length}
 use Rattle.c_session.specs.Handled.{Reached}
 use Rattle.c_session.specs.Loading.{loads}
-use Rattle.c_session.specs.Sessions.{loading}
+use Rattle.c_session.specs.Ties.Sessions.{loading}
 use Rattle.c_session.proofs.loading.load_files.Given as goal
 
 abbrev pub invariant-files : goal.invariant-files

@@ -1,7 +1,7 @@
 use Rattle.std.proofs.Common.{subst, sym}
 use Rattle.c_session.specs.Loading.{load_log}
-use Rattle.c_session.specs.News.{KeepsPrior}
-use Rattle.c_session.specs.Sessions.{loading}
+use Rattle.c_session.specs.Ties.News.{KeepsPrior}
+use Rattle.c_session.specs.Ties.Sessions.{loading}
 use Rattle.c_session.proofs.Priors.{keeps_prior, settled_differs, found_differs}
 use Rattle.c_session.proofs.loading.take_back.Goals as goal
 

@@ -1,6 +1,6 @@
 use Rattle.std.proofs.Common.{◌≡◌, ◌++◌, flat_map, length, option_map}
 use Rattle.plain_mean.specs.Lists.{shown_in}
-use Rattle.c_session.specs.News.{touched_by, news_of, news}
+use Rattle.c_session.specs.Ties.News.{touched_by, news_of, news}
 use Rattle.c_session.proofs.news.push_news.Given as goal
 
 abbrev pub invariant-files : goal.invariant-files

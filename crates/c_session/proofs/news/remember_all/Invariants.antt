@@ -1,5 +1,5 @@
 use Rattle.std.proofs.Common.{◌≡◌, length}
-use Rattle.c_session.specs.News.{all_remembered}
+use Rattle.c_session.specs.Ties.News.{all_remembered}
 use Rattle.c_session.proofs.news.remember_all.Given as goal
 
 abbrev pub invariant-files : goal.invariant-files

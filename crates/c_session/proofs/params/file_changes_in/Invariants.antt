@@ -3,7 +3,7 @@ use Rattle.serde_json.specs.View.{view}
 use Rattle.json_view.specs.Members.{object_in}
 use Rattle.json_view.specs.Refusals.{and_then}
 use Rattle.c_session.specs.Params.{each_in, file_change_in}
-use Rattle.c_session.specs.SeenParams.{seen_file_change}
+use Rattle.c_session.specs.Ties.SeenParams.{seen_file_change}
 use Rattle.c_session.proofs.params.file_changes_in.Given as goal
 
 abbrev pub invariant-loop-element : goal.invariant-loop-element

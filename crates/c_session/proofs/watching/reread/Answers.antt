@@ -2,7 +2,7 @@ use Rattle.std.proofs.Common.{refl}
 use Rattle.c_session.specs.Files.{with_found}
 use Rattle.c_session.specs.Loading.{watched_log, settles}
 use Rattle.c_session.specs.Reasons.{ByTexts}
-use Rattle.c_session.specs.Sessions.{loading}
+use Rattle.c_session.specs.Ties.Sessions.{loading}
 use Rattle.c_session.proofs.Asking.{read_stops, read_gives, gave_up}
 use Rattle.c_session.proofs.Priors.{settled_differs, found_differs}
 use Rattle.c_session.proofs.watching.reread.Goals as goal

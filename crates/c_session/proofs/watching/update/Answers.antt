@@ -1,7 +1,7 @@
 use Rattle.std.proofs.Common.{refl, None}
 use Rattle.c_session.specs.Loading.{watched_log}
 use Rattle.c_session.specs.Reasons.{ByTexts}
-use Rattle.c_session.specs.Sessions.{loading}
+use Rattle.c_session.specs.Ties.Sessions.{loading}
 use Rattle.c_session.proofs.Asking.{stays, gave_up}
 use Rattle.c_session.proofs.Priors.{settled_differs, loaded_differs}
 use Rattle.c_session.proofs.watching.update.Goals as goal

@@ -1,9 +1,9 @@
 use Rattle.std.proofs.Common.{◌≡◌, map, drop}
 use Rattle.c_session.specs.Handled.{Reached}
 use Rattle.c_session.specs.Loading.{updates_all}
-use Rattle.c_session.specs.News.{KeepsPrior}
-use Rattle.c_session.specs.SeenParams.{seen_file_change}
-use Rattle.c_session.specs.Sessions.{loading}
+use Rattle.c_session.specs.Ties.News.{KeepsPrior}
+use Rattle.c_session.specs.Ties.SeenParams.{seen_file_change}
+use Rattle.c_session.specs.Ties.Sessions.{loading}
 use Rattle.c_session.proofs.watching.update_all.Given as goal
 
 abbrev pub invariant-changes : goal.invariant-changes

@@ -1,5 +1,5 @@
 use Rattle.std.proofs.Common.{refl, subst, sym}
-use Rattle.c_session.specs.News.{KeepsPrior}
+use Rattle.c_session.specs.Ties.News.{KeepsPrior}
 use Rattle.c_session.proofs.Asking.{stays, gave_up}
 use Rattle.c_session.proofs.Priors.{keeps_prior}
 use Rattle.c_session.proofs.watching.update_at.Goals as goal

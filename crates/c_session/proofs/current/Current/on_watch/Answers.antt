@@ -1,5 +1,5 @@
 use Rattle.std.proofs.Common.{refl}
-use Rattle.c_session.specs.Sessions.{current_state}
+use Rattle.c_session.specs.Ties.Sessions.{current_state}
 use Rattle.c_session.proofs.Asking.{gave_up, stays}
 use Rattle.c_session.proofs.Reasoning.{params_refused_by}
 use Rattle.c_session.proofs.Telling.{not_watched}

@@ -19,13 +19,19 @@ pub record IsPrior (start : Texts) (prior : Prior) (now : Texts) : Type 0 where
   pub held : (path : List ℕ) (text : Option (List ℕ)) → get prior path ≡ Some text → text ≡ text_at start path
   pub rest : (path : List ℕ) → get prior path ≡ None → text_at now path ≡ text_at start path
 
--- another step keeps that
-abbrev pub KeepsPrior : Prior → Texts → Prior → Texts → Type 0
-KeepsPrior prior t prior' t' = (start : Texts) → IsPrior start prior t → IsPrior start prior' t'
+-- Another step keeps that, and the root.
+pub record KeepsPrior (prior : Prior) (t : Texts) (prior' : Prior) (t' : Texts) : Type 0 where
+  pub earlier : (start : Texts) → IsPrior start prior t → IsPrior start prior' t'
+  pub root : t'.root ≡ t.root
 
--- every other file has the text that it had
-abbrev pub SameBut : List ℕ → Texts → Texts → Type 0
-SameBut path t t' = (other : List ℕ) → bytes_eq other path ≡ false → text_at t' other ≡ text_at t other
+-- Every other file has the text that it had, and the root is the same.
+pub record SameBut (path : List ℕ) (t t' : Texts) : Type 0 where
+  pub others : (other : List ℕ) → bytes_eq other path ≡ false → text_at t' other ≡ text_at t other
+  pub root : t'.root ≡ t.root
+
+-- some file has another text than the one that is kept for it
+abbrev pub any_changed : Prior → Texts → Bool
+any_changed prior now = list_any (is_changed prior now) (keys prior)
 
 -- with the texts of these files remembered too
 abbrev pub all_remembered : Prior → Texts → List (List ℕ) → Prior

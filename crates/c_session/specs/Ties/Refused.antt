@@ -1,5 +1,5 @@
 -- What the code's refusals stand for.
-use Rattle.std.specs.Prelude.{◌≡◌, ◌≢◌, ℕ, List, [], ◌∷◌, ◌++◌, codes, Result, Ok, Err}
+use Rattle.std.specs.Prelude.{◌≡◌, ◌≢◌, ℕ, false, List, [], ◌∷◌, ◌++◌, codes, Result, Ok, Err}
 use Rattle.json_view.specs.Refusals as view
 use Rattle.json_view.specs.declared.error.ViewError.{ViewError}
 use Rattle.json_view.specs.declared.error.ViewError.TheVariants as view_error
@@ -13,8 +13,8 @@ use Rattle.text_lines.specs.declared.encoding.Encoding.{Encoding}
 use Rattle.c_session.specs.React.{Edited}
 use Rattle.c_session.specs.Reasons.{Reason, ByParams, ByUri, ByTexts, reason_text}
 use Rattle.c_session.specs.Replies.{log}
-use Rattle.c_session.specs.News.{ByPath, news}
-use Rattle.c_session.specs.Sessions.{IsKept}
+use Rattle.c_session.specs.Ties.News.{ByPath, any_changed, news}
+use Rattle.c_session.specs.Ties.Sessions.{IsKept, WereKept, worked}
 use Rattle.c_session.specs.declared.current.Current.{Current}
 use Rattle.c_session.specs.declared.reasons.Refusal.{Refusal}
 use Rattle.c_session.specs.declared.reasons.Refusal.TheVariants.{Params, Uri, Texts as ByDocs, NoMemory}
@@ -73,3 +73,13 @@ IsReply method texts encoding (Err r) bytes before after prior = (r ≢ NoMemory
 abbrev pub IsBehind : {T : Type 0} → Result T Refusal → Current → Current → Type 0
 IsBehind (Ok x) old new = IsKept new
 IsBehind (Err r) old new = new ≡ old
+
+-- the lists that are kept are those of the same texts, where an edit left each as it was
+abbrev pub IsKeptBy : {T : Type 0} → Result T Refusal → Prior → Current → Type 0
+IsKeptBy (Ok x) prior current = any_changed prior current.docs ≡ false → WereKept current
+IsKeptBy (Err r) prior current = Unit {0}
+
+-- the counter of steps behind the reply to an edit that left these texts
+abbrev pub IsWorked : {T : Type 0} → Result T Refusal → Prior → Texts → ℕ → ℕ → Type 0
+IsWorked (Ok x) prior t old new = new ≡ worked (any_changed prior t) t old
+IsWorked (Err r) prior t old new = new ≡ old

@@ -1,6 +1,7 @@
 -- The state that a session keeps.
-use Rattle.std.specs.Prelude.{◌≡◌, ◌+◌, ℕ, Bool, List, length}
-use Rattle.doc_texts.specs.Texts.{Texts}
+use Rattle.std.specs.Prelude.{◌≡◌, ◌+◌, ℕ, Bool, List, length, if◌then◌else◌}
+use Rattle.doc_texts.specs.Texts.{Texts, text_at}
+use Rattle.project_conf.specs.declared.conf.Conf.{Conf}
 use Rattle.c_session.specs.Handled.{outcome}
 use Rattle.c_session.specs.Loading.{Loading}
 use Rattle.c_session.specs.React.{Outcome, Beginning}
@@ -11,6 +12,7 @@ use Rattle.c_session.specs.declared.current.Reply.{Reply}
 use Rattle.c_session.specs.Shown.{conf_in}
 use Rattle.plain_mean.specs.Shown.{units}
 use Rattle.plain_mean.specs.Lists.{AreShown}
+use Rattle.plain_mean.specs.declared.lists.ShownLists.{ShownLists}
 
 -- what contracts see of a session
 pub record SessionView : Type 0 where
@@ -26,10 +28,18 @@ current_state c = record { options = c.words; texts = c.docs; encoding = c.encod
 abbrev pub IsKept : Current → Type 0
 IsKept c = AreShown c.docs (conf_in (current_state c)) c.shown
 
--- How the counter of steps stands behind a message: no unit was worked out, or each unit of the texts that it left, once.
-pub data IsWork (t : Texts) (old new : ℕ) : Type 0 where
-  NoUnit : new ≡ old → IsWork t old new
-  EachUnit : new ≡ old + length (units t) → IsWork t old new
+-- The lists that are kept are what the files showed when each path had the text that it has now.
+pub record WereShown (t : Texts) (conf : Conf) (lists : ShownLists) : Type 0 where
+  pub before : Texts
+  pub same : (path : List ℕ) → text_at t path ≡ text_at before path
+  pub were : AreShown before conf lists
+
+abbrev pub WereKept : Current → Type 0
+WereKept c = WereShown c.docs (conf_in (current_state c)) c.shown
+
+-- the counter, where each unit of the texts is worked out if texts differ
+abbrev pub worked : Bool → Texts → ℕ → ℕ
+worked differs t old = if differs then old + length (units t) else old
 
 -- the session's state, and how many contents it has handled
 abbrev pub state_of : SessionView → State

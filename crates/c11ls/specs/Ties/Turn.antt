@@ -2,8 +2,9 @@
 use Rattle.std.specs.Prelude.{◌≡◌, ◌<◌, ℕ, List, ◌++◌, take, Option, Some, None, option_map, false, ◌==◌}
 use Rattle.io_edges.specs.Store.{Entry}
 use Rattle.io_edges.specs.Wire.{Traffic, after_write}
-use Rattle.c_session.specs.Handled as session
-use Rattle.c_session.specs.Handled.{Handled, Failed}
+use Rattle.c_session.specs.Ties.Interrupted as session
+use Rattle.c_session.specs.Handled.{Handled}
+use Rattle.c_session.specs.Ties.Interrupted.{Failed}
 use Rattle.c_session.specs.React.{asks}
 use Rattle.c_session.specs.State.{State}
 use Rattle.c11ls.specs.declared.status.Status.{Status}

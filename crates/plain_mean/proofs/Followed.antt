@@ -1,0 +1,66 @@
+-- What files show follows from the text that each path has.
+use Rattle.std.proofs.Common.{◌≡◌, ℕ, List, [], ◌++◌, Option, Some, None, is_some, unwrap_or, bytes_eq, flat_map, take, nat_cmp, refl, sym, ap, ◌∙◌, true≢false}
+use Rattle.std.specs.Cmp.Lexicographic.{slice_cmp, nat_list_cmp_total}
+use Rattle.std.specs.FinMap.{get, keys, contains_key-keys, same_map, slice_cmp-IsAntisymmetric, nat_cmp-IsAntisymmetric}
+use Rattle.std.specs.List.{list_any, filter}
+use Rattle.std.specs.Ordering.{eq_by_cmp}
+use Rattle.std.proofs.lemmas.Map.Text.{is_eq-slice_cmp}
+use Rattle.asking.specs.LookUps.{result_of}
+use Rattle.c_tokens.specs.Lexed.{lexed}
+use Rattle.doc_texts.specs.Texts.{PathSet, Texts, text_at, paths_of, marked}
+use Rattle.include_units.specs.Files.{Question, Exists, Text, Lines}
+use Rattle.include_units.specs.Runs.{own_places}
+use Rattle.include_units.specs.Units.{unit_tokens}
+use Rattle.plain_mean.specs.Given.{given}
+use Rattle.plain_mean.specs.Meanings.{meaning, meant_by, unit_conf}
+use Rattle.plain_mean.specs.Shown.{shown, units, most_units, is_source, of_file, falls_on}
+use Rattle.project_conf.specs.declared.conf.Conf.{Conf}
+
+-- ---- sets of paths that have the same ones
+
+same_marks : (a b : Option (Unit {0})) → is_some a ≡ is_some b → a ≡ b
+same_marks None None e = refl
+same_marks None (Some u) e = absurd (true≢false (sym e))
+same_marks (Some u) None e = absurd (true≢false e)
+same_marks (Some u) (Some v) e = refl
+
+any_bytes : (q : List ℕ) (paths : List (List ℕ)) → list_any (bytes_eq q) paths ≡ list_any (eq_by_cmp (slice_cmp nat_cmp) q) paths
+any_bytes q paths = λ i. list_any (λ k. sym (is_eq-slice_cmp q k) i) paths
+
+has_key : (m : PathSet) (q : List ℕ) → is_some (get m q) ≡ list_any (bytes_eq q) (keys m)
+has_key m q = contains_key-keys m q ∙ sym (any_bytes q (keys m))
+
+same_sets : (m n : PathSet) → ((q : List ℕ) → list_any (bytes_eq q) (keys m) ≡ list_any (bytes_eq q) (keys n)) → m ≡ n
+same_sets m n same =
+    same_map nat_list_cmp_total (slice_cmp-IsAntisymmetric nat_cmp-IsAntisymmetric) m n (λ q. same_marks (get m q) (get n q) (has_key m q ∙ same q ∙ sym (has_key n q)))
+
+-- ---- what follows from the texts
+
+module _
+    (members : (t : Texts) (q : List ℕ) → list_any (bytes_eq q) (paths_of t) ≡ is_some (text_at t q))
+    (t t' : Texts) (same : (path : List ℕ) → text_at t' path ≡ text_at t path) where
+  same_given : (q : Question) → given t' q ≡ given t q
+  same_given (Exists path) = ap is_some (same path)
+  same_given (Text path) = ap (λ o. (lexed (unwrap_or o [])).tokens) (same path)
+  same_given (Lines path) = ap (λ o. own_places (unwrap_or o [])) (same path)
+
+  same_meaning : (conf : Conf) (unit : List ℕ) → meaning t' conf unit ≡ meaning t conf unit
+  unfolding meaning
+  same_meaning conf unit = λ i. meant_by (result_of (λ q. same_given q i) (unit_tokens (unit_conf conf unit)))
+
+  same_members : (q : List ℕ) → list_any (bytes_eq q) (paths_of t') ≡ list_any (bytes_eq q) (paths_of t)
+  same_members q = members t' q ∙ ap is_some (same q) ∙ sym (members t q)
+
+  same_paths : paths_of t' ≡ paths_of t
+  unfolding paths_of
+  same_paths = ap keys (same_sets (marked (keys t'.disk ++ keys t'.opened)) (marked (keys t.disk ++ keys t.opened)) same_members)
+
+  same_units : units t' ≡ units t
+  unfolding units
+  same_units = ap (λ paths. take most_units (filter is_source paths)) same_paths
+
+  pub same_shown : (conf : Conf) (path : List ℕ) → shown t' conf path ≡ shown t conf path
+  unfolding shown
+  same_shown conf path = λ i. of_file (same path i)
+      (filter (falls_on path) (flat_map (λ unit. (same_meaning conf unit i).faults) (same_units i)))
+      (list_any (bytes_eq path) (flat_map (λ unit. (same_meaning conf unit i).reads) (same_units i)))
