@@ -4,8 +4,11 @@ pub mod FirstLemmas
 pub mod HeaderLemmas
 pub mod Lawful
 pub mod ParamLemmas
+pub mod Moving
+pub mod Resting
 pub mod Runnings
 pub mod SameLemmas
+pub mod Stepping
 pub mod TellLemmas
 pub mod TextLemmas
 pub mod Walking

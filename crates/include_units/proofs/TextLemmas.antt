@@ -1,10 +1,11 @@
 -- Lines and parts of a text, from the front.
-use Rattle.std.proofs.Common.{◌≡◌, refl, sym, ap, ◌∙◌, subst, arith, ℕ, suc, ◌+◌, Bool, true, false, List, [], ◌∷◌, ◌++◌, append_assoc, take, drop, not, cond}
+use Rattle.std.proofs.Common.{◌≡◌, ◌≤◌, ◌-◌, refl, sym, ap, ◌∙◌, subst, arith, ℕ, suc, ◌+◌, Bool, true, false, List, [], ◌∷◌, ◌++◌, append_assoc, take, drop, not, cond}
 use Rattle.tok_data.specs.declared.tokens.PpToken.{PpToken}
 use Rattle.tok_data.specs.declared.tokens.OutToken.{OutToken}
 use Rattle.macro_expand.specs.Tokens.{is_hash}
 use Rattle.include_units.specs.Texts.{Part, Run, Directive, source_token, source_tokens, in_line, lines_from, before_run, before, parts_of, parts_from}
-use Rattle.include_units.specs.Fronts.{width, front_parts, run_parts}
+use Rattle.std.proofs.lemmas.List.{drop-drop}
+use Rattle.include_units.specs.Fronts.{width, front_parts, run_parts, IsFurther}
 use Rattle.include_units.specs.declared.texts.Front.{Front}
 
 -- a line of the token and so many behind it, and the lines behind that
@@ -130,3 +131,50 @@ run_ends name at tokens made ps f is h part number behind =
     ∙ ap (λ p. p ∷ parts_from name at tokens) (sym part)
     ∙ ap (λ n. f.part ∷ parts_from name n tokens) (sym number)
     ∙ ap (λ xs. f.part ∷ parts_from name f.at xs) (sym behind)
+
+-- ---- tokens behind others
+
+pub further_here : (at : ℕ) (ts : List PpToken) → IsFurther at ts at ts
+further_here at ts =
+    let e : at - at ≡ 0 = omega arith in
+    (omega arith, sym (ap (λ n. drop n ts) e))
+
+pub further_step : (at w : ℕ) (ts : List PpToken) (at' : ℕ) (us : List PpToken) → at' ≡ at + w → us ≡ drop w ts → IsFurther at ts at' us
+further_step at w ts at' us e d =
+    let k : w ≡ at' - at = omega arith in
+    (omega arith, d ∙ ap (λ n. drop n ts) k)
+
+pub further_join : (a : ℕ) (ts : List PpToken) (b : ℕ) (us : List PpToken) (c : ℕ) (vs : List PpToken) → IsFurther a ts b us → IsFurther b us c vs → IsFurther a ts c vs
+further_join a ts b us c vs h k =
+    let p : a ≤ b = h.0 in
+    let q : b ≤ c = k.0 in
+    let e : (b - a) + (c - b) ≡ c - a = omega arith in
+    (omega arith, k.1 ∙ ap (drop (c - b)) h.1 ∙ drop-drop (c - b) (b - a) ts ∙ ap (λ n. drop n ts) e)
+
+further_cons : (at : ℕ) (all : List PpToken) (t : PpToken) (us : List PpToken) → all ≡ t ∷ us → IsFurther at all (at + 1) us
+further_cons at all t us e = further_step at 1 all (at + 1) us refl (ap (drop 1) (sym e))
+
+-- behind the line of a token
+pub further_line : (at : ℕ) (ts : List PpToken) (n : ℕ) (here : List PpToken) (t : PpToken) (us : List PpToken) (w m : ℕ) (there : List PpToken) →
+    IsFurther at ts n here → here ≡ t ∷ us → m ≡ n + 1 + w → there ≡ drop w us → IsFurther at ts m there
+further_line at ts n here t us w m there h e i d =
+    further_join at ts n here m there h (further_join n here (n + 1) us m there (further_cons n here t us e) (further_step (n + 1) w us m there i d))
+
+-- behind a token and what is behind that
+pub further_on : (at : ℕ) (all : List PpToken) (t : PpToken) (us : List PpToken) (m : ℕ) (there : List PpToken) →
+    all ≡ t ∷ us → IsFurther (at + 1) us m there → IsFurther at all m there
+further_on at all t us m there e h = further_join at all (at + 1) us m there (further_cons at all t us e) h
+
+-- behind the rest of a line and what is behind that
+pub further_run : (at w : ℕ) (ts : List PpToken) (n : ℕ) (here : List PpToken) (m : ℕ) (there : List PpToken) → n ≡ at + w → here ≡ drop w ts → IsFurther n here m there → IsFurther at ts m there
+further_run at w ts n here m there i d h = further_join at ts n here m there (further_step at w ts n here i d) h
+
+-- in the whole text
+pub further_all : (all : List PpToken) (at m : ℕ) (there : List PpToken) → IsFurther at (drop at all) m there → there ≡ drop m all
+further_all all at m there h =
+    let p : at ≤ m = h.0 in
+    let e : at + (m - at) ≡ m = omega arith in
+    h.1 ∙ drop-drop (m - at) at all ∙ ap (λ n. drop n all) e
+
+pub further_same : (at : ℕ) (ts : List PpToken) (n : ℕ) (here : List PpToken) (m : ℕ) (there : List PpToken) → IsFurther at ts n here → m ≡ n → there ≡ here → IsFurther at ts m there
+further_same at ts n here m there h e d = subst (λ k. IsFurther at ts k there) (sym e) (subst (λ xs. IsFurther at ts n xs) (sym d) h)

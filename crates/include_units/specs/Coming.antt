@@ -8,6 +8,7 @@ use Rattle.include_units.specs.declared.types.Want.{Want}
 use Rattle.include_units.specs.declared.types.Want.TheVariants as want
 use Rattle.include_units.specs.declared.stop.Stop.{Stop}
 use Rattle.include_units.specs.declared.stop.Stop.TheVariants.{Need, NoMemory}
+use Rattle.include_units.specs.Rests.{rest_of}
 use Rattle.include_units.specs.Files.{Question, Exists, Text, Lines, files, FromFiles}
 
 abbrev pub question : Want → Question
@@ -37,3 +38,14 @@ IsShort e = IsShortAnswer e.1
 
 abbrev pub AreShort : List (List ℕ × FileAnswer) → Type 0
 AreShort answers = All IsShort answers
+
+-- It leads on to what is left, or stops.
+abbrev pub Leads : {A B : Type 0} → List (List ℕ × FileAnswer) → FromFiles A → (B → FromFiles A) → Result B Stop → Type 0
+Leads answers asking left (Ok x) = rest_of (look_up files answers) asking ≡ rest_of (look_up files answers) (left x)
+Leads answers asking left (Err stop) = Stops answers asking stop
+
+-- Where it needs an answer, this is so.
+abbrev pub AtNeed : {B : Type 0} → Result B Stop → Type 0 → Type 0
+AtNeed (Ok x) P = Unit {0}
+AtNeed (Err (Need want)) P = P
+AtNeed (Err NoMemory) P = Unit {0}

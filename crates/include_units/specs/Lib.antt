@@ -15,3 +15,9 @@ pub mod Params
 pub mod Inclusion
 pub mod Units
 pub mod Going
+pub mod Rests
+pub mod Cursors
+pub mod Parted
+pub mod Searches
+pub mod Left
+pub mod Stack

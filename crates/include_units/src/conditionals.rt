@@ -1,8 +1,8 @@
 // Conditional inclusion (ISO C11 6.10.1).
-ghost use Rattle.std.specs.Prelude.{◌≡◌, ◌∷◌, [], IfOk, OnOk};
+ghost use Rattle.std.specs.Prelude.{◌≡◌, ◌∷◌, [], IfOk, OnOk, IfSome};
 ghost use Rattle.std.specs.FinMap as map;
 ghost use Rattle.pp_cond.specs.Defined.{is_defined};
-ghost use Rattle.include_units.specs.Coming.{Comes};
+ghost use Rattle.include_units.specs.Coming.{Comes, AtNeed};
 ghost use Rattle.include_units.specs.Conditionals as spec;
 
 use crate::made::{Made, is_predefined};
@@ -67,6 +67,7 @@ impl Opens {
     fn pop(&mut self) -> Option<Open>
         ensures innermost { result ≡ spec.innermost self.old }
         ensures rest { self.new ≡ spec.others self.old }
+        ensures whole { IfSome result (λ one. self.old ≡ one ∷ self.new) }
     {
         self.items.pop_front()
     }
@@ -238,7 +239,8 @@ fn decide(
     tokens: &[OutToken],
     made: &mut Made,
 ) -> Result<bool, Stop>
-    ensures { Comes files.now (spec.decide text.now name.now tokens.now made.old) (λ value. spec.decided value made.new) result }
+    ensures decided { Comes files.now (spec.decide text.now name.now tokens.now made.old) (λ value. spec.decided value made.new) result }
+    ensures kept { AtNeed result (made.new ≡ made.old) }
 {
     match condition_in(alloc, files, text, tokens, made) {
         Ok(cond) => {
@@ -266,7 +268,8 @@ pub(crate) fn if_group(
     opens: &mut Opens,
     made: &mut Made,
 ) -> Result<(), Stop>
-    ensures { Comes files.now (spec.if_group text.now name.now tokens.now opens.old made.old) (λ _. spec.stand opens.new made.new) result }
+    ensures group { Comes files.now (spec.if_group text.now name.now tokens.now opens.old made.old) (λ _. spec.stand opens.new made.new) result }
+    ensures kept { AtNeed result ((opens.new ≡ opens.old) × (made.new ≡ made.old)) }
 {
     if !opens.is_taken() {
         open_one(name, false, false, opens)?;
@@ -366,14 +369,18 @@ fn elif_by(
     opens: &mut Opens,
     made: &mut Made,
 ) -> Result<(), Stop>
-    ensures { Comes files.now (spec.elif_decided text.now name.now tokens.now one opens.old made.old) (λ _. spec.stand opens.new made.new) result }
+    ensures group { Comes files.now (spec.elif_decided text.now name.now tokens.now one opens.old made.old) (λ _. spec.stand opens.new made.new) result }
+    ensures kept { AtNeed result ((opens.new ≡ one ∷ opens.old) × (made.new ≡ made.old)) }
 {
     match decide(alloc, files, text, name, tokens, made) {
         Ok(value) => {
             opens.push(next_group(value, one))?;
             Ok(())
         }
-        Err(stop) => Err(stop),
+        Err(stop) => {
+            opens.push(one)?;
+            Err(stop)
+        }
     }
 }
 
@@ -387,7 +394,8 @@ pub(crate) fn elif_group(
     opens: &mut Opens,
     made: &mut Made,
 ) -> Result<(), Stop>
-    ensures { Comes files.now (spec.elif_group text.now name.now tokens.now opens.old made.old) (λ _. spec.stand opens.new made.new) result }
+    ensures group { Comes files.now (spec.elif_group text.now name.now tokens.now opens.old made.old) (λ _. spec.stand opens.new made.new) result }
+    ensures kept { AtNeed result ((opens.new ≡ opens.old) × (made.new ≡ made.old)) }
 {
     let Some(one) = opens.pop() else {
         made.add_fault(alloc, 225, &name.site, "")?;

@@ -1,6 +1,7 @@
 // Inclusion (ISO C11 6.10.2): where an `#include` leads.
-ghost use Rattle.std.specs.Prelude.{◌≡◌, ◌≤◌, ◌++◌, ◌∷◌, [], IfOk, OnOk, IfSome, length, option_map, string_bytes};
-ghost use Rattle.include_units.specs.Coming.{Comes};
+ghost use Rattle.std.specs.Prelude.{◌≡◌, ◌≤◌, ◌<◌, ◌+◌, ◌^◌, ◌++◌, ◌∷◌, [], IfOk, OnOk, IfSome, IsSome, length, slice_get, option_map, string_bytes};
+ghost use Rattle.include_units.specs.Coming.{Leads, AtNeed};
+ghost use Rattle.include_units.specs.Searches as searches;
 ghost use Rattle.include_units.specs.Inclusion as spec;
 
 use crate::made::Made;
@@ -8,8 +9,8 @@ use crate::own::OwnText;
 use crate::runs::expanded_run;
 use crate::stop::Stop;
 use crate::texts::{Source, Text};
-use crate::told::{Told, held_at};
-use crate::types::Want;
+use crate::told::Told;
+use crate::types::Paths;
 use lib_texts::library;
 use shared_text::Name;
 use std::alloc::{AllocError, Global};
@@ -21,6 +22,24 @@ use uri_paths::{Path, beside, within};
 pub(crate) enum Lead {
     On,
     Into(Text, TokId),
+}
+
+// An `#include` that is looked for at these paths, from one of them on.
+#[derive(Debug, Drop)]
+pub(crate) struct Search {
+    by: TokId,
+    // The name with its delimiters, and without them.
+    whole: Name,
+    text: Name,
+    paths: Paths,
+    at: usize,
+}
+
+// Where a directive leads next.
+#[derive(Debug, Drop)]
+pub(crate) enum Next {
+    Onward,
+    Seeks(Search),
 }
 
 // A header name without its delimiters.
@@ -201,28 +220,6 @@ fn candidates(
     Ok(paths)
 }
 
-// The first of these paths at which a text is held.
-fn first_held(files: &Told, paths: &[Path]) -> Result<Option<Path>, Stop>
-    ensures { Comes files.now (spec.first_held paths.now) (λ path. path) result }
-{
-    let mut rest = paths;
-    while let Some((path, behind)) = rest.split_first() {
-        rest = behind;
-        match held_at(files, path) {
-            Some(true) => {
-                let path = path.share()?;
-                return Ok(Some(path));
-            }
-            Some(false) => continue,
-            None => {
-                let path = path.share()?;
-                return Err(Stop::Need(Want::Exists(path)));
-            }
-        }
-    }
-    Ok(None)
-}
-
 fn lead_to_file(alloc: Global, by: &TokId, path: Path, made: &Made) -> Result<Lead, AllocError>
     ensures { IfOk result (λ lead. spec.led lead made.now ≡ spec.lead_to_file by.now path made.now) }
 {
@@ -312,47 +309,77 @@ fn lead_to(
     Ok(Lead::On)
 }
 
-// Where a name is found.
-fn find(
-    alloc: Global,
-    folders: &[Path],
-    files: &Told,
-    source: &Source,
-    quoted: bool,
-    text: &str,
-) -> Result<Option<Path>, Stop>
-    ensures { Comes files.now (spec.found_by folders.now source.now (spec.name quoted text.now)) (λ path. path) result }
-{
-    let paths = candidates(alloc, folders, source, quoted, text)?;
-    first_held(files, paths.as_slice())
+impl Search {
+    // The path that is looked at next.
+    pub(crate) fn path(&self) -> Option<&Path>
+        ensures path { option_map (λ p. p.now) result ≡ slice_get self.now.paths self.now.at }
+        ensures fits { IsSome result → self.now.at + 1 < 2 ^ 64 }
+    {
+        self.paths.as_slice().get(self.at)
+    }
+
+    // The search behind that path.
+    pub(crate) fn behind(self) -> Search
+        requires { self.at + 1 < 2 ^ 64 }
+        ensures { result ≡ searches.behind self }
+    {
+        let Search {
+            by,
+            whole,
+            text,
+            paths,
+            at,
+        } = self;
+        Search {
+            by,
+            whole,
+            text,
+            paths,
+            at: at + 1,
+        }
+    }
+
+    // Where it leads when a text is found, or none is.
+    pub(crate) fn lead(
+        &self,
+        alloc: Global,
+        found: Option<Path>,
+        made: &mut Made,
+    ) -> Result<Lead, AllocError>
+        ensures { IfOk result (λ lead. spec.led lead made.new ≡ spec.lead_to self.now.by self.now.whole self.now.text found made.old) }
+    {
+        lead_to(
+            alloc,
+            &self.by,
+            self.whole.as_str(),
+            self.text.as_str(),
+            found,
+            made,
+        )
+    }
 }
 
-fn search(
+fn begun_search(
     alloc: Global,
     folders: &[Path],
-    files: &Told,
-    text: &Text,
+    source: &Source,
     by: &TokId,
     whole: &str,
     header: Header<'_>,
-    made: &mut Made,
-) -> Result<Lead, Stop>
-    ensures { Comes files.now (spec.search folders.now text.now by.now whole.now (spec.name_of header.entry) made.old) (λ lead. spec.led lead made.new) result }
+) -> Result<Search, AllocError>
+    ensures { IfOk result (λ search. search ≡ searches.begun folders.now source.now by.now whole.now (spec.name_of header.entry)) }
 {
-    match find(
-        alloc,
-        folders,
-        files,
-        &text.source,
-        header.quoted,
-        header.text,
-    ) {
-        Ok(found) => {
-            let lead = lead_to(alloc, by, whole, header.text, found, made)?;
-            Ok(lead)
-        }
-        Err(stop) => Err(stop),
-    }
+    let paths = candidates(alloc, folders, source, header.quoted, header.text)?;
+    let by = by.copy()?;
+    let whole = Name::from_str(alloc, whole)?;
+    let text = Name::from_str(alloc, header.text)?;
+    Ok(Search {
+        by,
+        whole,
+        text,
+        paths: Paths::from_vec(paths),
+        at: 0,
+    })
 }
 
 fn is_exploded(made: &Made) -> bool
@@ -377,57 +404,46 @@ fn explode(alloc: Global, by: &TokId, made: &mut Made) -> Result<(), AllocError>
 fn include_name(
     alloc: Global,
     folders: &[Path],
-    files: &Told,
     deep: bool,
     text: &Text,
     by: &TokId,
     whole: &str,
     header: Header<'_>,
     made: &mut Made,
-) -> Result<Lead, Stop>
-    ensures { Comes files.now (spec.include_name folders.now deep text.now by.now whole.now (spec.name_of header.entry) made.old) (λ lead. spec.led lead made.new) result }
+) -> Result<Next, AllocError>
+    ensures { IfOk result (λ next. spec.include_name folders.now deep text.now by.now whole.now (spec.name_of header.entry) made.old ≡ searches.next_left next made.new) }
 {
     if is_exploded(made) {
         explode(alloc, by, made)?;
-        return Ok(Lead::On);
+        return Ok(Next::Onward);
     }
     made.inclusion = made.inclusion.saturating_sub(64);
     if deep {
-        return search(alloc, folders, files, text, by, whole, header, made);
+        let search = begun_search(alloc, folders, &text.source, by, whole, header)?;
+        return Ok(Next::Seeks(search));
     }
     made.add_fault(alloc, 223, by, "")?;
-    Ok(Lead::On)
+    Ok(Next::Onward)
 }
 
 fn include_run(
     alloc: Global,
     folders: &[Path],
-    files: &Told,
     deep: bool,
     text: &Text,
     directive: &OutToken,
     by: &TokId,
     tokens: &[OutToken],
     made: &mut Made,
-) -> Result<Lead, Stop>
-    ensures { Comes files.now (spec.include_run folders.now deep text.now directive.now by.now (spec.run tokens.now made.old)) (λ lead. spec.led lead made.new) result }
+) -> Result<Next, AllocError>
+    ensures { IfOk result (λ next. spec.include_run folders.now deep text.now directive.now by.now (spec.run tokens.now made.old) ≡ searches.next_left next made.new) }
 {
     let whole = joined(alloc, tokens)?;
     match header_name(whole.as_str()) {
-        Some(header) => include_name(
-            alloc,
-            folders,
-            files,
-            deep,
-            text,
-            by,
-            whole.as_str(),
-            header,
-            made,
-        ),
+        Some(header) => include_name(alloc, folders, deep, text, by, whole.as_str(), header, made),
         None => {
             made.add_fault(alloc, 221, &directive.site, "")?;
-            Ok(Lead::On)
+            Ok(Next::Onward)
         }
     }
 }
@@ -442,25 +458,28 @@ pub(crate) fn include_line(
     directive: &OutToken,
     tokens: &[OutToken],
     made: &mut Made,
-) -> Result<Lead, Stop>
-    ensures { Comes files.now (spec.include_line folders.now deep text.now directive.now tokens.now made.old) (λ lead. spec.led lead made.new) result }
+) -> Result<Next, Stop>
+    ensures left { Leads files.now (spec.include_line folders.now deep text.now directive.now tokens.now made.old) (λ next. searches.next_left next made.new) result }
+    ensures kept { AtNeed result (made.new ≡ made.old) }
 {
     let Some((first, _)) = tokens.split_first() else {
         made.add_fault(alloc, 221, &directive.site, "")?;
-        return Ok(Lead::On);
+        return Ok(Next::Onward);
     };
     match expanded_run(alloc, files, text, tokens, made) {
-        Ok(run) => include_run(
-            alloc,
-            folders,
-            files,
-            deep,
-            text,
-            directive,
-            &first.site,
-            run.as_slice(),
-            made,
-        ),
+        Ok(run) => {
+            let next = include_run(
+                alloc,
+                folders,
+                deep,
+                text,
+                directive,
+                &first.site,
+                run.as_slice(),
+                made,
+            )?;
+            Ok(next)
+        }
         Err(stop) => Err(stop),
     }
 }

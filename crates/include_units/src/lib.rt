@@ -2,9 +2,11 @@
 #![tactic(auto)]
 
 mod conditionals;
+mod cursor;
 mod definitions;
 mod faults;
 mod firsts;
+mod frames;
 mod grown;
 mod heads;
 mod inclusion;
@@ -13,8 +15,10 @@ mod laws;
 mod literals;
 mod made;
 mod own;
+mod reading;
 mod runs;
 mod shared;
+mod stack;
 mod stop;
 mod texts;
 mod tokens;

@@ -2,10 +2,10 @@
 ghost use Rattle.std.specs.Prelude.{◌≡◌, ◌≤◌, ◌++◌, ◌∷◌, [], IfOk, OnOk, IfSome, length, drop};
 ghost use Rattle.std.specs.FinMap as map;
 ghost use Rattle.macro_expand.specs.Expansion.{expanded};
-ghost use Rattle.include_units.specs.Coming.{Comes};
+ghost use Rattle.include_units.specs.Coming.{Comes, AtNeed};
+ghost use Rattle.include_units.specs.Parted.{run_behind};
 ghost use Rattle.include_units.specs.Runs as spec;
 
-use crate::literals::all_open;
 use crate::made::Made;
 use crate::stop::Stop;
 use crate::texts::{Source, Text};
@@ -148,7 +148,8 @@ pub(crate) fn expanded_run(
     tokens: &[OutToken],
     made: &mut Made,
 ) -> Result<OutTokens, Stop>
-    ensures { Comes files.now (spec.expanded_run text.now tokens.now made.old) (λ ts. spec.run ts made.new) result }
+    ensures run { Comes files.now (spec.expanded_run text.now tokens.now made.old) (λ ts. spec.run ts made.new) result }
+    ensures kept { AtNeed result (made.new ≡ made.old) }
 {
     match expand_in(alloc, files, text, tokens, made) {
         Ok(expanded) => {
@@ -264,7 +265,7 @@ fn put_output(alloc: Global, tokens: &[OutToken], made: &mut Made) -> Result<(),
     Ok(())
 }
 
-// Reads a run of text lines in a group that is taken.
+// Reads a run of text lines in a group that is taken, whose open literals are shown.
 pub(crate) fn run_of(
     alloc: Global,
     files: &Told,
@@ -272,9 +273,9 @@ pub(crate) fn run_of(
     tokens: &[OutToken],
     made: &mut Made,
 ) -> Result<(), Stop>
-    ensures { Comes files.now (spec.run_of text.now tokens.now made.old) (λ _. made.new) result }
+    ensures run { Comes files.now (run_behind text.now tokens.now made.old) (λ _. made.new) result }
+    ensures kept { AtNeed result (made.new ≡ made.old) }
 {
-    all_open(alloc, tokens, made)?;
     match expanded_run(alloc, files, text, tokens, made) {
         Ok(output) => {
             put_output(alloc, output.as_slice(), made)?;

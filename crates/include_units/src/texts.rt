@@ -129,7 +129,7 @@ fn run_front<'a>(out: Grown<OutToken>, at: u32, behind: &'a [PpToken]) -> Front<
 }
 
 // The run of text lines that goes on with these tokens.
-#[tactic(auto, using(crate::proofs::TextLemmas::run_ends))]
+#[tactic(auto, using(crate::proofs::TextLemmas::run_ends, crate::proofs::TextLemmas::further_same))]
 fn run_in_front<'a>(
     alloc: Global,
     name: &Name,
@@ -138,6 +138,7 @@ fn run_in_front<'a>(
     tokens: &'a [PpToken],
 ) -> Result<Front<'a>, AllocError>
     requires { at + length tokens.now < 2 ^ 32 }
+    ensures further { IfOk result (λ front. fronts.IsFurther at tokens.now front.at front.behind.now) }
     ensures parts { IfOk result (λ front. spec.before_run begun (spec.parts_from name.now at tokens.now) ≡ fronts.front_parts name.now front) }
     ensures numbered { IfOk result (λ front. front.at + length front.behind.now ≡ at + length tokens.now) }
     ensures shorter { IfOk result (λ front. length front.behind.now ≤ length tokens.now) }
@@ -183,7 +184,7 @@ fn directive_in_front<'a>(
 }
 
 // The run that a token begins.
-#[tactic(auto, using(crate::proofs::TextLemmas::run_begins))]
+#[tactic(auto, using(crate::proofs::TextLemmas::run_begins, crate::proofs::TextLemmas::further_run))]
 fn run_by<'a>(
     alloc: Global,
     name: &Name,
@@ -192,6 +193,7 @@ fn run_by<'a>(
     tokens: &'a [PpToken],
 ) -> Result<Front<'a>, AllocError>
     requires { at + length tokens.now < 2 ^ 32 }
+    ensures further { IfOk result (λ front. fronts.IsFurther at tokens.now front.at front.behind.now) }
     ensures parts { IfOk result (λ front. fronts.run_parts name.now at first tokens.now ≡ fronts.front_parts name.now front) }
     ensures numbered { IfOk result (λ front. front.at + length front.behind.now ≡ at + length tokens.now) }
     ensures shorter { IfOk result (λ front. length front.behind.now ≤ length tokens.now) }
@@ -203,6 +205,7 @@ fn run_by<'a>(
 }
 
 // The part in front of tokens of a text, of which the first has this number; none where there is none.
+#[tactic(auto, using(crate::proofs::TextLemmas::further_on))]
 pub(crate) fn next_part<'a>(
     alloc: Global,
     name: &Name,
@@ -210,6 +213,7 @@ pub(crate) fn next_part<'a>(
     tokens: &'a [PpToken],
 ) -> Result<Option<Front<'a>>, AllocError>
     requires { at + length tokens.now < 2 ^ 32 }
+    ensures further { IfOk result (λ front. IfSome front (λ f. fronts.IsFurther at tokens.now f.at f.behind.now)) }
     ensures parts { IfOk result (λ front. spec.parts_from name.now at tokens.now ≡ fronts.all_parts name.now front) }
     ensures numbered { IfOk result (λ front. IfSome front (λ f. f.at + length f.behind.now ≡ at + length tokens.now)) }
     ensures shorter { IfOk result (λ front. IfSome front (λ f. length f.behind.now < length tokens.now)) }

@@ -1,19 +1,21 @@
 // A unit that is read as far as what it asks is told.
-ghost use Rattle.std.specs.Prelude.{◌≡◌, ◌≤◌, ◌+◌, ◌∷◌, [], IfOk, OnOk, OnErr, IfSome, length, true};
+ghost use Rattle.std.specs.Prelude.{◌≡◌, ◌≤◌, ◌+◌, ◌∷◌, [], ℕ, List, IfOk, OnOk, OnErr, IfSome, length, true};
 ghost use Rattle.c_tokens.specs.Languages.{is_identifier};
 ghost use Rattle.project_conf.specs.Defines.{AreUsable, name_of, size_of};
 ghost use Rattle.include_units.specs.Coming.{IsShortAnswer};
-ghost use Rattle.include_units.specs.Units.{command_text};
+ghost use Rattle.include_units.specs.declared.types.FileAnswer.{FileAnswer as Answer};
+ghost use Rattle.include_units.specs.Stack.{IsRead, rest_by, reading_left};
+ghost use Rattle.include_units.specs.Units.{command_text, unit_tokens};
 ghost use Rattle.include_units.specs.Going.{IsGoing, begun, with_answer};
 
-use crate::stop::Stop;
+use crate::stack::{Reading, at_first, read_on};
 use crate::told::Told;
 use crate::types::{FileAnswer, Go, Want, Wants};
-use crate::units::unit_tokens;
 use c_tokens::is_identifier;
 use project_conf::{Define, Defines, IncludePaths, UnitConf};
 use std::alloc::{AllocError, Global};
 use std::marker::Model;
+use std::mem;
 use uri_paths::Path;
 
 /// A unit. Contracts see how it is read, and what it was told of files.
@@ -21,6 +23,8 @@ use uri_paths::Path;
 pub struct Unit {
     conf: UnitConf,
     files: Told,
+    // What was read of it; none where it begins at its front.
+    reading: Option<Reading>,
     alloc: Global,
 }
 
@@ -33,8 +37,9 @@ impl Model for Unit {
     ghost view = { λ u. record { conf = u.conf; answers = u.files } };
 
     ghost use Rattle.include_units.specs.Units.{command_text};
+    ghost use Rattle.include_units.specs.Stack.{IsRead};
 
-    ghost invariant = { λ u. length (command_text u.conf.defines) ≤ 4290772992 };
+    ghost invariant = { λ u. (length (command_text u.conf.defines) ≤ 4290772992) × IsRead u.conf u.files u.reading };
 }
 
 fn copied_paths(alloc: Global, paths: &[Path]) -> Result<IncludePaths, AllocError>
@@ -96,18 +101,43 @@ fn needs(alloc: Global, want: Want) -> Result<Wants, AllocError>
     Ok(Wants::from_vec(wants))
 }
 
-// What a unit comes to over these answers.
-fn going(alloc: Global, conf: &UnitConf, files: &Told) -> Result<Go, AllocError>
+fn taken_up(alloc: Global, conf: &UnitConf, reading: Option<Reading>) -> Result<Reading, AllocError>
     requires { length (command_text conf.now.defines) ≤ 4290772992 }
-    ensures { IfOk result (λ go. IsGoing conf.now files.now go) }
+    ensures { IfOk result (λ now. (answers : List (List ℕ × Answer)) → IsRead conf.now answers reading → rest_by answers (reading_left conf.now.includes now) ≡ rest_by answers (unit_tokens conf.now)) }
 {
-    match unit_tokens(alloc, conf, files) {
-        Ok(tokens) => Ok(Go::Done(tokens)),
-        Err(Stop::Need(want)) => {
+    match reading {
+        Some(reading) => Ok(reading),
+        None => {
+            let first = at_first(alloc, conf)?;
+            Ok(first)
+        }
+    }
+}
+
+// What a unit comes to over these answers. It goes on where it stopped; nothing was read where it was refused memory.
+fn going(
+    alloc: Global,
+    conf: &UnitConf,
+    files: &Told,
+    reading: &mut Option<Reading>,
+) -> Result<Go, AllocError>
+    requires short { length (command_text conf.now.defines) ≤ 4290772992 }
+    requires read { IsRead conf.now files.now reading.old }
+    ensures going { IfOk result (λ go. IsGoing conf.now files.now go) }
+    ensures read { IsRead conf.now files.now reading.new }
+{
+    let before = mem::replace(reading, None);
+    let mut now = taken_up(alloc, conf, before)?;
+    match read_on(alloc, conf.includes.as_slice(), files, &mut now)? {
+        Some(want) => {
             let wants = needs(alloc, want)?;
+            *reading = Some(now);
             Ok(Go::Need(wants))
         }
-        Err(Stop::NoMemory) => Err(AllocError),
+        None => {
+            let tokens = now.made.told();
+            Ok(Go::Done(tokens))
+        }
     }
 }
 
@@ -176,7 +206,12 @@ impl Unit {
     {
         let conf = copied_conf(alloc, conf)?;
         let files = Told::new(alloc);
-        Ok(Unit { conf, files, alloc })
+        Ok(Unit {
+            conf,
+            files,
+            reading: None,
+            alloc,
+        })
     }
 
     /// Tells an answer about a path, which has at most 4,290,772,992 tokens. Where a question was answered before, the first
@@ -186,17 +221,21 @@ impl Unit {
         ensures told { OnOk result (self.new ≡ with_answer self.old path answer) }
         ensures kept { OnErr result (self.new ≡ self.old) }
     {
-        self.files.tell(path, answer)
+        match self.files.tell(path, answer) {
+            Ok(()) => Ok(()),
+            Err(refusal) => Err(refusal),
+        }
     }
 
     /// What the unit comes to over all that it was told. Done comes with its tokens exactly where that answers all that it
     /// asks; else Need has what it asks next, which it wasn't told. It fails for want of memory alone.
     ///
-    /// The unit is read anew from its front.
+    /// It goes on where it stopped, so all calls for one unit together read each text once for each time that it is entered.
+    /// Where a call was refused memory, and behind Done, the next call reads the unit anew.
     pub fn go(&mut self) -> Result<Go, AllocError>
         ensures going { IfOk result (λ go. IsGoing self.old.conf self.old.answers go) }
         ensures same { self.new ≡ self.old }
     {
-        going(self.alloc, &self.conf, &self.files)
+        going(self.alloc, &self.conf, &self.files, &mut self.reading)
     }
 }

@@ -1,25 +1,25 @@
 // The tokens of a unit (ISO C11 5.1.1.2p1, 6.10): its texts, part by part, with the conditionals that are open.
 ghost use Rattle.std.specs.Prelude.{◌≡◌, ◌≤◌, ◌∷◌, ◌++◌, [], IfOk, OnOk, IfSome, length, option_map, string_bytes};
-ghost use Rattle.include_units.specs.Coming.{Comes};
+ghost use Rattle.include_units.specs.Coming.{Comes, Leads, AtNeed};
 ghost use Rattle.include_units.specs.Conditionals.{stand};
-ghost use Rattle.include_units.specs.Inclusion.{led};
+ghost use Rattle.include_units.specs.Left as left;
+ghost use Rattle.include_units.specs.Parted as parted;
 ghost use Rattle.include_units.specs.Units as spec;
 
 use crate::conditionals::{
-    Opens, elif_group, else_group, endif_line, fault_where, if_group, ifdef_group, unclosed,
+    Opens, elif_group, else_group, endif_line, fault_where, if_group, ifdef_group,
 };
 use crate::definitions::{define_line, undef_line};
-use crate::inclusion::{Lead, include_line, joined};
-use crate::literals::open_where;
+use crate::inclusion::{Next, include_line, joined};
 use crate::made::Made;
 use crate::own::OwnText;
 use crate::runs::run_of;
 use crate::shared::PpTokens;
 use crate::stop::Stop;
-use crate::texts::{Front, Part, Source, Text, next_part};
+use crate::texts::{Part, Source, Text};
 use crate::tokens::{is_ident, is_word};
 use crate::told::{Told, tokens_at};
-use crate::types::{Entered, UnitTokens, Want};
+use crate::types::{Entered, Want};
 use project_conf::{Define, UnitConf};
 use shared_text::Name;
 use std::alloc::{AllocError, Global};
@@ -106,14 +106,15 @@ fn control_line(
     name: &OutToken,
     tokens: &[OutToken],
     made: &mut Made,
-) -> Result<Lead, Stop>
-    ensures { Comes files.now (spec.control_line folders.now deep text.now name.now tokens.now made.old) (λ lead. led lead made.new) result }
+) -> Result<Next, Stop>
+    ensures left { Leads files.now (spec.control_line folders.now deep text.now name.now tokens.now made.old) (λ next. left.next_left next made.new) result }
+    ensures kept { AtNeed result (made.new ≡ made.old) }
 {
     if is_word("include", name) {
         return include_line(alloc, folders, files, deep, text, name, tokens, made);
     }
     plain_line(alloc, text, name, tokens, made)?;
-    Ok(Lead::On)
+    Ok(Next::Onward)
 }
 
 // A directive that is no part of a conditional.
@@ -127,16 +128,17 @@ fn other_line(
     tokens: &[OutToken],
     opens: &Opens,
     made: &mut Made,
-) -> Result<Lead, Stop>
-    ensures { Comes files.now (spec.other_line folders.now deep text.now name.now tokens.now opens.now made.old) (λ lead. spec.walked lead opens.now made.new) result }
+) -> Result<Next, Stop>
+    ensures left { Leads files.now (spec.other_line folders.now deep text.now name.now tokens.now opens.now made.old) (λ next. left.walked_left opens.now next made.new) result }
+    ensures kept { AtNeed result (made.new ≡ made.old) }
 {
     if opens.is_taken() {
         return match control_line(alloc, folders, files, deep, text, name, tokens, made) {
-            Ok(lead) => Ok(lead),
+            Ok(next) => Ok(next),
             Err(stop) => Err(stop),
         };
     }
-    Ok(Lead::On)
+    Ok(Next::Onward)
 }
 
 // `#ifdef`, `#ifndef`, `#else` and `#endif`.
@@ -190,24 +192,25 @@ fn named_line(
     tokens: &[OutToken],
     opens: &mut Opens,
     made: &mut Made,
-) -> Result<Lead, Stop>
-    ensures { Comes files.now (spec.named_line folders.now deep text.now name.now tokens.now opens.old made.old) (λ lead. spec.walked lead opens.new made.new) result }
+) -> Result<Next, Stop>
+    ensures left { Leads files.now (spec.named_line folders.now deep text.now name.now tokens.now opens.old made.old) (λ next. left.walked_left opens.new next made.new) result }
+    ensures kept { AtNeed result ((opens.new ≡ opens.old) × (made.new ≡ made.old)) }
 {
     if is_word("if", name) {
         return match if_group(alloc, files, text, name, tokens, opens, made) {
-            Ok(()) => Ok(Lead::On),
+            Ok(()) => Ok(Next::Onward),
             Err(stop) => Err(stop),
         };
     }
     if is_word("elif", name) {
         return match elif_group(alloc, files, text, name, tokens, opens, made) {
-            Ok(()) => Ok(Lead::On),
+            Ok(()) => Ok(Next::Onward),
             Err(stop) => Err(stop),
         };
     }
     if is_group(name) {
         group_line(alloc, name, tokens, opens, made)?;
-        return Ok(Lead::On);
+        return Ok(Next::Onward);
     }
     other_line(alloc, folders, files, deep, text, name, tokens, opens, made)
 }
@@ -219,7 +222,7 @@ fn goes_on(name: &OutToken) -> bool
 }
 
 // The group in which a directive stands is taken.
-fn stands_taken(name: &OutToken, opens: &Opens) -> bool
+pub(crate) fn stands_taken(name: &OutToken, opens: &Opens) -> bool
     ensures { result ≡ spec.stands_taken name.now opens.now }
 {
     if goes_on(name) {
@@ -238,19 +241,18 @@ fn directive(
     tokens: &[OutToken],
     opens: &mut Opens,
     made: &mut Made,
-) -> Result<Lead, Stop>
-    ensures { Comes files.now (spec.directive folders.now deep text.now hash.now tokens.now opens.old made.old) (λ lead. spec.walked lead opens.new made.new) result }
+) -> Result<Next, Stop>
+    ensures left { Leads files.now (parted.directive_behind folders.now deep text.now hash.now tokens.now opens.old made.old) (λ next. left.walked_left opens.new next made.new) result }
+    ensures kept { AtNeed result ((opens.new ≡ opens.old) × (made.new ≡ made.old)) }
 {
     let Some((name, behind)) = tokens.split_first() else {
-        return Ok(Lead::On);
+        return Ok(Next::Onward);
     };
-    let taken = stands_taken(name, opens);
-    open_where(alloc, taken, tokens, made)?;
     if is_ident(name.kind) {
         return named_line(alloc, folders, files, deep, text, name, behind, opens, made);
     }
     fault_where(alloc, opens.is_taken(), 221, &hash.site, made)?;
-    Ok(Lead::On)
+    Ok(Next::Onward)
 }
 
 fn text_lines(
@@ -260,20 +262,21 @@ fn text_lines(
     tokens: &[OutToken],
     opens: &Opens,
     made: &mut Made,
-) -> Result<Lead, Stop>
-    ensures { Comes files.now (spec.text_lines text.now tokens.now opens.now made.old) (λ lead. spec.walked lead opens.now made.new) result }
+) -> Result<Next, Stop>
+    ensures left { Leads files.now (parted.lines_behind text.now tokens.now opens.now made.old) (λ next. left.walked_left opens.now next made.new) result }
+    ensures kept { AtNeed result (made.new ≡ made.old) }
 {
     if !opens.is_taken() {
-        return Ok(Lead::On);
+        return Ok(Next::Onward);
     }
     match run_of(alloc, files, text, tokens, made) {
-        Ok(()) => Ok(Lead::On),
+        Ok(()) => Ok(Next::Onward),
         Err(stop) => Err(stop),
     }
 }
 
-// Reads a part of a text, and says where it leads.
-fn read_part(
+// Reads a part of a text, whose open literals are shown, and says where it leads.
+pub(crate) fn read_part(
     alloc: Global,
     folders: &[Path],
     files: &Told,
@@ -282,8 +285,9 @@ fn read_part(
     part: &Part,
     opens: &mut Opens,
     made: &mut Made,
-) -> Result<Lead, Stop>
-    ensures { Comes files.now (spec.part folders.now deep text.now part.now opens.old made.old) (λ lead. spec.walked lead opens.new made.new) result }
+) -> Result<Next, Stop>
+    ensures left { Leads files.now (parted.part_behind folders.now deep text.now part.now opens.old made.old) (λ next. left.walked_left opens.new next made.new) result }
+    ensures kept { AtNeed result ((opens.new ≡ opens.old) × (made.new ≡ made.old)) }
 {
     match part {
         Part::Run(tokens) => text_lines(alloc, files, text, tokens.as_slice(), opens, made),
@@ -301,7 +305,7 @@ fn read_part(
     }
 }
 
-fn tokens_of(files: &Told, source: &Source) -> Result<PpTokens, Stop>
+pub(crate) fn tokens_of(files: &Told, source: &Source) -> Result<PpTokens, Stop>
     ensures value { Comes files.now (spec.tokens_of source.now) (λ tokens. tokens) result }
     ensures short { IfOk result (λ tokens. length tokens ≤ 4290772992) }
 {
@@ -332,7 +336,12 @@ fn read_in(source: &Source, made: &mut Made) -> Result<(), AllocError>
     }
 }
 
-fn entering(text: &Text, by: TokId, tokens: &[PpToken], made: &mut Made) -> Result<(), AllocError>
+pub(crate) fn entering(
+    text: &Text,
+    by: TokId,
+    tokens: &[PpToken],
+    made: &mut Made,
+) -> Result<(), AllocError>
     ensures { OnOk result (made.new ≡ spec.entering text.now by tokens.now made.old) }
 {
     read_in(&text.source, made)?;
@@ -342,82 +351,10 @@ fn entering(text: &Text, by: TokId, tokens: &[PpToken], made: &mut Made) -> Resu
 }
 
 // Texts may be entered at this depth.
-fn is_deep(depth: u8) -> bool
+pub(crate) fn is_deep(depth: u8) -> bool
     ensures { result ≡ spec.is_deep depth }
 {
     0 < depth
-}
-
-// Reads the tokens of a text, in which texts are entered so deep at most.
-fn text_tokens(
-    alloc: Global,
-    folders: &[Path],
-    files: &Told,
-    depth: u8,
-    text: &Text,
-    tokens: &[PpToken],
-    made: &mut Made,
-) -> Result<(), Stop>
-    requires { length tokens.now ≤ 4290772992 }
-    ensures { Comes files.now (spec.text_tokens folders.now depth text.now tokens.now made.old) (λ _. made.new) result }
-{
-    let deep = is_deep(depth);
-    let mut opens = Opens::new(alloc);
-    let mut at = 0;
-    let mut rest = tokens;
-    while let Some(front) = next_part(alloc, &text.name, at, rest)? {
-        let Front {
-            part,
-            at: next,
-            behind,
-        } = front;
-        at = next;
-        rest = behind;
-        match read_part(alloc, folders, files, deep, text, &part, &mut opens, made) {
-            Ok(Lead::On) => continue,
-            Ok(Lead::Into(inner, by)) => {
-                if depth == 0 {
-                    continue;
-                }
-                match tokens_of(files, &inner.source) {
-                    Ok(found) => {
-                        entering(&inner, by, found.as_slice(), made)?;
-                        match text_tokens(
-                            alloc,
-                            folders,
-                            files,
-                            depth - 1,
-                            &inner,
-                            found.as_slice(),
-                            made,
-                        ) {
-                            Ok(()) => continue,
-                            Err(stop) => return Err(stop),
-                        }
-                    }
-                    Err(stop) => return Err(stop),
-                }
-            }
-            Err(stop) => return Err(stop),
-        }
-    }
-    unclosed(alloc, &opens, made)?;
-    Ok(())
-}
-
-fn read_text(
-    alloc: Global,
-    folders: &[Path],
-    files: &Told,
-    text: &Text,
-    made: &mut Made,
-) -> Result<(), Stop>
-    ensures { Comes files.now (spec.read_text folders.now text.now made.old) (λ _. made.new) result }
-{
-    match tokens_of(files, &text.source) {
-        Ok(tokens) => text_tokens(alloc, folders, files, 200, text, tokens.as_slice(), made),
-        Err(stop) => Err(stop),
-    }
 }
 
 fn push_define(out: &mut String, define: &Define) -> Result<(), AllocError>
@@ -450,7 +387,7 @@ fn push_unset(out: &mut String, name: &str) -> Result<(), AllocError>
 const GIVEN: &str =
     "#define __STDC__ 1\n#define __STDC_VERSION__ 201112L\n#define __STDC_HOSTED__ 1\n#define __STDC_NO_ATOMICS__ 1\n#define __STDC_NO_COMPLEX__ 1\n#define __STDC_NO_THREADS__ 1\n#define __STDC_NO_VLA__ 1\n#define __DATE__ \"Jan  1 1970\"\n#define __TIME__ \"00:00:00\"\n";
 
-fn command_text(alloc: Global, defines: &[Define]) -> Result<String, AllocError>
+pub(crate) fn command_text(alloc: Global, defines: &[Define]) -> Result<String, AllocError>
     ensures { IfOk result (λ text. string_bytes text ≡ spec.command_text defines.now) }
 {
     let mut out = String::from_str(alloc, GIVEN)?;
@@ -462,20 +399,7 @@ fn command_text(alloc: Global, defines: &[Define]) -> Result<String, AllocError>
     Ok(out)
 }
 
-fn command_of(alloc: Global, defines: &[Define]) -> Result<Text, AllocError>
-    requires { length (spec.command_text defines.now) ≤ 4290772992 }
-    ensures { IfOk result (λ text. text ≡ spec.command_of defines.now) }
-{
-    let text = command_text(alloc, defines)?;
-    let own = OwnText::from_str(alloc, text.as_str())?;
-    let name = Name::from_str(alloc, "<command>")?;
-    Ok(Text {
-        name,
-        source: Source::Own(own),
-    })
-}
-
-fn file_of(alloc: Global, path: &Path) -> Result<Text, AllocError>
+pub(crate) fn file_of(alloc: Global, path: &Path) -> Result<Text, AllocError>
     ensures { IfOk result (λ text. text ≡ spec.file_of path.now) }
 {
     let name = Name::from_str(alloc, path.as_str())?;
@@ -484,22 +408,4 @@ fn file_of(alloc: Global, path: &Path) -> Result<Text, AllocError>
         name,
         source: Source::File(path),
     })
-}
-
-// The tokens of a unit, as far as what it asks is told.
-pub(crate) fn unit_tokens(alloc: Global, conf: &UnitConf, files: &Told) -> Result<UnitTokens, Stop>
-    requires { length (spec.command_text conf.now.defines) ≤ 4290772992 }
-    ensures { Comes files.now (spec.unit_tokens conf.now) (λ unit. unit) result }
-{
-    let command = command_of(alloc, conf.defines.as_slice())?;
-    let file = file_of(alloc, &conf.file)?;
-    let folders = conf.includes.as_slice();
-    let mut made = Made::at_first(alloc, &conf.file)?;
-    match read_text(alloc, folders, files, &command, &mut made) {
-        Ok(()) => match read_text(alloc, folders, files, &file, &mut made) {
-            Ok(()) => Ok(made.told()),
-            Err(stop) => Err(stop),
-        },
-        Err(stop) => Err(stop),
-    }
 }

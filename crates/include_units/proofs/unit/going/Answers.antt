@@ -1,17 +1,23 @@
-use Rattle.std.proofs.Common.{ap, sym, ◌∙◌, subst, List, map}
-use Rattle.asking.specs.LookUps.{Looked, Needs}
-use Rattle.include_units.specs.declared.types.UnitTokens.{UnitTokens}
-use Rattle.include_units.specs.declared.types.Want.{Want}
-use Rattle.include_units.specs.Coming.{Stops, question}
-use Rattle.include_units.specs.Files.{files}
-use Rattle.include_units.specs.Units.{unit_tokens}
+use Rattle.std.proofs.Common.{sym, subst}
+use Rattle.include_units.specs.Stack.{IsRead}
+use Rattle.include_units.proofs.Stepping.{comes_done, comes_waits, comes_read}
 use Rattle.include_units.proofs.unit.going.Goals as goal
 
-needing : List Want → Looked files UnitTokens
-needing wants = Needs (map question wants)
+pub returns-in_ok-wants-in-Some-clause-going : goal.returns-in_ok-wants-in-Some-clause-going
+returns-in_ok-wants-in-Some-clause-going c =
+    comes_waits c.args.files.now c.args.conf.now c.as_slice.result.now c.in_ok-now.now c.read_on.new.reading c.in_ok-want.field-0 c.as_slice.ensures (c.in_ok-now.ensures c.args.files.now (subst (λ o. IsRead c.args.conf.now c.args.files.now o) (sym c.replace-before.ensures.value) c.requires.read)) c.in_ok-want.ensures
+    c.in-Some.want c.in_ok-wants-in-Some.wants c.in-Some.is c.in_ok-wants-in-Some.ensures
 
-pub returns-in_ok-wants-in-Err-Need : goal.returns-in_ok-wants-in-Err-Need
-unfolding needing
-returns-in_ok-wants-in-Err-Need c =
-    subst (λ s. Stops c.args.files.now (unit_tokens c.args.conf.now) s) c.in-Err-Need.field-0-is c.in-Err-Need.ensures
-    ∙ ap needing (sym c.in_ok-wants-in-Err-Need.ensures)
+pub returns-in_ok-wants-in-Some-clause-read : goal.returns-in_ok-wants-in-Some-clause-read
+returns-in_ok-wants-in-Some-clause-read c =
+    comes_read c.args.files.now c.args.conf.now c.as_slice.result.now c.in_ok-now.now c.read_on.new.reading c.in_ok-want.field-0 c.as_slice.ensures (c.in_ok-now.ensures c.args.files.now (subst (λ o. IsRead c.args.conf.now c.args.files.now o) (sym c.replace-before.ensures.value) c.requires.read)) c.in_ok-want.ensures
+    c.in-Some.want c.in-Some.is
+
+pub returns-in-None-clause-going : goal.returns-in-None-clause-going
+returns-in-None-clause-going c =
+    comes_done c.args.files.now c.args.conf.now c.as_slice.result.now c.in_ok-now.now c.read_on.new.reading c.in_ok-want.field-0 c.as_slice.ensures (c.in_ok-now.ensures c.args.files.now (subst (λ o. IsRead c.args.conf.now c.args.files.now o) (sym c.replace-before.ensures.value) c.requires.read)) c.in_ok-want.ensures
+    c.told-tokens.result c.in-None.is c.told-tokens.ensures
+
+pub returns-in-None-clause-read : goal.returns-in-None-clause-read
+returns-in-None-clause-read c =
+    subst (λ o. IsRead c.args.conf.now c.args.files.now o) (sym c.replace-before.ensures.after) tt

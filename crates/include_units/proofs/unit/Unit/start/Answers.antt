@@ -5,4 +5,4 @@ use Rattle.include_units.proofs.unit.Unit.start.Goals as goal
 
 pub invariant_of-result : goal.invariant_of-result
 invariant_of-result c =
-    subst (λ conf. length (command_text conf.defines) ≤ 4290772992) (sym c.in_ok-conf.ensures) (short_command c.args.conf.now.defines c.requires)
+    (subst (λ conf. length (command_text conf.defines) ≤ 4290772992) (sym c.in_ok-conf.ensures) (short_command c.args.conf.now.defines c.requires), tt)
