@@ -1,2 +1,1 @@
-pub mod LastLemmas
-pub mod PlaceLemmas
+pub mod WalkLemmas

@@ -1,9 +1,10 @@
--- The faults of the end of a unit (ISO C11 6.9p3, p5, 6.9.2). Each falls on a name that an item states at file scope.
+-- The faults of the end of a unit (ISO C11 6.2.2p7, 6.9p3, p5, 6.9.2). Each falls on a name that an item states at file scope.
 use Rattle.std.specs.Prelude.{ℕ, Bool, true, false, not, ◌&&◌, ◌||◌, ◌++◌, nat_eq, List, [], ◌∷◌, Option, Some, None, if◌then◌else◌}
 use Rattle.std.specs.List.{list_any}
 use Rattle.std.specs.Cmp.Lexicographic.{pointwise}
 use Rattle.type_data.specs.declared.judged.Fault.{Fault}
 use Rattle.type_data.specs.declared.names.ItemName.{ItemName}
+use Rattle.type_data.specs.Types.{Ty, Void_type, Basic_type, Enumerated_type, Tagged_type, Pointer_to, Array_of, Function_of, Bad_type}
 use Rattle.scope_tables.specs.declared.entities.Entity.{Entity}
 use Rattle.scope_tables.specs.declared.entities.Linkage.{Linkage}
 use Rattle.scope_tables.specs.declared.entities.Linkage.TheVariants as linkage
@@ -63,6 +64,36 @@ is_internal linkage.Internal = true
 is_internal linkage.External = false
 is_internal linkage.None = false
 
+abbrev pub is_external : Linkage → Bool
+is_external linkage.External = true
+is_external linkage.Internal = false
+is_external linkage.None = false
+
+-- what has a fault is no type
+abbrev pub is_type : Ty → Bool
+is_type Void_type = true
+is_type (Basic_type b) = true
+is_type (Enumerated_type id) = true
+is_type (Tagged_type id) = true
+is_type (Pointer_to t q) = true
+is_type (Array_of t q n) = true
+is_type (Function_of t ps p) = true
+is_type Bad_type = false
+
+abbrev pub declares_external : List ℕ → Entity → Bool
+declares_external name e = is_external e.linkage && is_type e.ty && pointwise nat_eq e.name name
+
+abbrev pub declare_external : List ℕ → List Entity → Bool
+declare_external name es = list_any (declares_external name) es
+
+abbrev pub bodies_declare : List ℕ → List BodyMeaning → Bool
+bodies_declare name bs = list_any (λ b. declare_external name b.entities) bs
+
+-- 6.2.2p7: it has internal linkage at file scope, and a body declares it with external linkage. Where its declaration with internal
+-- linkage is in force, one with `extern` in a body takes that linkage (p4), so this body stands before it
+abbrev pub has_both : List ℕ → List BodyMeaning → Entity → Bool
+has_both name bs e = is_internal e.linkage && bodies_declare name bs
+
 -- 6.9p3: it has internal linkage, is used and isn't defined
 abbrev pub is_wanting : List ℕ → List HeadMeaning → List BodyMeaning → Entity → Bool
 is_wanting name hs bs e = is_internal e.linkage && is_used name hs bs && not (stated gives name hs)
@@ -73,7 +104,7 @@ is_left_open name hs e = stated is_tentative name hs && not (stated defines name
 
 -- the fault of a name that nothing states before
 unfoldable pub first_rule : List ℕ → List HeadMeaning → List BodyMeaning → Entity → Option ℕ
-first_rule name hs bs e = if is_wanting name hs bs e then Some 701 else if is_left_open name hs e then Some 703 else None
+first_rule name hs bs e = if has_both name bs e then Some 430 else if is_wanting name hs bs e then Some 701 else if is_left_open name hs e then Some 703 else None
 
 abbrev pub rule_at_first : List ℕ → List HeadMeaning → List BodyMeaning → Option Entity → Option ℕ
 rule_at_first name hs bs None = None

@@ -1,2 +1,5 @@
 pub mod Ends
+pub mod Items
+pub mod Kept
 pub mod Last
+pub mod Passed

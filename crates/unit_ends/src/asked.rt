@@ -1,14 +1,20 @@
-// What the items of a unit state of a name.
+// What is asked of the statements of a unit (ISO C11 6.2.2, 6.9, 6.9.2).
 ghost use Rattle.std.specs.Prelude.{◌≡◌};
 ghost use Rattle.unit_ends.specs.Ends as spec;
+ghost use Rattle.unit_ends.specs.Kept;
 
-use scope_tables::{BodyMeaning, HeadMeaning, How, Linkage, Stated};
-use shared_text::Name;
+use scope_tables::{How, Linkage, Stated};
+use type_data::{CType, Node};
 
-fn is_it(stated: &Stated, name: &str) -> bool
-    ensures { result ≡ spec.is_it name.now stated.now }
-{
-    stated.name.as_str() == name
+/// What is asked of a statement.
+#[derive(Clone, Copy)]
+pub(crate) enum Asked {
+    /// Nothing: it states the name.
+    Stated,
+    Defined,
+    Tentative,
+    /// It defines or would define.
+    Given,
 }
 
 pub(crate) fn defines(how: How) -> bool
@@ -44,82 +50,16 @@ fn gives(how: How) -> bool
     }
 }
 
-pub(crate) fn states(stated: &[Stated], name: &str) -> bool
-    ensures { result ≡ spec.states spec.any name.now stated.now }
+/// Whether a statement is what is asked for.
+pub(crate) fn is_asked(asked: Asked, stated: &Stated) -> bool
+    ensures { result ≡ Kept.asks asked stated.now.how }
 {
-    stated.iter().any(|s| is_it(s, name))
-}
-
-pub(crate) fn states_definition(stated: &[Stated], name: &str) -> bool
-    ensures { result ≡ spec.states spec.defines name.now stated.now }
-{
-    stated.iter().any(|s| defines(s.how) && is_it(s, name))
-}
-
-fn states_tentative(stated: &[Stated], name: &str) -> bool
-    ensures { result ≡ spec.states spec.is_tentative name.now stated.now }
-{
-    stated.iter().any(|s| is_tentative(s.how) && is_it(s, name))
-}
-
-fn states_given(stated: &[Stated], name: &str) -> bool
-    ensures { result ≡ spec.states spec.gives name.now stated.now }
-{
-    stated.iter().any(|s| gives(s.how) && is_it(s, name))
-}
-
-pub(crate) fn is_stated(heads: &[HeadMeaning], name: &str) -> bool
-    ensures { result ≡ spec.stated spec.any name.now heads.now }
-{
-    heads.iter().any(|h| states(h.stated.as_slice(), name))
-}
-
-pub(crate) fn is_defined(heads: &[HeadMeaning], name: &str) -> bool
-    ensures { result ≡ spec.stated spec.defines name.now heads.now }
-{
-    heads
-        .iter()
-        .any(|h| states_definition(h.stated.as_slice(), name))
-}
-
-pub(crate) fn is_tentatively_defined(heads: &[HeadMeaning], name: &str) -> bool
-    ensures { result ≡ spec.stated spec.is_tentative name.now heads.now }
-{
-    heads
-        .iter()
-        .any(|h| states_tentative(h.stated.as_slice(), name))
-}
-
-pub(crate) fn is_given(heads: &[HeadMeaning], name: &str) -> bool
-    ensures { result ≡ spec.stated spec.gives name.now heads.now }
-{
-    heads
-        .iter()
-        .any(|h| states_given(h.stated.as_slice(), name))
-}
-
-fn uses(used: &[Name], name: &str) -> bool
-    ensures { result ≡ spec.uses name.now used.now }
-{
-    used.iter().any(|n| n.as_str() == name)
-}
-
-fn heads_use(heads: &[HeadMeaning], name: &str) -> bool
-    ensures { result ≡ spec.heads_use name.now heads.now }
-{
-    heads.iter().any(|h| uses(h.used.as_slice(), name))
-}
-
-fn bodies_use(bodies: &[BodyMeaning], name: &str) -> bool
-    ensures { result ≡ spec.bodies_use name.now bodies.now }
-{
-    bodies.iter().any(|b| uses(b.used.as_slice(), name))
-}
-
-pub(crate) fn is_used(heads: &[HeadMeaning], bodies: &[BodyMeaning], name: &str) -> bool
-    ensures { result ≡ spec.is_used name.now heads.now bodies.now }
-{
-    heads_use(heads, name) || bodies_use(bodies, name)
+    match asked {
+        Asked::Stated => true,
+        Asked::Defined => defines(stated.how),
+        Asked::Tentative => is_tentative(stated.how),
+        Asked::Given => gives(stated.how),
+    }
 }
 
 pub(crate) fn is_internal(linkage: Linkage) -> bool
@@ -129,5 +69,31 @@ pub(crate) fn is_internal(linkage: Linkage) -> bool
         Linkage::Internal => true,
         Linkage::External => false,
         Linkage::None => false,
+    }
+}
+
+pub(crate) fn is_external(linkage: Linkage) -> bool
+    ensures { result ≡ spec.is_external linkage }
+{
+    match linkage {
+        Linkage::External => true,
+        Linkage::Internal => false,
+        Linkage::None => false,
+    }
+}
+
+// What has a fault is no type.
+pub(crate) fn is_type(ty: &CType) -> bool
+    ensures { result ≡ spec.is_type ty.now }
+{
+    match ty.node() {
+        Node::Void => true,
+        Node::Basic(_) => true,
+        Node::Enumerated(_) => true,
+        Node::Tagged(_) => true,
+        Node::Pointer(_, _) => true,
+        Node::Array(_, _, _) => true,
+        Node::Function(_, _, _) => true,
+        Node::Bad => false,
     }
 }

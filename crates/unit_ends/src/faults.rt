@@ -1,82 +1,74 @@
 // The faults, name by name.
-ghost use Rattle.std.specs.Prelude.{◌≡◌, ◌++◌, [], IfOk, OnOk};
+ghost use Rattle.std.specs.Prelude.{◌≡◌, ◌++◌, ◌∷◌, [], List, IfOk, OnOk};
+ghost use Rattle.scope_tables.specs.declared.meanings.HeadMeaning.{HeadMeaning as Head};
+ghost use Rattle.scope_tables.specs.declared.meanings.Stated.{Stated as Statement};
 ghost use Rattle.unit_ends.specs.Ends as spec;
 ghost use Rattle.unit_ends.specs.Last as ends;
+ghost use Rattle.unit_ends.specs.Passed.{HasPassed};
 
 use crate::asked;
-use crate::last::{is_incomplete, last};
+use crate::index::Index;
+use crate::passed::Passed;
 use scope_tables::{BodyMeaning, Entity, HeadMeaning, Stated};
 use shared_list::Listing;
+use shared_text::Name;
 use std::alloc::{AllocError, Global};
 use type_data::{Fault, ItemName};
 
-// All items of a unit.
-#[derive(Clone, Copy)]
-struct Unit<'a> {
-    heads: &'a [HeadMeaning],
-    bodies: &'a [BodyMeaning],
+fn has_both(index: &Index<'_>, name: &Name, entity: &Entity) -> bool
+    ensures { result ≡ spec.has_both name.now index.now.bodies entity.now }
+{
+    asked::is_internal(entity.linkage) && index.is_external_in_a_body(name)
 }
 
-fn is_wanting(unit: &Unit<'_>, name: &str, entity: &Entity) -> bool
-    ensures { result ≡ spec.is_wanting name.now unit.now.heads.now unit.now.bodies.now entity.now }
+fn is_wanting(index: &Index<'_>, name: &Name, entity: &Entity) -> bool
+    ensures { result ≡ spec.is_wanting name.now index.now.heads index.now.bodies entity.now }
 {
-    asked::is_internal(entity.linkage)
-        && asked::is_used(unit.heads, unit.bodies, name)
-        && !asked::is_given(unit.heads, name)
+    asked::is_internal(entity.linkage) && index.is_used(name) && !index.is_given(name)
 }
 
-fn is_left_open(unit: &Unit<'_>, name: &str, entity: &Entity) -> bool
-    ensures { result ≡ spec.is_left_open name.now unit.now.heads.now entity.now }
+fn is_left_open(index: &Index<'_>, name: &Name, entity: &Entity) -> bool
+    ensures { result ≡ spec.is_left_open name.now index.now.heads entity.now }
 {
-    asked::is_tentatively_defined(unit.heads, name)
-        && !asked::is_defined(unit.heads, name)
-        && is_incomplete(unit.heads, entity.linkage, &entity.ty)
+    index.is_tentatively_defined(name)
+        && !index.is_defined(name)
+        && index.is_incomplete(entity.linkage, &entity.ty)
 }
 
 #[tactic(auto, unfolding(crate::specs::Ends::first_rule))]
-fn first_rule(unit: &Unit<'_>, name: &str, entity: &Entity) -> Option<u16>
-    ensures { result ≡ spec.first_rule name.now unit.now.heads.now unit.now.bodies.now entity.now }
+fn first_rule(index: &Index<'_>, name: &Name, entity: &Entity) -> Option<u16>
+    ensures { result ≡ spec.first_rule name.now index.now.heads index.now.bodies entity.now }
 {
-    if is_wanting(unit, name, entity) {
+    if has_both(index, name, entity) {
+        return Some(430);
+    }
+    if is_wanting(index, name, entity) {
         return Some(701);
     }
-    if is_left_open(unit, name, entity) {
+    if is_left_open(index, name, entity) {
         return Some(703);
     }
     None
 }
 
-fn rule_at_first(unit: &Unit<'_>, name: &str) -> Option<u16>
-    ensures { result ≡ spec.rule_at_first name.now unit.now.heads.now unit.now.bodies.now (ends.last name.now unit.now.heads.now) }
+fn rule_at_first(index: &Index<'_>, name: &Name) -> Option<u16>
+    ensures { result ≡ spec.rule_at_first name.now index.now.heads index.now.bodies (ends.last name.now index.now.heads) }
 {
-    match last(unit.heads, name) {
-        Some(entity) => first_rule(unit, name, entity),
+    match index.last(name) {
+        Some(entity) => first_rule(index, name, entity),
         None => None,
     }
 }
 
-fn is_stated_before(front: &[HeadMeaning], before: &[Stated], name: &str) -> bool
-    ensures { result ≡ spec.stated_before spec.any name.now front.now before.now }
+// The rule that a name breaks where it is stated, by what stands before it.
+fn rule(index: &Index<'_>, passed: &Passed, stated: &Stated) -> Option<u16>
+    ensures { (front : List Head) (before : List Statement) → HasPassed front before passed.now → result ≡ spec.rule index.now.heads index.now.bodies front before stated.now }
 {
-    asked::is_stated(front, name) || asked::states(before, name)
-}
-
-fn is_defined_before(front: &[HeadMeaning], before: &[Stated], name: &str) -> bool
-    ensures { result ≡ spec.stated_before spec.defines name.now front.now before.now }
-{
-    asked::is_defined(front, name) || asked::states_definition(before, name)
-}
-
-// The rule that a name breaks where it is stated: the items in front and the statements of its own item stand before it.
-#[tactic(auto, unfolding(crate::specs::Ends::rule))]
-fn rule(unit: &Unit<'_>, front: &[HeadMeaning], before: &[Stated], stated: &Stated) -> Option<u16>
-    ensures { result ≡ spec.rule unit.now.heads.now unit.now.bodies.now front.now before.now stated.now }
-{
-    let name = stated.name.as_str();
-    if !is_stated_before(front, before, name) {
-        return rule_at_first(unit, name);
+    let name = &stated.name;
+    if !passed.has_stated(name) {
+        return rule_at_first(index, name);
     }
-    if asked::defines(stated.how) && is_defined_before(front, before, name) {
+    if asked::defines(stated.how) && passed.has_defined(name) {
         return Some(702);
     }
     None
@@ -127,29 +119,27 @@ fn add(
 fn add_item(
     alloc: Global,
     faults: &mut Vec<(ItemName, Fault)>,
-    unit: &Unit<'_>,
-    front: &[HeadMeaning],
+    index: &Index<'_>,
+    passed: &mut Passed,
     head: &HeadMeaning,
 ) -> Result<(), AllocError>
-    ensures { OnOk result (faults.new.items ≡ faults.old.items ++ spec.of_item unit.now.heads.now unit.now.bodies.now front.now head.now.item [] head.now.stated) }
+    ensures faults { OnOk result ((front : List Head) → HasPassed front [] passed.old → faults.new.items ≡ faults.old.items ++ spec.of_item index.now.heads index.now.bodies front head.now.item [] head.now.stated) }
+    ensures passed { OnOk result ((front : List Head) → HasPassed front [] passed.old → HasPassed (front ++ head.now ∷ []) [] passed.new) }
 {
-    let all = head.stated.as_slice();
-    let mut count = 0;
-    let mut rest = all;
+    let mut rest = head.stated.as_slice();
     while let Some((stated, behind)) = rest.split_first() {
-        let before = all.split_at(count).0;
-        let broken = rule(unit, front, before, stated);
+        let broken = rule(index, passed, stated);
         add(alloc, faults, &head.item, stated, broken)?;
-        count += 1;
+        passed.pass(stated)?;
         rest = behind;
     }
     Ok(())
 }
 
-/// The faults of the end of a unit, whose items are given in order: a name with internal linkage that is used and not
-/// defined (6.9p3), at its first declaration; each definition of a name after the first (6.9p5); a tentative definition
-/// that is incomplete at the end (6.9.2p2, p3), at the name's first declaration. They stand in the order of the items, and
-/// within an item in that of its tokens. Its cost is that of a walk over all items for each name.
+/// The faults of the end of a unit, whose items are given in order: at its first declaration a name with internal linkage
+/// that a body has declared with external linkage (6.2.2p7), one with internal linkage that is used and not defined (6.9p3),
+/// or a tentative definition that is incomplete at the end (6.9.2p2, p3); each definition of a name after the first (6.9p5). They stand in the order of the items, and
+/// within an item in that of its tokens. Its cost is linear in what the items declare, state and use.
 pub fn end_faults(
     alloc: Global,
     heads: &[HeadMeaning],
@@ -157,14 +147,12 @@ pub fn end_faults(
 ) -> Result<Vec<(ItemName, Fault)>, AllocError>
     ensures { IfOk result (λ faults. faults.items ≡ spec.ends heads.now bodies.now) }
 {
-    let unit = Unit { heads, bodies };
+    let index = Index::new(alloc, heads, bodies)?;
+    let mut passed = Passed::new(alloc);
     let mut faults = Vec::new(alloc);
-    let mut count = 0;
-    let mut rest = heads;
+    let mut rest = index.heads();
     while let Some((head, behind)) = rest.split_first() {
-        let front = heads.split_at(count).0;
-        add_item(alloc, &mut faults, &unit, front, head)?;
-        count += 1;
+        add_item(alloc, &mut faults, &index, &mut passed, head)?;
         rest = behind;
     }
     Ok(faults)

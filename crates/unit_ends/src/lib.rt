@@ -3,6 +3,9 @@
 
 mod asked;
 mod faults;
+mod index;
 mod last;
+mod names;
+mod passed;
 
 pub use faults::end_faults;
