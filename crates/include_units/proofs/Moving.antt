@@ -258,8 +258,24 @@ module _ (answers : List (List ℕ × FileAnswer)) where
 told_stays : (answers : List (List ℕ × FileAnswer)) (e : List ℕ × FileAnswer) (q : Question) (a : Answer q) → look_up files answers q ≡ Some a → look_up files (answers ++ e ∷ []) q ≡ Some a
 told_stays answers e q a h = told_more answers e q ∙ ap (λ o. option_or o (reads q e)) h
 
+pub read_nothing : (conf : UnitConf) (answers : List (List ℕ × FileAnswer)) (r : Option Reading) → r ≡ None → IsRead conf answers r
+unfolding IsRead
+read_nothing conf answers r e = subst (λ o. IsRead conf answers o) (sym e) tt
+
+pub is_read : (conf : UnitConf) (answers : List (List ℕ × FileAnswer)) (r : Reading) →
+    rest_by answers (reading_left conf.includes r) ≡ rest_by answers (unit_tokens conf) → IsRead conf answers (Some r)
+unfolding IsRead
+is_read conf answers r e = e
+
+pub read_is : (conf : UnitConf) (answers : List (List ℕ × FileAnswer)) (r : Reading) →
+    IsRead conf answers (Some r) → rest_by answers (reading_left conf.includes r) ≡ rest_by answers (unit_tokens conf)
+unfolding IsRead
+read_is conf answers r e = e
+
 -- what was read stays right over one answer more
 pub read_stays : (conf : UnitConf) (answers : List (List ℕ × FileAnswer)) (e : List ℕ × FileAnswer) (r : Option Reading) → IsRead conf answers r → IsRead conf (answers ++ e ∷ []) r
-read_stays conf answers e None h = tt
+read_stays conf answers e None h = read_nothing conf (answers ++ e ∷ []) None refl
 read_stays conf answers e (Some r) h =
-    same_more (look_up files answers) (look_up files (answers ++ e ∷ [])) (told_stays answers e) (reading_left conf.includes r) (unit_tokens conf) h
+    is_read conf (answers ++ e ∷ []) r
+    (same_more (look_up files answers) (look_up files (answers ++ e ∷ [])) (told_stays answers e) (reading_left conf.includes r) (unit_tokens conf)
+    (read_is conf answers r h))

@@ -27,7 +27,7 @@ use Rattle.include_units.specs.Definitions.{command}
 use Rattle.include_units.specs.Units.{command_of, file_of, tokens_of, text_tokens, greatest_depth, read_text, at_first, told, unit_tokens}
 use Rattle.include_units.specs.Left.{IsMoved, frame_left, later_left, stack_left}
 use Rattle.include_units.specs.Stack.{reading_left, rest_by, IsStopped, IsRead}
-use Rattle.include_units.proofs.Moving.{stack_on, stack_waits, stack_enters, stack_ends, later_goes, later_waits, unit_done, unit_waits}
+use Rattle.include_units.proofs.Moving.{stack_on, stack_waits, stack_enters, stack_ends, later_goes, later_waits, is_read, unit_done, unit_waits}
 
 abbrev frame : Place → Ahead → List Open → Hand → Frame
 frame p r os h = record { place = p; rest = r; opens = os; hand = h }
@@ -139,4 +139,4 @@ module _ (answers : List (List ℕ × FileAnswer)) (conf : UnitConf) (folders : 
   pub comes_read : (want : Want) → came ≡ Some want → IsRead conf answers (Some after)
   comes_read want e =
       let s : IsStopped answers conf.includes (reading_left conf.includes before) after (Some want) = stopped_by (Some want) e in
-      sym s.0 ∙ read
+      is_read conf answers after (sym s.0 ∙ read)

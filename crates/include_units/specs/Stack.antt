@@ -36,7 +36,8 @@ IsStopped answers folders before r (Some want) =
     (rest_by answers before ≡ rest_by answers (reading_left folders r))
     × (run_by (look_up files answers) (reading_left folders r) ≡ Needs (question want ∷ []))
 
--- what was read of a unit is right over these answers; where nothing was, it begins at its front
-abbrev pub IsRead : UnitConf → List (List ℕ × FileAnswer) → Option Reading → Type 0
+-- What was read of a unit is right over these answers; where nothing was, it begins at its front. The invariant of a unit doesn't
+-- unfold by itself, since its callers would compute the whole unit.
+unfoldable pub IsRead : UnitConf → List (List ℕ × FileAnswer) → Option Reading → Type 0
 IsRead conf answers None = Unit {0}
 IsRead conf answers (Some r) = rest_by answers (reading_left conf.includes r) ≡ rest_by answers (unit_tokens conf)

@@ -10,6 +10,7 @@ mod frames;
 mod grown;
 mod heads;
 mod inclusion;
+mod kept;
 mod known;
 mod laws;
 mod literals;

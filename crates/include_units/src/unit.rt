@@ -8,6 +8,7 @@ ghost use Rattle.include_units.specs.Stack.{IsRead, rest_by, reading_left};
 ghost use Rattle.include_units.specs.Units.{command_text, unit_tokens};
 ghost use Rattle.include_units.specs.Going.{IsGoing, begun, with_answer};
 
+use crate::kept::Kept;
 use crate::stack::{Reading, at_first, read_on};
 use crate::told::Told;
 use crate::types::{FileAnswer, Go, Want, Wants};
@@ -15,7 +16,6 @@ use c_tokens::is_identifier;
 use project_conf::{Define, Defines, IncludePaths, UnitConf};
 use std::alloc::{AllocError, Global};
 use std::marker::Model;
-use std::mem;
 use uri_paths::Path;
 
 /// A unit. Contracts see how it is read, and what it was told of files.
@@ -23,8 +23,8 @@ use uri_paths::Path;
 pub struct Unit {
     conf: UnitConf,
     files: Told,
-    // What was read of it; none where it begins at its front.
-    reading: Option<Reading>,
+    // What was read of it; nothing where it begins at its front.
+    reading: Kept,
     alloc: Global,
 }
 
@@ -115,23 +115,19 @@ fn taken_up(alloc: Global, conf: &UnitConf, reading: Option<Reading>) -> Result<
 }
 
 // What a unit comes to over these answers. It goes on where it stopped; nothing was read where it was refused memory.
-fn going(
-    alloc: Global,
-    conf: &UnitConf,
-    files: &Told,
-    reading: &mut Option<Reading>,
-) -> Result<Go, AllocError>
+#[tactic(auto, using(crate::proofs::Moving::read_nothing))]
+fn going(alloc: Global, conf: &UnitConf, files: &Told, reading: &mut Kept) -> Result<Go, AllocError>
     requires short { length (command_text conf.now.defines) ≤ 4290772992 }
     requires read { IsRead conf.now files.now reading.old }
     ensures going { IfOk result (λ go. IsGoing conf.now files.now go) }
     ensures read { IsRead conf.now files.now reading.new }
 {
-    let before = mem::replace(reading, None);
+    let before = reading.take();
     let mut now = taken_up(alloc, conf, before)?;
     match read_on(alloc, conf.includes.as_slice(), files, &mut now)? {
         Some(want) => {
             let wants = needs(alloc, want)?;
-            *reading = Some(now);
+            reading.keep(alloc, now)?;
             Ok(Go::Need(wants))
         }
         None => {
@@ -209,7 +205,7 @@ impl Unit {
         Ok(Unit {
             conf,
             files,
-            reading: None,
+            reading: Kept::nothing(),
             alloc,
         })
     }

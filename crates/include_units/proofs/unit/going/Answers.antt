@@ -3,21 +3,18 @@ use Rattle.include_units.specs.Stack.{IsRead}
 use Rattle.include_units.proofs.Stepping.{comes_done, comes_waits, comes_read}
 use Rattle.include_units.proofs.unit.going.Goals as goal
 
-pub returns-in_ok-wants-in-Some-clause-going : goal.returns-in_ok-wants-in-Some-clause-going
-returns-in_ok-wants-in-Some-clause-going c =
-    comes_waits c.args.files.now c.args.conf.now c.as_slice.result.now c.in_ok-now.now c.read_on.new.reading c.in_ok-want.field-0 c.as_slice.ensures (c.in_ok-now.ensures c.args.files.now (subst (λ o. IsRead c.args.conf.now c.args.files.now o) (sym c.replace-before.ensures.value) c.requires.read)) c.in_ok-want.ensures
+pub returns-in_ok-keep-in-Some-clause-going : goal.returns-in_ok-keep-in-Some-clause-going
+returns-in_ok-keep-in-Some-clause-going c =
+    comes_waits c.args.files.now c.args.conf.now c.as_slice.result.now c.in_ok-now.now c.read_on.new.reading c.in_ok-want.field-0 c.as_slice.ensures (c.in_ok-now.ensures c.args.files.now (subst (λ o. IsRead c.args.conf.now c.args.files.now o) (sym c.take-before.ensures.taken) c.requires.read)) c.in_ok-want.ensures
     c.in-Some.want c.in_ok-wants-in-Some.wants c.in-Some.is c.in_ok-wants-in-Some.ensures
 
-pub returns-in_ok-wants-in-Some-clause-read : goal.returns-in_ok-wants-in-Some-clause-read
-returns-in_ok-wants-in-Some-clause-read c =
-    comes_read c.args.files.now c.args.conf.now c.as_slice.result.now c.in_ok-now.now c.read_on.new.reading c.in_ok-want.field-0 c.as_slice.ensures (c.in_ok-now.ensures c.args.files.now (subst (λ o. IsRead c.args.conf.now c.args.files.now o) (sym c.replace-before.ensures.value) c.requires.read)) c.in_ok-want.ensures
-    c.in-Some.want c.in-Some.is
+pub returns-in_ok-keep-in-Some-clause-read : goal.returns-in_ok-keep-in-Some-clause-read
+returns-in_ok-keep-in-Some-clause-read c =
+    subst (λ o. IsRead c.args.conf.now c.args.files.now o) (sym c.in_ok-keep-in-Some.ensures.kept) (
+    comes_read c.args.files.now c.args.conf.now c.as_slice.result.now c.in_ok-now.now c.read_on.new.reading c.in_ok-want.field-0 c.as_slice.ensures (c.in_ok-now.ensures c.args.files.now (subst (λ o. IsRead c.args.conf.now c.args.files.now o) (sym c.take-before.ensures.taken) c.requires.read)) c.in_ok-want.ensures
+    c.in-Some.want c.in-Some.is)
 
 pub returns-in-None-clause-going : goal.returns-in-None-clause-going
 returns-in-None-clause-going c =
-    comes_done c.args.files.now c.args.conf.now c.as_slice.result.now c.in_ok-now.now c.read_on.new.reading c.in_ok-want.field-0 c.as_slice.ensures (c.in_ok-now.ensures c.args.files.now (subst (λ o. IsRead c.args.conf.now c.args.files.now o) (sym c.replace-before.ensures.value) c.requires.read)) c.in_ok-want.ensures
+    comes_done c.args.files.now c.args.conf.now c.as_slice.result.now c.in_ok-now.now c.read_on.new.reading c.in_ok-want.field-0 c.as_slice.ensures (c.in_ok-now.ensures c.args.files.now (subst (λ o. IsRead c.args.conf.now c.args.files.now o) (sym c.take-before.ensures.taken) c.requires.read)) c.in_ok-want.ensures
     c.told-tokens.result c.in-None.is c.told-tokens.ensures
-
-pub returns-in-None-clause-read : goal.returns-in-None-clause-read
-returns-in-None-clause-read c =
-    subst (λ o. IsRead c.args.conf.now c.args.files.now o) (sym c.replace-before.ensures.after) tt
