@@ -62,34 +62,3 @@ pub(crate) fn tell_answers(
     }
     Ok(())
 }
-
-// Tells a unit of a text, before it asks.
-fn tell_text(lexings: &mut Lexings<'_>, path: Path, unit: &mut Unit) -> Result<(), AllocError>
-    requires { AreTrue lexings.old unit.old.answers }
-    ensures answers { OnOk result (AreTrue lexings.old unit.new.answers) }
-    ensures same { lexings.new ≡ lexings.old }
-    ensures conf { OnOk result (unit.new.conf ≡ unit.old.conf) }
-{
-    let mut wants = Vec::new(lexings.alloc());
-    wants.push(Want::Exists(path.share()?))?;
-    wants.push(Want::Text(path))?;
-    tell_answers(lexings, wants, unit)?;
-    Ok(())
-}
-
-/// Tells a unit of these texts, before it asks.
-pub(crate) fn tell_texts(
-    lexings: &mut Lexings<'_>,
-    paths: Vec<Path>,
-    unit: &mut Unit,
-) -> Result<(), AllocError>
-    requires { AreTrue lexings.old unit.old.answers }
-    ensures answers { OnOk result (AreTrue lexings.old unit.new.answers) }
-    ensures same { lexings.new ≡ lexings.old }
-    ensures conf { OnOk result (unit.new.conf ≡ unit.old.conf) }
-{
-    'paths: for path in paths {
-        tell_text(lexings, path, unit)?;
-    }
-    Ok(())
-}

@@ -82,10 +82,6 @@ impl<'a> Lexings<'a> {
         }
     }
 
-    pub(crate) fn alloc(&self) -> Global {
-        self.alloc
-    }
-
     /// The texts.
     pub(crate) fn docs(&self) -> &'a Docs
         ensures { result.now ≡ self.now }

@@ -5,7 +5,6 @@ mod answers;
 mod confs;
 mod laws;
 mod lexings;
-mod likely;
 mod lists;
 mod meaning;
 mod messages;

@@ -3,9 +3,8 @@ ghost use Rattle.std.specs.Prelude.{◌≡◌, IfOk};
 ghost use Rattle.project_conf.specs.Defines.{AreUsable};
 ghost use Rattle.plain_mean.specs.Given.{tokens_over};
 
-use crate::answers::{tell_answers, tell_texts};
+use crate::answers::tell_answers;
 use crate::lexings::Lexings;
-use crate::likely::likely_texts;
 use include_units::{Go, Unit, UnitTokens, units_are_right};
 use project_conf::UnitConf;
 use std::alloc::{AllocError, Global};
@@ -25,8 +24,6 @@ pub(crate) fn tokens_over(
 {
     units_are_right();
     let mut unit = Unit::start(alloc, conf)?;
-    let texts = likely_texts(alloc, lexings, conf)?;
-    tell_texts(lexings, texts, &mut unit)?;
     'asks: for _ in 0..u64::MAX {
         match unit.go()? {
             Go::Done(tokens) => return Ok(tokens),
