@@ -4,13 +4,15 @@
 // (`piles`, `rows`), its level or first length, how many roots, and the same of the edits, each with a sweep.
 #![tactic(auto)]
 
-ghost use Rattle.std.specs.Prelude.{◌≡◌, ◌<◌, IfOk, length};
+ghost use Rattle.std.specs.Prelude.{◌≡◌, ◌+◌, ◌<◌, IfOk, OnOk, length};
 
-use query_tests::{Cell, Edit, edit_all, edit_under};
+use query_core::Graph;
+use query_tests::{Cell, CellRules, Edit, demand_all, edit_all, edit_under};
 use std::alloc::{AllocError, Global};
 use std::marker::Brand;
-use std::sync::ledger::Blank;
+use std::sync::ledger::{Blank, Ledger};
 use std::{env, io};
+use steps::Steps;
 
 static EDITS: [Edit; 12] = [
     Edit {
@@ -155,15 +157,43 @@ fn show(rt: &HostRuntime, edits: &[Edit]) -> io::Result<()>
     Ok(())
 }
 
-/// Makes the edits with a demand of all roots and a sweep after each, and prints how many cells ran for each.
-fn show_runs(rt: &HostRuntime, roots: &[Cell], edits: &[Edit]) -> io::Result<()>
-    requires { length edits.now < 1000 }
+/// Makes the edits with a demand of all roots and a sweep after each, and then prints how many cells ran for each.
+fn show_under<L: Ledger>(
+    rt: &HostRuntime,
+    graph: &mut Graph<CellRules>,
+    roots: &[Cell],
+    edits: &[Edit],
+    steps: &mut Steps<L>,
+) -> io::Result<()>
+    requires { graph.old.revision + length edits.now < 2000 }
+    ensures { OnOk result (graph.new.revision ≡ graph.old.revision + length edits.now) }
 {
-    let all = edit_under::<Brand>(rt.alloc(), Blank::new(1), roots, edits)?;
+    let all = edit_under(rt.alloc(), graph, roots, edits, steps)?;
     for runs in all.iter() {
         println!(rt; "{runs}")?;
     }
     Ok(())
+}
+
+/// Demands the roots on a graph with no input set, and makes the edits. What the first one gave is printed before the others are made,
+/// so that a reader can time these alone.
+fn show_runs<L: Ledger>(
+    rt: &HostRuntime,
+    blank: Blank,
+    roots: &[Cell],
+    edits: &[Edit],
+) -> io::Result<()>
+    requires name { blank.name ≡ L.name }
+    requires parts { blank.parts ≡ L.parts }
+    requires some { 0 < L.parts }
+    requires few { length edits.now < 1000 }
+{
+    let mut steps = Steps::<L>::open(blank);
+    let mut graph = Graph::new(rt.alloc());
+    demand_all(&mut graph, &CellRules {}, roots, &mut steps)?;
+    let (first, others) = edits.split_at(edits.len().min(1));
+    show_under(rt, &mut graph, roots, first, &mut steps)?;
+    show_under(rt, &mut graph, roots, others, &mut steps)
 }
 
 /// Plays the edits that are asked for.
@@ -181,7 +211,7 @@ fn play(rt: &HostRuntime, shape: &str, numbers: &[u32]) -> io::Result<()> {
             let roots = roots_of(rt.alloc(), shape, *length, *roots)?;
             let count = (*count).min(999);
             let edits = edits_of(rt.alloc(), Cell::Top, count, *span, *value, *rise)?;
-            show_runs(rt, roots.as_slice(), edits.as_slice())
+            show_runs::<Brand>(rt, Blank::new(1), roots.as_slice(), edits.as_slice())
         }
         _ => Ok(()),
     }

@@ -41,6 +41,14 @@ impl<K> Keys<K> {
         }
     }
 
+    /// No keys, with room for so many.
+    pub(crate) fn with_room(alloc: Global, room: usize) -> Result<Keys<K>, AllocError>
+        ensures { IfOk result (λ keys. keys ≡ []) }
+    {
+        let items = Vec::with_capacity(alloc, room)?;
+        Ok(Keys { items })
+    }
+
     /// The list of these keys.
     pub fn from_vec(items: Vec<K>) -> Keys<K>
         ensures { result ≡ items.items }
@@ -136,6 +144,15 @@ impl Answered {
         }
     }
 
+    /// Nothing was answered, with room for so many answers.
+    pub(crate) fn with_room(alloc: Global, room: usize) -> Result<Answered, AllocError>
+        ensures { IfOk result (λ answered. answered ≡ []) }
+    {
+        let reads = Vec::with_capacity(alloc, room)?;
+        let seen = HashSet::with_capacity(alloc, room)?;
+        Ok(Answered { reads, seen })
+    }
+
     /// How many answers there are.
     pub(crate) fn len(&self) -> usize
         ensures { result ≡ length self.now }
@@ -167,6 +184,11 @@ impl Answered {
         ensures fits { IsSome result → place + 1 < 2 ^ 64 }
     {
         self.reads.get(place).copied()
+    }
+
+    /// The node that came last.
+    pub(crate) fn last(&self) -> Option<u32> {
+        self.reads.last().copied()
     }
 
     /// Adds the node, where it isn't there yet.

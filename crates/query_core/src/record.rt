@@ -8,15 +8,13 @@ use crate::keys::Reads;
 use slab::Slab;
 use std::alloc::AllocError;
 
-/// The record of a key, as it is kept.
+/// The record of a key, as it is kept. What each visit looks at stands first, next to one another.
 #[derive(Drop)]
 pub(crate) struct Record<K, V> {
     /// The key.
     pub(crate) key: K,
     /// Its value.
     pub(crate) value: V,
-    /// The nodes that its run read, in the order of asking.
-    pub(crate) reads: Reads,
     /// Whether the key is an input.
     pub(crate) input: bool,
     /// Whether it was last verified with all clean records.
@@ -25,6 +23,8 @@ pub(crate) struct Record<K, V> {
     pub(crate) verified_at: u64,
     /// The revision in which its value last changed.
     pub(crate) changed_at: u64,
+    /// The nodes that its run read, in the order of asking.
+    pub(crate) reads: Reads,
 }
 
 /// A look at a record.

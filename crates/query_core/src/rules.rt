@@ -14,6 +14,9 @@ use std::marker::Model;
 use std::sync::ledger::Ledger;
 use steps::Steps;
 
+/// Up to so many answers are looked through one by one; of more, the one of a key is found by its node.
+const FEW: usize = 8;
+
 /// What a run does next.
 #[derive(Drop)]
 pub enum Step<K, V> {
@@ -28,6 +31,8 @@ pub enum Step<K, V> {
 pub struct Answers<'a, K: Eq + Hash, V> {
     store: &'a Store<K, V>,
     answered: &'a Answered,
+    /// The node that the run's key read next when it ran last, which spares a look-up.
+    next: Option<u32>,
 }
 
 impl<'a, K: Eq + Hash, V> Model for Answers<'a, K, V> {
@@ -42,12 +47,20 @@ impl<'a, K: Eq + Hash, V> Model for Answers<'a, K, V> {
 }
 
 impl<'a, K: Eq + Hash + TryCopy + Drop, V: Drop> Answers<'a, K, V> {
-    /// What the store holds for these answers.
-    pub(crate) fn new(store: &'a Store<K, V>, answered: &'a Answered) -> Answers<'a, K, V>
+    /// What the store holds for these answers; the key that is read next may have this node.
+    pub(crate) fn new(
+        store: &'a Store<K, V>,
+        answered: &'a Answered,
+        next: Option<u32>,
+    ) -> Answers<'a, K, V>
         requires { IsNumbered K.eq store.now }
         ensures { result ≡ pairs_at store.now answered.now }
     {
-        Answers { store, answered }
+        Answers {
+            store,
+            answered,
+            next,
+        }
     }
 
     /// The value that answers the key, or `None` where the run didn't ask for it. It takes no memory, and a time that doesn't
@@ -55,7 +68,10 @@ impl<'a, K: Eq + Hash + TryCopy + Drop, V: Drop> Answers<'a, K, V> {
     pub fn get(&self, key: &K) -> Option<&'a V>
         ensures { option_copied result ≡ lookup (K.eq key.now) self.now }
     {
-        let node = self.store.node_of(key)?;
+        if self.answered.len() <= FEW {
+            return self.store.value_among(key, self.answered.as_slice());
+        }
+        let node = self.store.find(key, self.next, self.answered.last())?;
         if !self.answered.contains(node) {
             return None;
         }

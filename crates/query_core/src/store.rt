@@ -5,11 +5,11 @@
 
 ghost use Rattle.std.specs.Prelude.{◌≡◌, ◌+◌, ℕ, true, false, IfOk, OnOk, OnErr, IsSome, None, Some, [], Option, count_by, is_some};
 ghost use Rattle.std.specs.Map.{lookup};
-ghost use Rattle.std.specs.Option.{option_map};
+ghost use Rattle.std.specs.Option.{option_map, option_copied};
 ghost use Rattle.query_core.specs.Node.{Node};
 ghost use Rattle.query_core.specs.Stored.{Stored, Changes, Adds, SetsMark, Freshens, Prepares, node_at, shown, seen};
 ghost use Rattle.query_core.specs.Removal.{Leaves};
-ghost use Rattle.query_core.specs.Answering.{IsNumbered};
+ghost use Rattle.query_core.specs.Answering.{IsNumbered, pairs_at};
 ghost use Rattle.std.specs.Prelude.{if◌then◌else◌};
 
 use crate::keys::{Reads, TryCopy};
@@ -126,6 +126,23 @@ impl<K: Eq + Hash + TryCopy + Drop, V: Drop> Store<K, V> {
             verified_at,
             changed_at: kept.changed_at,
         })
+    }
+
+    /// The value of the key, where its record stands at one of these nodes.
+    pub(crate) fn value_among(&self, key: &K, nodes: &[u32]) -> Option<&V>
+        ensures { option_copied result ≡ lookup (K.eq key.now) (pairs_at self.now nodes.now) }
+    {
+        let mut rest = nodes;
+        'nodes: while let Some((node, behind)) = rest.split_first() {
+            rest = behind;
+            let Some(kept) = self.node(*node) else {
+                continue;
+            };
+            if *key == *kept.key {
+                return Some(kept.value);
+            }
+        }
+        None
     }
 
     /// Adds the record of a key that has none.

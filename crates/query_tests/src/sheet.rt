@@ -102,25 +102,21 @@ fn edit_once<L: Ledger>(
     Ok(runs)
 }
 
-/// Demands the roots on a graph with no input set, then makes the edits one after the other, each with a demand of all roots and a sweep.
-/// Gives how many cells ran for each edit; what an edit says to demand is not asked.
+/// Makes the edits one after the other, each with a demand of all roots and a sweep, and gives how many cells ran for each edit; what an edit
+/// says to demand is not asked.
 pub fn edit_under<L: Ledger>(
     alloc: Global,
-    blank: Blank,
+    graph: &mut Graph<CellRules>,
     roots: &[Cell],
     edits: &[Edit],
+    steps: &mut Steps<L>,
 ) -> Result<Vec<usize>, AllocError>
-    requires name { blank.name ≡ L.name }
-    requires parts { blank.parts ≡ L.parts }
-    requires some { 0 < L.parts }
-    requires few { length edits.now < 1000 }
+    requires { graph.old.revision + length edits.now < 2000 }
+    ensures { OnOk result (graph.new.revision ≡ graph.old.revision + length edits.now) }
 {
-    let mut steps = Steps::<L>::open(blank);
-    let mut graph = Graph::new(alloc);
     let mut runs = Vec::new(alloc);
-    demand_all(&mut graph, &CellRules {}, roots, &mut steps)?;
     for next in edits {
-        let one = edit_once(&mut graph, next, roots, &mut steps)?;
+        let one = edit_once(graph, next, roots, steps)?;
         runs.push(one)?;
     }
     Ok(runs)

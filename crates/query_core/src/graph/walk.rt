@@ -159,6 +159,17 @@ impl<R: Rules> Graph<R> {
         kept.reads.get(place).copied()
     }
 
+    /// How many reads the record at the node has, where there is one.
+    fn reads_before(&self, node: Option<u32>) -> usize {
+        let Some(index) = node else {
+            return 0;
+        };
+        match self.node(index) {
+            Some(kept) => kept.reads.len(),
+            None => 0,
+        }
+    }
+
     /// Takes the answers to what was asked, as far as it is verified, and gives the first key that isn't, with its node. A key that was
     /// read at its place before, or that was finished last, is found without a look-up.
     fn collect(
@@ -193,6 +204,7 @@ impl<R: Rules> Graph<R> {
         alloc: Global,
         rules: &R,
         key: &R::Key,
+        at_node: Option<u32>,
         run: &mut R::Run,
         answered: &Answered,
         steps: &mut Steps<L>,
@@ -203,7 +215,8 @@ impl<R: Rules> Graph<R> {
         ensures ticks { steps.new ≡ steps.old + ticks result }
         ensures sound { IsSound R.queries self.now }
     {
-        let answers = Answers::new(&self.store, answered);
+        let next = self.read_at(at_node, answered.len());
+        let answers = Answers::new(&self.store, answered, next);
         rules.next(alloc, key, run, &answers, steps)
     }
 
@@ -318,7 +331,7 @@ impl<R: Rules> Graph<R> {
                 Some((on, node)) => return Ok(Halt::Pauses(on, node)),
                 None => {}
             }
-            let step = self.round(self.alloc, rules, key, run, answered, steps)?;
+            let step = self.round(self.alloc, rules, key, hints.node, run, answered, steps)?;
             match step {
                 Step::Ask(more) => asked.append(more)?,
                 Step::Done(value) => return Ok(Halt::Ends(value)),
@@ -377,7 +390,7 @@ impl<R: Rules> Graph<R> {
         }
     }
 
-    /// The first step of the walk on a key that runs.
+    /// The first step of the walk on a key that runs. There is room for as many reads as the key's last run had.
     fn start<L: Ledger>(
         &mut self,
         rules: &R,
@@ -394,8 +407,9 @@ impl<R: Rules> Graph<R> {
         ensures err { OnErr result (IsGivenUp self.old self.new steps.old steps.new) }
     {
         let run = rules.begin(self.alloc, &key)?;
-        let asked = Keys::new(self.alloc);
-        let answered = Answered::new(self.alloc);
+        let room = self.reads_before(node);
+        let asked = Keys::with_room(self.alloc, room)?;
+        let answered = Answered::with_room(self.alloc, room)?;
         let hints = Hints {
             node,
             finished: None,
