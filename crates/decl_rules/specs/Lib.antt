@@ -1,5 +1,4 @@
 pub mod Alignment
-pub mod Completeness
 pub mod Declarations
 pub mod Entities
 pub mod Faults

@@ -5,7 +5,7 @@ use Rattle.type_data.specs.declared.members.TagInfo.{TagInfo}
 use Rattle.type_data.specs.declared.names.TagId.{TagId}
 use Rattle.type_data.specs.Types.{Ty, Void_type, Array_of, Function_of}
 use Rattle.decl_rules.specs.declared.parts.DeclParts.{DeclParts}
-use Rattle.decl_rules.specs.Completeness.{is_complete, is_open_array}
+use Rattle.type_rel.specs.Completeness.{is_complete, is_open_array}
 use Rattle.decl_rules.specs.Faults.{of_name, of_types}
 use Rattle.decl_rules.specs.Sorts.{is_extern, is_file, is_parameter, is_function, is_function_type, is_object}
 

@@ -2,7 +2,6 @@
 #![tactic(auto)]
 
 mod alignment;
-mod completeness;
 mod declaring;
 mod entities;
 mod faults;

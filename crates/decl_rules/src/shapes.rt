@@ -3,12 +3,12 @@ ghost use Rattle.std.specs.Prelude.{◌≡◌, [], ◌∷◌, IfOk};
 ghost use Rattle.decl_rules.specs.Faults;
 ghost use Rattle.decl_rules.specs.Shapes as spec;
 
-use crate::completeness::{is_complete, is_open_array};
 use crate::faults::{of_name, of_types};
 use crate::parts::DeclParts;
 use crate::sorts::{is_extern, is_file, is_function, is_function_type, is_object, is_parameter};
 use std::alloc::{AllocError, Global};
 use type_data::{CType, Fault, Node, Tags};
+use type_rel::{is_complete, is_open_array};
 
 fn is_void(ty: &CType) -> bool
     ensures { result ≡ spec.is_void ty.now }

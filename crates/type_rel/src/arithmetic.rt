@@ -4,7 +4,8 @@ ghost use Rattle.type_rel.specs.Arithmetic;
 
 use type_data::{Basic, CType, IntTy, Node};
 
-pub(crate) fn integer_of(basic: Basic) -> Option<IntTy>
+/// The integer type that a basic type is (6.2.5p17).
+pub fn integer_of(basic: Basic) -> Option<IntTy>
     ensures { result ≡ Arithmetic.integer_of basic }
 {
     match basic {
@@ -26,7 +27,8 @@ pub(crate) fn integer_of(basic: Basic) -> Option<IntTy>
     }
 }
 
-fn basic_of(ty: IntTy) -> Basic
+/// The basic type that an integer type is.
+pub fn basic_of(ty: IntTy) -> Basic
     ensures { result ≡ Arithmetic.basic_of ty }
 {
     match ty {

@@ -5,7 +5,8 @@ ghost use Rattle.type_rel.specs.Assignable as spec;
 use crate::compatibility::compatible;
 use type_data::{Basic, CType, Constancy, Judged, Node, Qual, Value};
 
-fn is_arithmetic(ty: &CType) -> bool
+/// An integer or floating type (6.2.5p18).
+pub fn is_arithmetic(ty: &CType) -> bool
     ensures { result ≡ spec.is_arithmetic ty.now }
 {
     match ty.node() {
@@ -24,7 +25,8 @@ fn includes(q: Qual, r: Qual) -> bool
         && (q.is_volatile || !r.is_volatile)
 }
 
-fn is_object(ty: &CType) -> bool
+/// No function type (6.2.5p1).
+pub fn is_object(ty: &CType) -> bool
     ensures { result ≡ spec.is_object ty.now }
 {
     match ty.node() {
@@ -33,7 +35,8 @@ fn is_object(ty: &CType) -> bool
     }
 }
 
-fn is_void_beside(t: &CType, u: &CType) -> bool
+/// One of two types is void, and the other an object type.
+pub fn is_void_beside(t: &CType, u: &CType) -> bool
     ensures { result ≡ spec.is_void_beside t.now u.now }
 {
     match (t.node(), u.node()) {
@@ -43,7 +46,8 @@ fn is_void_beside(t: &CType, u: &CType) -> bool
     }
 }
 
-fn is_zero(value: Value) -> bool
+/// It is 0, or its value isn't told.
+pub fn is_zero(value: Value) -> bool
     ensures { result ≡ spec.is_zero value }
 {
     match value {
@@ -53,7 +57,9 @@ fn is_zero(value: Value) -> bool
     }
 }
 
-fn is_null_pointer(constant: Constancy) -> bool
+/// A null pointer constant (6.3.2.3p3), as far as its constancy tells: an integer constant expression with the value 0, or such a
+/// one cast to `void *`.
+pub fn is_null_pointer(constant: Constancy) -> bool
     ensures { result ≡ spec.is_null_pointer constant }
 {
     match constant {

@@ -2,7 +2,7 @@
 ghost use Rattle.std.specs.Prelude.{◌≡◌};
 ghost use Rattle.std.specs.Map.{lookup};
 ghost use Rattle.type_data.specs.Same.{same_tag};
-ghost use Rattle.decl_rules.specs.Completeness as spec;
+ghost use Rattle.type_rel.specs.Completeness as spec;
 
 use type_data::{CType, Extent, Node, TagId, Tags};
 
@@ -15,7 +15,8 @@ fn is_sized(extent: Extent) -> bool
     }
 }
 
-fn has_members(tags: &Tags, id: &TagId) -> bool
+/// The tag's members are known (6.7.2.1p8, 6.7.2.3p4).
+pub fn has_members(tags: &Tags, id: &TagId) -> bool
     ensures { result ≡ spec.has_members (lookup (same_tag id.now) tags.now) }
 {
     match tags.get(id) {
@@ -24,7 +25,8 @@ fn has_members(tags: &Tags, id: &TagId) -> bool
     }
 }
 
-pub(crate) fn is_complete(tags: &Tags, ty: &CType) -> bool
+/// A complete object type; nothing is said of a type with a fault (6.2.5p1, p19, p22, p23).
+pub fn is_complete(tags: &Tags, ty: &CType) -> bool
     ensures { result ≡ spec.is_complete tags.now ty.now }
 {
     match ty.node() {
@@ -36,7 +38,8 @@ pub(crate) fn is_complete(tags: &Tags, ty: &CType) -> bool
     }
 }
 
-pub(crate) fn is_open_array(ty: &CType) -> bool
+/// An array of no size.
+pub fn is_open_array(ty: &CType) -> bool
     ensures { result ≡ spec.is_open_array ty.now }
 {
     match ty.node() {

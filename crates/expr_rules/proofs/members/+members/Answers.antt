@@ -1,0 +1,45 @@
+use Rattle.std.proofs.Common.{rules, arith, ◌≡◌, ◌-◌, suc, ◌∷◌, Some, false, subst}
+use Rattle.std.specs.Prelude.{IfOk, option_map}
+use Rattle.std.specs.List.{list_any}
+use Rattle.std.specs.Map.{lookup}
+use Rattle.type_data.specs.Same.{same_tag}
+use Rattle.expr_rules.specs.Members.{places_of}
+use Rattle.expr_rules.specs.Shown.{shown}
+use Rattle.expr_rules.proofs.MemberLemmas.{member_step}
+use Rattle.expr_rules.proofs.members.+members.Goals as goal
+
+pub member_in-returns-in-Some-layout : goal.member_in-returns-in-Some-layout
+member_in-returns-in-Some-layout t c =
+    let n = c.args.walk.now.bound in
+    let tags = c.args.walk.now.tags.now in
+    let inside = c.args.walk.now.inside.now in
+    let id = c.args.id.now in
+    let info = c.in-Some.info.now in
+    let below : n ≡ suc (n - 1) = grind (arith, c.if-walk-eq0.false) in
+    let out : list_any (same_tag id) inside ≡ false = search rules in
+    let found : lookup (same_tag id) tags ≡ Some info = search rules in
+    let has : info.members ≡ Some c.in-Some-members.members = search rules in
+    let is : c.as_slice.result.now ≡ id ∷ inside = search rules in
+    let same : c.as_slice-in-Some-layout.result.now ≡ c.in-Some-members.members = search rules in
+    let places : c.offsets.result.now ≡ places_of info.layout = search rules in
+    subst (λ x. IfOk c.among.result (λ f. option_map shown f ≡ x))
+    (member_step n (n - 1) tags inside c.as_slice.result.now c.args.walk.now.name.now id info c.in-Some-members.members c.as_slice-in-Some-layout.result.now c.offsets.result.now below out found has is same places)
+    c.among.ensures
+
+pub member_in-returns : goal.member_in-returns
+member_in-returns t c =
+    let n = c.args.walk.now.bound in
+    let tags = c.args.walk.now.tags.now in
+    let inside = c.args.walk.now.inside.now in
+    let id = c.args.id.now in
+    let info = c.in-Some.info.now in
+    let below : n ≡ suc (n - 1) = grind (arith, c.if-walk-eq0.false) in
+    let out : list_any (same_tag id) inside ≡ false = search rules in
+    let found : lookup (same_tag id) tags ≡ Some info = search rules in
+    let has : info.members ≡ Some c.in-Some-members.members = search rules in
+    let is : c.as_slice.result.now ≡ id ∷ inside = search rules in
+    let same : c.as_slice-in-None.result.now ≡ c.in-Some-members.members = search rules in
+    let places : c.as_slice-in-None-2.result.now ≡ places_of info.layout = search rules in
+    subst (λ x. IfOk c.among-in-None.result (λ f. option_map shown f ≡ x))
+    (member_step n (n - 1) tags inside c.as_slice.result.now c.args.walk.now.name.now id info c.in-Some-members.members c.as_slice-in-None.result.now c.as_slice-in-None-2.result.now below out found has is same places)
+    c.among-in-None.ensures

@@ -1,0 +1,13 @@
+pub mod Assignments
+pub mod Binary
+pub mod Casts
+pub mod Constants
+pub mod Judgements
+pub mod Kinds
+pub mod Members
+pub mod Operands
+pub mod Postfix
+pub mod Primary
+pub mod Selection
+pub mod Shown
+pub mod Unary
