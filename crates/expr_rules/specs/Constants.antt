@@ -1,5 +1,5 @@
 -- What kind of constant an expression is, by its operands (ISO C11 6.6). Operands are converted ones.
-use Rattle.std.specs.Prelude.{Bool, true, false, ◌&&◌, pos, Option, Some, None, if◌then◌else◌}
+use Rattle.std.specs.Prelude.{ℤ, Bool, true, false, ◌&&◌, pos, Option, Some, None, if◌then◌else◌}
 use Rattle.std.specs.Ordering.{int_eq}
 use Rattle.type_data.specs.declared.integers.IntTy.{IntTy}
 use Rattle.type_data.specs.declared.integers.IntTy.TheVariants as int
@@ -91,9 +91,29 @@ chosen ty (Known n) v w = if int_eq n (pos 0) then brought ty w else brought ty 
 chosen ty Unknown v w = Unknown
 chosen ty (Faulty rule) v w = Faulty rule
 
+-- a number's constancy, also one that is out of range
+abbrev pub is_number : Constancy → Bool
+is_number (Int v) = true
+is_number Arith = true
+is_number No = false
+is_number Addr = false
+is_number Null = false
+
+-- of the second and third operands, the one that is evaluated where the first has a value, and the other
+abbrev pub evaluated : ℤ → Constancy → Constancy → Constancy
+evaluated n d e = if int_eq n (pos 0) then e else d
+
+abbrev pub left_out : ℤ → Constancy → Constancy → Constancy
+left_out n d e = if int_eq n (pos 0) then d else e
+
+-- where no value is told: the operand that isn't evaluated may be out of range
+abbrev pub arith_choice : Option Value → Constancy → Constancy → Constancy → Constancy
+arith_choice (Some (Known n)) c d e = arith_if (is_arith (evaluated n d e) && is_number (left_out n d e))
+arith_choice b c d e = arith_if (is_arith c && is_arith d && is_arith e)
+
 abbrev pub choice_at : Option IntTy → Option Value → Option Value → Option Value → Constancy → Constancy → Constancy → Constancy
 choice_at (Some ty) (Some b) (Some v) (Some w) c d e = Int (chosen ty b v w)
-choice_at ty b v w c d e = arith_if (is_arith c && is_arith d && is_arith e)
+choice_at ty b v w c d e = arith_choice b c d e
 
 unfoldable pub choice : Ty → Constancy → Constancy → Constancy → Constancy
 choice t c d e = choice_at (integer_type t) (int_value c) (int_value d) (int_value e) c d e
@@ -101,6 +121,14 @@ choice t c d e = choice_at (integer_type t) (int_value c) (int_value d) (int_val
 abbrev pub is_counted : Option Value → Bool
 is_counted None = false
 is_counted (Some v) = is_told v
+
+-- A floating constant has that of an integer constant expression where it stands alone, and is arithmetic elsewhere.
+abbrev pub settled_at : Option IntTy → Constancy → Constancy
+settled_at None (Int v) = Arith
+settled_at ty c = c
+
+unfoldable pub settled : Ty → Constancy → Constancy
+settled t c = settled_at (integer_type t) c
 
 -- an address constant plus or minus an integer constant expression
 unfoldable pub moved : Constancy → Constancy → Constancy

@@ -7,6 +7,7 @@ use Rattle.type_data.specs.Types.{Ty}
 use Rattle.type_rel.specs.Compatible.{compatible}
 use Rattle.expr_rules.specs.declared.parts.Association.{Association}
 use Rattle.expr_rules.specs.declared.parts.Association.TheVariants.{Typed, Default}
+use Rattle.expr_rules.specs.Constants.{settled}
 use Rattle.expr_rules.specs.Kinds.{Tagging, unqualified}
 use Rattle.type_rel.specs.Completeness.{is_complete}
 use Rattle.expr_rules.specs.Operands.{Answer, broken, converted}
@@ -50,8 +51,12 @@ first_of passes [] es = None
 first_of passes (a ∷ more) [] = None
 first_of passes (a ∷ more) (e ∷ es) = if passes a then Some e else first_of passes more es
 
+-- a part as it is chosen
+abbrev pub selected_part : Judged → Judged
+selected_part e = record { ty = e.ty; qual = e.qual; place = e.place; constant = settled e.ty e.constant }
+
 abbrev pub chosen : ℕ → Ty → Option Judged → Answer
-chosen at t (Some e) = Ok e
+chosen at t (Some e) = Ok (selected_part e)
 chosen at t None = broken at 503 [] (t ∷ [])
 
 -- one type matches, or none does and there is a `default`

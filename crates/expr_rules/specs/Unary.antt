@@ -5,7 +5,7 @@ use Rattle.type_data.specs.declared.judged.Constancy.TheVariants.{Int}
 use Rattle.type_data.specs.declared.judged.Judged.{Judged}
 use Rattle.type_data.specs.declared.judged.Place.{Place}
 use Rattle.type_data.specs.declared.judged.Place.TheVariants as place
-use Rattle.type_data.specs.Types.{Ty, Basic_type, Tagged_type, Pointer_to, Array_of}
+use Rattle.type_data.specs.Types.{Ty, Basic_type, Tagged_type, Pointer_to, Array_of, Bad_type}
 use Rattle.type_data.specs.declared.basics.Basic.TheVariants as basic
 use Rattle.type_data.specs.declared.integers.IntTy.TheVariants as int
 use Rattle.type_data.specs.declared.values.Value.{Value}
@@ -22,7 +22,7 @@ use Rattle.expr_rules.specs.Constants.{address_if, brought, result_of}
 use Rattle.expr_rules.specs.Kinds.{Tagging, is_integer, is_pointer, is_scalar}
 use Rattle.type_rel.specs.Completeness.{has_members, is_complete}
 use Rattle.expr_rules.specs.Members.{Found, member}
-use Rattle.expr_rules.specs.Operands.{Answer, broken, converted, promoted_type, value}
+use Rattle.expr_rules.specs.Operands.{Answer, bad, broken, converted, promoted_type, value}
 use Rattle.expr_rules.specs.Postfix.{pointed}
 
 -- 6.5.3.2p1: a function designator, or an object that is no bit-field and no register
@@ -160,10 +160,12 @@ on_to at name v next (Some f) = next f.ty (plus v (bytes_of f.place)) (is_some f
 abbrev pub to_member : ℕ → Tagging → List ℕ → Value → (Ty → Value → Bool → Answer) → Ty → Answer
 to_member at tags name v next (Tagged_type id) =
     if has_members (lookup (same_tag id) tags) then on_to at name v next (member tags name id) else broken at 516 [] (Tagged_type id ∷ [])
+to_member at tags name v next Bad_type = Ok bad
 to_member at tags name v next t = broken at 509 (name ∷ []) []
 
 abbrev pub to_element : ℕ → Tagging → Value → Value → (Ty → Value → Bool → Answer) → Ty → Answer
 to_element at tags number v next (Array_of t q n) = next t (plus v (elements number (size_value (size_align tags t)))) false
+to_element at tags number v next Bad_type = Ok bad
 to_element at tags number v next t = broken at 516 [] (t ∷ [])
 
 abbrev pub offset_from : ℕ → Tagging → List Designator → Ty → Value → Bool → Answer
@@ -172,4 +174,4 @@ offset_from at tags (designator.Field name ∷ ds) t v field = to_member at tags
 offset_from at tags (designator.Index number ∷ ds) t v field = to_element at tags number v (offset_from at tags ds) t
 
 abbrev pub offset_of : ℕ → Tagging → Ty → List Designator → Answer
-offset_of at tags t ds = offset_from at tags ds t (Known (pos 0)) false
+offset_of at tags t ds = if is_complete tags t then offset_from at tags ds t (Known (pos 0)) false else broken at 516 [] (t ∷ [])

@@ -197,6 +197,39 @@ fn chosen(ty: IntTy, test: Value, left: Value, right: Value) -> Value
     }
 }
 
+fn is_number(c: Constancy) -> bool
+    ensures { result ≡ spec.is_number c }
+{
+    match c {
+        Constancy::Int(_) | Constancy::Arith => true,
+        Constancy::No | Constancy::Addr | Constancy::Null => false,
+    }
+}
+
+fn evaluated(test: i128, d: Constancy, e: Constancy) -> Constancy
+    ensures { result ≡ spec.evaluated test d e }
+{
+    if test == 0 { e } else { d }
+}
+
+fn left_out(test: i128, d: Constancy, e: Constancy) -> Constancy
+    ensures { result ≡ spec.left_out test d e }
+{
+    if test == 0 { d } else { e }
+}
+
+// Where no value is told: the operand that isn't evaluated may be out of range.
+fn arith_choice(test: Option<Value>, c: Constancy, d: Constancy, e: Constancy) -> Constancy
+    ensures { result ≡ spec.arith_choice test c d e }
+{
+    match test {
+        Some(Value::Known(n)) => arith_if(
+            is_arith(evaluated(n, d, e)) && is_number(left_out(n, d, e)),
+        ),
+        _ => arith_if(is_arith(c) && is_arith(d) && is_arith(e)),
+    }
+}
+
 fn choice_at(
     ty: Option<IntTy>,
     values: (Option<Value>, Option<Value>, Option<Value>),
@@ -207,16 +240,16 @@ fn choice_at(
     ensures { result ≡ spec.choice_at ty values.0 values.1 values.2 c d e }
 {
     let Some(ty) = ty else {
-        return arith_if(is_arith(c) && is_arith(d) && is_arith(e));
+        return arith_choice(values.0, c, d, e);
     };
     let Some(test) = values.0 else {
-        return arith_if(is_arith(c) && is_arith(d) && is_arith(e));
+        return arith_choice(values.0, c, d, e);
     };
     let Some(left) = values.1 else {
-        return arith_if(is_arith(c) && is_arith(d) && is_arith(e));
+        return arith_choice(values.0, c, d, e);
     };
     let Some(right) = values.2 else {
-        return arith_if(is_arith(c) && is_arith(d) && is_arith(e));
+        return arith_choice(values.0, c, d, e);
     };
     Constancy::Int(chosen(ty, test, left, right))
 }
@@ -228,6 +261,23 @@ pub(crate) fn choice(ty: &CType, c: Constancy, d: Constancy, e: Constancy) -> Co
 {
     let values = (int_value(c), int_value(d), int_value(e));
     choice_at(integer_type(ty), values, c, d, e)
+}
+
+fn settled_at(ty: Option<IntTy>, constant: Constancy) -> Constancy
+    ensures { result ≡ spec.settled_at ty constant }
+{
+    match (ty, constant) {
+        (None, Constancy::Int(_)) => Constancy::Arith,
+        _ => constant,
+    }
+}
+
+/// A floating constant's constancy where it doesn't stand alone, and any other as it is.
+#[tactic(auto, unfolding(crate::specs::Constants::settled))]
+pub(crate) fn settled(ty: &CType, constant: Constancy) -> Constancy
+    ensures { result ≡ spec.settled ty.now constant }
+{
+    settled_at(integer_type(ty), constant)
 }
 
 fn is_counted(value: Option<Value>) -> bool

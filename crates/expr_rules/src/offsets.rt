@@ -3,7 +3,7 @@ ghost use Rattle.std.specs.Prelude.{◌≡◌, ◌≢◌, Err};
 ghost use Rattle.expr_rules.specs.Unary as spec;
 ghost use Rattle.expr_rules.specs.declared.parts.CheckError.TheVariants.{NoMemory};
 
-use crate::answers::{refuse_name, refuse_type, value};
+use crate::answers::{bad, refuse_name, refuse_type, value};
 use crate::constants::{brought, result_of};
 use crate::members::member;
 use crate::parts::{CheckError, Designator};
@@ -11,7 +11,7 @@ use crate::unary::{size_type, size_value};
 use c_literals::Op;
 use std::alloc::Global;
 use type_data::{CType, Constancy, IntTy, Judged, Node, Tags, Value};
-use type_rel::{has_members, size_align};
+use type_rel::{has_members, is_complete, size_align};
 
 fn bytes_of(place: Option<u128>) -> Value
     ensures { result ≡ spec.bytes_of place }
@@ -79,6 +79,7 @@ fn offset_from(
                 let field = found.width.is_some();
                 offset_from(alloc, at, tags, others, found.ty, offset, field)
             }
+            Node::Bad => Ok(bad()),
             _ => refuse_name(alloc, at, 509, name),
         },
         Designator::Index(number) => match ty.node() {
@@ -87,6 +88,7 @@ fn offset_from(
                 let offset = plus(offset, elements(*number, size));
                 offset_from(alloc, at, tags, others, of, offset, false)
             }
+            Node::Bad => Ok(bad()),
             _ => refuse_type(alloc, at, 516, ty),
         },
     }
@@ -102,5 +104,8 @@ pub(crate) fn offset_of(
 ) -> Result<Judged, CheckError>
     ensures { result ≢ Err NoMemory → result ≡ spec.offset_of at tags.now ty.now designators.now }
 {
+    if !is_complete(tags, ty) {
+        return refuse_type(alloc, at, 516, ty);
+    }
     offset_from(alloc, at, tags, designators, ty, Value::Known(0), false)
 }

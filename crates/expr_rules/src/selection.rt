@@ -5,6 +5,7 @@ ghost use Rattle.expr_rules.specs.Selection as spec;
 ghost use Rattle.expr_rules.specs.declared.parts.CheckError.TheVariants.{NoMemory};
 
 use crate::answers::{refuse, refuse_type};
+use crate::constants::settled;
 use crate::kinds::UNQUALIFIED;
 use crate::operands::converted;
 use crate::parts::{Association, CheckError};
@@ -158,12 +159,31 @@ pub(crate) fn share(part: &Judged) -> Result<Judged, AllocError>
     })
 }
 
+// A part as it is chosen.
+fn selected_part(part: Judged) -> Judged
+    ensures { result ≡ spec.selected_part part }
+{
+    let Judged {
+        ty,
+        qual,
+        place,
+        constant,
+    } = part;
+    let constant = settled(&ty, constant);
+    Judged {
+        ty,
+        qual,
+        place,
+        constant,
+    }
+}
+
 fn chosen(alloc: Global, at: u32, ty: &CType, part: Option<&Judged>) -> Result<Judged, CheckError>
     ensures { result ≢ Err NoMemory → result ≡ spec.chosen at ty.now (option_map (λ e. e.now) part.entry) }
 {
     match part {
         Some(part) => match share(part) {
-            Ok(part) => Ok(part),
+            Ok(part) => Ok(selected_part(part)),
             Err(_) => Err(CheckError::NoMemory),
         },
         None => refuse_type(alloc, at, 503, ty),
