@@ -6,6 +6,7 @@ pub mod Lawful
 pub mod ParamLemmas
 pub mod Moving
 pub mod Resting
+pub mod RoomLemmas
 pub mod Runnings
 pub mod SameLemmas
 pub mod Stepping

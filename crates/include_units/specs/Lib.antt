@@ -16,6 +16,7 @@ pub mod Inclusion
 pub mod Units
 pub mod Going
 pub mod Rests
+pub mod Rooms
 pub mod Cursors
 pub mod Parted
 pub mod Searches

@@ -1,9 +1,12 @@
 // Text lines (ISO C11 6.10p4 to p7): a run of them is one list that is expanded.
-ghost use Rattle.std.specs.Prelude.{◌≡◌, ◌≤◌, ◌++◌, ◌∷◌, [], IfOk, OnOk, IfSome, length, drop};
+ghost use Rattle.std.specs.Prelude.{◌≡◌, ◌≤◌, ◌++◌, ◌∷◌, [], IfOk, OnOk, IfSome, length, drop, codes};
+ghost use Rattle.std.specs.List.{list_any};
 ghost use Rattle.std.specs.FinMap as map;
 ghost use Rattle.macro_expand.specs.Expansion.{expanded};
+ghost use Rattle.pp_cond.specs.Defined.{is_word};
 ghost use Rattle.include_units.specs.Coming.{Comes, AtNeed};
 ghost use Rattle.include_units.specs.Parted.{run_behind};
+ghost use Rattle.include_units.specs.Rooms as rooms;
 ghost use Rattle.include_units.specs.Runs as spec;
 
 use crate::made::Made;
@@ -13,7 +16,7 @@ use crate::tokens::{is_mark, is_word};
 use crate::told::{Told, places_at};
 use crate::types::Want;
 use c_tokens::Places;
-use macro_expand::{Expanded, expand};
+use macro_expand::{Expanded, Within, expand, expand_within};
 use std::alloc::{AllocError, Global};
 use tok_data::{OutToken, OutTokens, PpKind, TokId};
 
@@ -265,8 +268,72 @@ fn put_output(alloc: Global, tokens: &[OutToken], made: &mut Made) -> Result<(),
     Ok(())
 }
 
-// Reads a run of text lines in a group that is taken, whose open literals are shown.
-pub(crate) fn run_of(
+// How many tokens of an expansion the output has room for, and one more, which tells that there are more.
+fn wanted(made: &Made) -> usize
+    ensures { result ≡ rooms.wanted made.now }
+{
+    MOST_TOKENS.saturating_sub(made.tokens.as_slice().len()) + 1
+}
+
+fn within_again(
+    alloc: Global,
+    files: &Told,
+    text: &Text,
+    tokens: &[OutToken],
+    room: usize,
+    made: &Made,
+) -> Result<Within, Stop>
+    ensures { Comes files.now (rooms.within_again text.now tokens.now room made.now) (λ w. w) result }
+{
+    match lines_in(alloc, files, &text.source, tokens) {
+        Ok(lines) => {
+            let again = expand_within(
+                alloc,
+                tokens,
+                &made.table,
+                lines.as_slice(),
+                made.left,
+                room,
+            )?;
+            Ok(again)
+        }
+        Err(stop) => Err(stop),
+    }
+}
+
+// Expands tokens of a text, and keeps so many of what comes.
+fn within_in(
+    alloc: Global,
+    files: &Told,
+    text: &Text,
+    tokens: &[OutToken],
+    room: usize,
+    made: &Made,
+) -> Result<Within, Stop>
+    ensures { Comes files.now (rooms.within_in text.now tokens.now room made.now) (λ w. w) result }
+{
+    let first = expand_within(alloc, tokens, &made.table, &[], made.left, room)?;
+    let None = first.expanded.asked else {
+        return within_again(alloc, files, text, tokens, room, made);
+    };
+    Ok(first)
+}
+
+fn has_pragma(tokens: &[OutToken]) -> bool
+    ensures { result ≡ list_any (is_word (codes "_Pragma")) tokens.now }
+{
+    tokens.iter().any(|token| is_word("_Pragma", token))
+}
+
+// Tokens were left out behind what may begin a `_Pragma`.
+fn hides_pragma(within: &Within) -> bool
+    ensures { result ≡ rooms.hides_pragma within.now }
+{
+    within.left_out.is_some() && has_pragma(within.expanded.tokens.as_slice())
+}
+
+// Reads a run of text lines with all that its expansion gives.
+fn whole_run(
     alloc: Global,
     files: &Told,
     text: &Text,
@@ -278,6 +345,36 @@ pub(crate) fn run_of(
 {
     match expanded_run(alloc, files, text, tokens, made) {
         Ok(output) => {
+            put_output(alloc, output.as_slice(), made)?;
+            Ok(())
+        }
+        Err(stop) => Err(stop),
+    }
+}
+
+// Reads a run of text lines in a group that is taken, whose open literals are shown. Of its expansion no more is kept than the
+// output has room for.
+pub(crate) fn run_of(
+    alloc: Global,
+    files: &Told,
+    text: &Text,
+    tokens: &[OutToken],
+    made: &mut Made,
+) -> Result<(), Stop>
+    ensures run { Comes files.now (run_behind text.now tokens.now made.old) (λ _. made.new) result }
+    ensures kept { AtNeed result (made.new ≡ made.old) }
+{
+    let room = wanted(made);
+    match within_in(alloc, files, text, tokens, room, made) {
+        Ok(within) => {
+            if hides_pragma(&within) {
+                return whole_run(alloc, files, text, tokens, made);
+            }
+            let Within {
+                expanded,
+                left_out: _,
+            } = within;
+            let output = with_expansion(expanded, made)?;
             put_output(alloc, output.as_slice(), made)?;
             Ok(())
         }

@@ -1,0 +1,35 @@
+-- A run of text lines of whose expansion no more is kept than the output has room for.
+use Rattle.std.specs.Prelude.{ℕ, ◌+◌, ◌-◌, ◌&&◌, Bool, List, [], length, codes, Option, None, Some, is_some}
+use Rattle.std.specs.List.{list_any}
+use Rattle.tok_data.specs.declared.sources.TokId.{TokId}
+use Rattle.tok_data.specs.declared.tokens.OutToken.{OutToken}
+use Rattle.macro_expand.specs.declared.types.Within.{Within}
+use Rattle.macro_expand.specs.Expansion.{expanded}
+use Rattle.macro_expand.specs.Room.{within}
+use Rattle.pp_cond.specs.Defined.{is_word}
+use Rattle.asking.specs.Asking.{Gives, and_then}
+use Rattle.include_units.specs.Files.{FromFiles}
+use Rattle.include_units.specs.Texts.{Text}
+use Rattle.include_units.specs.Made.{Made, definitions}
+use Rattle.include_units.specs.Runs.{lines_in, most_tokens}
+
+-- as many tokens as the output has room for, and one more, which tells that there are more
+abbrev pub wanted : Made → ℕ
+wanted m = (most_tokens - length m.tokens) + 1
+
+abbrev pub within_again : Text → List OutToken → ℕ → Made → FromFiles Within
+within_again text ts room m =
+    and_then (lines_in text.source ts) (λ lines. Gives (within room (expanded (definitions m) lines m.left ts)))
+
+abbrev pub unless_asked : FromFiles Within → Within → Option TokId → FromFiles Within
+unless_asked again w None = Gives w
+unless_asked again w (Some site) = again
+
+abbrev pub within_in : Text → List OutToken → ℕ → Made → FromFiles Within
+within_in text ts room m =
+    let w : Within = within room (expanded (definitions m) [] m.left ts) in
+    unless_asked (within_again text ts room m) w w.expanded.asked
+
+-- tokens are left out behind what may begin a `_Pragma`
+abbrev pub hides_pragma : Within → Bool
+hides_pragma w = is_some w.left_out && list_any (is_word (codes "_Pragma")) w.expanded.tokens
