@@ -1,5 +1,5 @@
 -- The steps of the machine, where tokens have numbers.
-use Rattle.std.proofs.Common.{◌≡◌, ℕ, Bool, false, List, drop, ap, sym, ◌∙◌, if◌then◌else◌}
+use Rattle.std.proofs.Common.{◌≡◌, ℕ, Bool, List, drop, ap, sym, ◌∙◌}
 use Rattle.tok_data.specs.declared.sources.TokId.{TokId}
 use Rattle.tok_data.specs.declared.tokens.OutToken.{OutToken}
 use Rattle.macro_table.specs.declared.definition.MacroDef.{MacroDef}
@@ -12,18 +12,9 @@ use Rattle.macro_expand.specs.Numbers.{real, reals, real_args, real_building}
 use Rattle.macro_expand.specs.Substitution.{Expander}
 use Rattle.macro_expand.specs.Building.{begun, puts, substituted}
 use Rattle.macro_expand.specs.Expansion as spec
-use Rattle.macro_expand.specs.Expansion.{Definitions, Stays, Macro, meaning, found}
 use Rattle.macro_expand.specs.Machine as work
 use Rattle.macro_expand.specs.Steps as steps
 use Rattle.macro_expand.proofs.NumberLemmas.{drop_real, puts_real}
-
-pub found_macro : (table : Definitions) (lines : List (TokId × ℕ)) (p : Progress) (t : Marked) (ts : List Marked)
-    (def : MacroDef) → p.stopped ≡ false → meaning table t ≡ Macro def
-    → spec.macro_found p t ts def def.params ≡ found table lines p t ts
-unfolding found
-found_macro table lines p t ts def going is =
-    ap (spec.found_by lines p t ts) (sym is)
-    ∙ ap (λ (e : Bool). if e then Stays p else spec.found_by lines p t ts (meaning table t)) (sym going)
 
 pub replaced_is : (f : Names → Names) (again : Expander) (p : Progress) (t : Marked) (rest behind : List Marked)
     (def : MacroDef) (args : List (List Marked)) (names : Names) (width : ℕ) (r : spec.Found) → behind ≡ drop width rest

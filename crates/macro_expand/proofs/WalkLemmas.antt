@@ -1,6 +1,6 @@
 -- A walk goes by steps. Each lemma has the shape of a loop's invariant: what is done and what is left make an outcome.
 use Rattle.std.proofs.Common.{◌≡◌, ℕ, ◌<◌, ◌≤◌, subst, map, refl, List, [], ◌∷◌, ◌++◌, ap, sym, ◌∙◌, append_assoc}
-use Rattle.std.proofs.Common.{Option, Bool, false, not, if◌then◌else◌}
+use Rattle.std.proofs.Common.{Option, Bool, true, false, if◌then◌else◌}
 use Rattle.std.proofs.lemmas.List.{append-nil}
 use Rattle.std.specs.Prelude.{Some, None, MatchOption}
 use Rattle.tok_data.specs.declared.sources.TokId.{TokId}
@@ -13,12 +13,9 @@ use Rattle.macro_expand.specs.declared.machine.Walked.{Walked}
 use Rattle.macro_expand.specs.declared.machine.Frame.{Frame}
 use Rattle.macro_expand.specs.Codes.{Names}
 use Rattle.macro_expand.specs.Numbers.{reals}
-use Rattle.macro_expand.specs.HideSets.{hides}
-use Rattle.macro_expand.specs.Tokens.{is_ident, plain}
 use Rattle.macro_expand.specs.Expansion as spec
 use Rattle.macro_expand.specs.Steps as steps
 use Rattle.macro_expand.specs.Machine as work
-use Rattle.macro_expand.proofs.Cases.{if_cases}
 use Rattle.macro_expand.proofs.Bounds.{expansion_steps}
 
 -- an outcome with some tokens
@@ -62,25 +59,38 @@ whole_kept table lines p front front' t ts rest rest' s u o begins is kept pushe
     ∙ ap (λ (r : List Marked). spec.with_front front (spec.expansion table lines p r)) (sym begins)
     ∙ same
 
--- a token that is no identifier is kept
-plain_found : (table : spec.Definitions) (lines : List (TokId × ℕ)) (p : Progress) (t : Marked) (ts : List Marked)
-    → is_ident t.token.kind ≡ false → spec.found table lines p t ts ≡ spec.Stays p
-unfolding spec.found spec.meaning
-plain_found table lines p t ts plain =
-    if_cases (λ (x : spec.Found). x ≡ spec.Stays p) p.stopped _ _ (λ _. refl)
-    (λ _. ap (λ (ident : Bool). spec.found_by lines p t ts (if not ident then spec.Ordinary
-    else (if hides t.hides t.token.spelling then spec.Ordinary else spec.named table t.token.spelling))) plain)
+-- an ordinary name is kept, and so is a token that is no name
+stopped_or : (lines : List (TokId × ℕ)) (p : Progress) (t : Marked) (ts : List Marked) (stopped : Bool)
+    (s : spec.Sense) → (if stopped then spec.Stays p else spec.found_by lines p t ts s)
+    ≡ spec.found_by lines p t ts (if stopped then spec.Ordinary else s)
+stopped_or lines p t ts true s = refl
+stopped_or lines p t ts false s = refl
 
-pub whole_plain : (table : spec.Definitions) (lines : List (TokId × ℕ)) (p : Progress) (front front' : List Marked)
-    (t : Marked) (ts rest : List Marked) (o : Outcome) → is_ident t.token.kind ≡ false
+pub found_sense : (table : spec.Definitions) (lines : List (TokId × ℕ)) (p : Progress) (t : Marked) (ts : List Marked)
+    → spec.found table lines p t ts ≡ spec.found_by lines p t ts (steps.sense table p.stopped t)
+unfolding spec.found
+found_sense table lines p t ts = stopped_or lines p t ts p.stopped (spec.meaning table t)
+
+-- what comes of a name by what it means
+pub stepped_by : (table : spec.Definitions) (lines : List (TokId × ℕ)) (p : Progress) (t : Marked) (ts : List Marked)
+    (s : spec.Sense) (made : Outcome) → s ≡ steps.sense table p.stopped t
+    → made ≡ steps.after (spec.expansion table lines)
+    (steps.step_by (spec.expansion table lines) t ts (spec.found_by lines p t ts s))
+    → made ≡ stepped table lines p t ts
+stepped_by table lines p t ts s made means is =
+    is ∙ ap (λ (x : spec.Found). steps.after (spec.expansion table lines)
+    (steps.step_by (spec.expansion table lines) t ts x))
+    (ap (spec.found_by lines p t ts) means ∙ sym (found_sense table lines p t ts))
+
+pub whole_ordinary : (table : spec.Definitions) (lines : List (TokId × ℕ)) (p : Progress) (front front' : List Marked)
+    (t : Marked) (ts rest : List Marked) (o : Outcome) → spec.Ordinary ≡ steps.sense table p.stopped t
     → rest ≡ t ∷ ts → front' ≡ front ++ t ∷ []
     → spec.with_front front (spec.expansion table lines p rest) ≡ o
     → spec.with_front front' (spec.expansion table lines p ts) ≡ o
-whole_plain table lines p front front' t ts rest o plain begins pushed same =
+whole_ordinary table lines p front front' t ts rest o means begins pushed same =
     whole_kept table lines p front front' t ts rest ts (steps.kept_step p t ts) t o begins
-    (ap (λ (x : spec.Found). steps.after (spec.expansion table lines)
-    (steps.step_by (spec.expansion table lines) t ts x)) (sym (plain_found table lines p t ts plain)))
-    refl pushed refl same
+    (stepped_by table lines p t ts spec.Ordinary (steps.after (spec.expansion table lines) (steps.kept_step p t ts))
+    means refl) refl pushed refl same
 
 -- another token is put in its place
 pub whole_put : (table : spec.Definitions) (lines : List (TokId × ℕ)) (p : Progress) (front front' : List Marked)

@@ -1,7 +1,8 @@
 -- How a list is expanded step by step.
 use Rattle.macro_expand.specs.Codes.{Names}
 use Rattle.macro_expand.specs.Numbers.{real, reals, real_args}
-use Rattle.std.specs.Prelude.{option_map, ◌≡◌, ℕ, ◌<◌, ◌≤◌, List, [], ◌∷◌, drop, Option, Some, None, MatchOption}
+use Rattle.std.specs.Prelude.{option_map, ◌≡◌, ℕ, ◌<◌, ◌≤◌, Bool, List, [], ◌∷◌, drop, Option, Some, None, MatchOption}
+use Rattle.std.specs.Prelude.{if◌then◌else◌}
 use Rattle.tok_data.specs.declared.sources.TokId.{TokId}
 use Rattle.macro_table.specs.declared.definition.MacroDef.{MacroDef}
 use Rattle.macro_expand.specs.declared.types.Marked.{Marked}
@@ -16,7 +17,7 @@ use Rattle.macro_expand.specs.declared.finding.Found.{Found as FoundMacro}
 use Rattle.macro_expand.specs.declared.finding.Found.TheVariants as macro_read
 use Rattle.macro_expand.specs.Substitution.{Expander}
 use Rattle.macro_expand.specs.Expansion.{Definitions, Sense, Ordinary, Line, File, Macro, Found, Stays, Put, Replaced}
-use Rattle.macro_expand.specs.Expansion.{spliced, with_front, expansion}
+use Rattle.macro_expand.specs.Expansion.{meaning, spliced, with_front, expansion}
 use Rattle.macro_expand.specs.Building.{begun, substituted}
 
 abbrev pub meant : Meaning → Sense
@@ -24,6 +25,10 @@ meant read.Ordinary = Ordinary
 meant read.Line = Line
 meant read.File = File
 meant (read.Macro def) = Macro def.now
+
+-- the same where nothing more is replaced: all names are ordinary then
+abbrev pub sense : Definitions → Bool → Marked → Sense
+sense table stopped t = if stopped then Ordinary else meaning table t
 
 abbrev pub found_of : (Names → Names) → MacroDef → FoundMacro → Found
 found_of f def (macro_read.Stays p) = Stays p

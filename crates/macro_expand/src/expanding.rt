@@ -14,7 +14,7 @@ ghost use Rattle.macro_expand.specs.Keeping as keeping;
 ghost use Rattle.macro_expand.specs.Room.{within};
 
 use crate::arguments::ArgumentList;
-use crate::finding::{Found, Meaning, line_in, macro_found, meaning_of};
+use crate::finding::{Found, Meaning, line_in, macro_found};
 use crate::hide::HideSet;
 use crate::keeping::{Held, Kept};
 use crate::machine::expansion;
@@ -181,13 +181,12 @@ fn macro_step<'a>(
     }
 }
 
-// What comes of the first token of a list.
-#[tactic(auto, unfolding(crate::specs::Expansion::found))]
+// What comes of the first token of a list, whose name means this.
 pub(crate) fn take_step<'a>(
     alloc: Global,
     sets: &mut Sets,
-    table: &'a MacroTable,
     lines: &[(TokId, u32)],
+    meaning: Meaning<'a>,
     progress: Progress,
     token: Marked,
     rest: Rest,
@@ -196,13 +195,9 @@ pub(crate) fn take_step<'a>(
     ensures value { IfOk result (λ s. (f : Names → Names) → Stands f sets.new → (again : Expander)
         → work.taken_outcome f again s
         ≡ steps.after again (steps.step_by again (real f token) (reals f rest)
-        (spec.found (map.get table.now) lines.now progress (real f token) (reals f rest)))) }
+        (spec.found_by lines.now progress (real f token) (reals f rest) (steps.meant meaning.entry)))) }
     ensures nearer { IfOk result (λ s. work.IsTaken s progress.left rest) }
 {
-    if progress.stopped {
-        return Ok(Taken::Settled(kept(progress, token, rest)));
-    }
-    let meaning = meaning_of(alloc, sets, table, &token)?;
     match meaning {
         Meaning::Ordinary => Ok(Taken::Settled(kept(progress, token, rest))),
         Meaning::Line => {

@@ -49,17 +49,22 @@ fn named<'a>(table: &'a MacroTable, name: &str) -> Meaning<'a>
     macro_or(table.get(name))
 }
 
+// What a name means, where anything is replaced at all.
 #[tactic(auto, unfolding(crate::specs::Expansion::meaning))]
 pub(crate) fn meaning_of<'a>(
     alloc: Global,
     sets: &mut Sets,
     table: &'a MacroTable,
+    stopped: bool,
     token: &Marked,
 ) -> Result<Meaning<'a>, AllocError>
     ensures grows { OnOk result (Grows sets.old sets.new) }
     ensures value { IfOk result (λ m. (f : Names → Names) → Stands f sets.new
-        → steps.meant m ≡ spec.meaning (map.get table.now) (real f token.now)) }
+        → steps.meant m ≡ steps.sense (map.get table.now) stopped (real f token.now)) }
 {
+    if stopped {
+        return Ok(Meaning::Ordinary);
+    }
     if !is_ident(token.token.kind) {
         return Ok(Meaning::Ordinary);
     }

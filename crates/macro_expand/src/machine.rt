@@ -14,12 +14,12 @@ use crate::advancing::{Advance, mentions, read_list};
 use crate::arguments::ArgumentList;
 use crate::building::Building;
 use crate::expanding::{Step, Taken, take_step};
+use crate::finding::{Meaning, meaning_of};
 use crate::hide::HideSet;
 use crate::keeping::{Held, Kept, keep, nothing_kept};
 use crate::rest::Rest;
 use crate::sets::Sets;
 use crate::splicing::spliced;
-use crate::tokens::is_ident;
 use crate::types::{Marked, MarkedList, Progress};
 use macro_table::{MacroDef, MacroTable};
 use std::alloc::{AllocError, Global};
@@ -97,11 +97,12 @@ fn walk<'a>(
     let mut rest = rest;
     let mut done = done.into_vec();
     'tokens: while let Some(token) = rest.pop_front() {
-        if !is_ident(token.token.kind) {
+        let meaning = meaning_of(alloc, sets, table, progress.stopped, &token)?;
+        if let Meaning::Ordinary = meaning {
             done.push(token)?;
             continue;
         }
-        let taken = take_step(alloc, sets, table, lines, progress, token, rest)?;
+        let taken = take_step(alloc, sets, lines, meaning, progress, token, rest)?;
         match taken {
             Taken::Settled(step) => {
                 let Step {

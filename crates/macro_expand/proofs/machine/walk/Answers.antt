@@ -9,7 +9,7 @@ use Rattle.macro_expand.specs.Expansion as spec
 use Rattle.macro_expand.specs.Steps as steps
 use Rattle.macro_expand.specs.Machine as work
 use Rattle.macro_expand.specs.Numbers.{real, reals, real_args}
-use Rattle.macro_expand.proofs.WalkLemmas.{whole_kept, whole_plain, whole_put, whole_turns, kept_nearer}
+use Rattle.macro_expand.proofs.WalkLemmas.{stepped_by, whole_kept, whole_ordinary, whole_put, whole_turns, kept_nearer}
 use Rattle.macro_expand.proofs.machine.walk.Goals as goal
 
 pub tokens-preserved : goal.tokens-preserved
@@ -20,7 +20,7 @@ tokens-preserved c =
     (subst (λ (s : Taken). work.IsTaken s c.tokens.progress.left c.pop_front.new.self) c.in-Settled.is
     c.in_ok-taken.ensures.nearer) c.in-Some-kept.is in
     record {
-      grows = λ f h. c.tokens.invariant.grows f (c.in_ok-taken.ensures.grows f h);
+      grows = λ f h. c.tokens.invariant.grows f (c.in_ok-meaning.ensures.grows f (c.in_ok-taken.ensures.grows f h));
       same = λ f h.
           whole_kept table c.args.lines.now c.tokens.progress (reals f c.tokens.done.items)
           (reals f c.push-in-Settled.new.self.items) (real f c.in-Some.token) (reals f c.pop_front.new.self)
@@ -28,31 +28,36 @@ tokens-preserved c =
           (steps.real_step f c.in-Settled.step) (real f c.in-Some-kept.token)
           (steps.whole f table c.args.lines.now c.args.walked)
           (ap (reals f) c.in-Some.ensures.items)
-          (ap (work.taken_outcome f again) (sym c.in-Settled.is) ∙ c.in_ok-taken.ensures.value f h again)
+          (stepped_by table c.args.lines.now c.tokens.progress (real f c.in-Some.token) (reals f c.pop_front.new.self)
+          (steps.meant c.in_ok-meaning.meaning) _
+          (c.in_ok-meaning.ensures.value f (c.in_ok-taken.ensures.grows f h))
+          (ap (work.taken_outcome f again) (sym c.in-Settled.is) ∙ c.in_ok-taken.ensures.value f h again))
           (ap (option_map (real f)) c.in-Some-kept.is)
           (ap (reals f) c.in_ok-push-in-Settled.ensures.items
           ∙ map-append (real f) c.tokens.done.items (c.in-Some-kept.token ∷ []))
           refl
-          (c.tokens.invariant.same f (c.in_ok-taken.ensures.grows f h));
+          (c.tokens.invariant.same f (c.in_ok-meaning.ensures.grows f (c.in_ok-taken.ensures.grows f h)));
       fewer = omega (arith, left, c.tokens.invariant.fewer);
     }
 
-pub tokens-preserved-then-not-is_ident : goal.tokens-preserved-then-not-is_ident
-tokens-preserved-then-not-is_ident c =
+pub tokens-preserved-in-Ordinary : goal.tokens-preserved-in-Ordinary
+tokens-preserved-in-Ordinary c =
+    let table = map.get c.args.table.now in
     record {
-      grows = c.tokens.invariant.grows;
+      grows = λ f h. c.tokens.invariant.grows f (c.in_ok-meaning.ensures.grows f h);
       same = λ f h.
-          whole_plain (map.get c.args.table.now) c.args.lines.now c.tokens.progress (reals f c.tokens.done.items)
+          whole_ordinary table c.args.lines.now c.tokens.progress (reals f c.tokens.done.items)
           (reals f c.push.new.self.items) (real f c.in-Some.token) (reals f c.pop_front.new.self)
-          (reals f c.tokens.rest) (steps.whole f (map.get c.args.table.now) c.args.lines.now c.args.walked)
-          (sym c.is_ident.ensures ∙ c.if-not-is_ident.true) (ap (reals f) c.in-Some.ensures.items)
+          (reals f c.tokens.rest) (steps.whole f table c.args.lines.now c.args.walked)
+          (ap steps.meant (sym c.in-Ordinary.is) ∙ c.in_ok-meaning.ensures.value f h)
+          (ap (reals f) c.in-Some.ensures.items)
           (ap (reals f) c.in_ok-push.ensures.items ∙ map-append (real f) c.tokens.done.items (c.in-Some.token ∷ []))
-          (c.tokens.invariant.same f h);
+          (c.tokens.invariant.same f (c.in_ok-meaning.ensures.grows f h));
       fewer = c.tokens.invariant.fewer;
     }
 
 pub returns-in_default-kept-clause-grows : goal.returns-in_default-kept-clause-grows
-returns-in_default-kept-clause-grows c = λ f h. c.tokens.invariant.grows f (c.in_ok-taken.ensures.grows f h)
+returns-in_default-kept-clause-grows c = λ f h. c.tokens.invariant.grows f (c.in_ok-meaning.ensures.grows f (c.in_ok-taken.ensures.grows f h))
 
 pub returns-in_default-kept-clause-value : goal.returns-in_default-kept-clause-value
 returns-in_default-kept-clause-value c = λ f h.
@@ -62,12 +67,15 @@ returns-in_default-kept-clause-value c = λ f h.
     (real f c.in-Some.token) (reals f c.pop_front.new.self) (reals f c.tokens.rest)
     (steps.real_step f c.in-Settled.step) (steps.whole f table c.args.lines.now c.args.walked)
     (ap (reals f) c.in-Some.ensures.items)
-    (ap (work.taken_outcome f again) (sym c.in-Settled.is) ∙ c.in_ok-taken.ensures.value f h again)
+    (stepped_by table c.args.lines.now c.tokens.progress (real f c.in-Some.token) (reals f c.pop_front.new.self)
+    (steps.meant c.in_ok-meaning.meaning) _
+    (c.in_ok-meaning.ensures.value f (c.in_ok-taken.ensures.grows f h))
+    (ap (work.taken_outcome f again) (sym c.in-Settled.is) ∙ c.in_ok-taken.ensures.value f h again))
     (ap (option_map (real f)) c.in_default-kept.is) (ap (reals f) c.from_vec.ensures)
-    (c.tokens.invariant.same f (c.in_ok-taken.ensures.grows f h))
+    (c.tokens.invariant.same f (c.in_ok-meaning.ensures.grows f (c.in_ok-taken.ensures.grows f h)))
 
 pub returns-in-Called-clause-grows : goal.returns-in-Called-clause-grows
-returns-in-Called-clause-grows c = λ f h. c.tokens.invariant.grows f (c.in_ok-taken.ensures.grows f h)
+returns-in-Called-clause-grows c = λ f h. c.tokens.invariant.grows f (c.in_ok-meaning.ensures.grows f (c.in_ok-taken.ensures.grows f h))
 
 pub returns-in-Called-clause-value : goal.returns-in-Called-clause-value
 returns-in-Called-clause-value c = λ f h.
@@ -79,5 +87,8 @@ returns-in-Called-clause-value c = λ f h.
     (steps.built again c.in-Called.after (real f c.in-Called.token) c.in-Called.def.now (real_args f c.in-Called.args)))
     (steps.whole f table c.args.lines.now c.args.walked)
     (ap (reals f) c.in-Some.ensures.items)
-    (ap (work.taken_outcome f again) (sym c.in-Called.is) ∙ c.in_ok-taken.ensures.value f h again)
-    (ap (reals f) c.from_vec-done.ensures) (c.tokens.invariant.same f (c.in_ok-taken.ensures.grows f h))
+    (stepped_by table c.args.lines.now c.tokens.progress (real f c.in-Some.token) (reals f c.pop_front.new.self)
+    (steps.meant c.in_ok-meaning.meaning) _
+    (c.in_ok-meaning.ensures.value f (c.in_ok-taken.ensures.grows f h))
+    (ap (work.taken_outcome f again) (sym c.in-Called.is) ∙ c.in_ok-taken.ensures.value f h again))
+    (ap (reals f) c.from_vec-done.ensures) (c.tokens.invariant.same f (c.in_ok-meaning.ensures.grows f (c.in_ok-taken.ensures.grows f h)))
