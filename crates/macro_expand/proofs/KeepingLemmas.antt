@@ -117,17 +117,16 @@ told_by_within room budget o (Some site) =
     } in all)) (sym (take_all room [] (omega arith)))
 
 pub within_is : (table : spec.Definitions) (lines : List (TokId × ℕ)) (room budget : ℕ) (tokens : List OutToken)
-    (sets : List Names) (list : List Marked) (p : Progress) (h : Held)
-    → list ≡ map plain tokens → p ≡ spec.at_first budget
-    → ((f : Names → Names) → Stands f sets → h ≡ held room nothing_kept (spec.expansion table lines p (reals f list)))
+    (sets : List Names) (p : Progress) (h : Held) → p ≡ spec.at_first budget
+    → ((f : Names → Names) → Stands f sets
+    → h ≡ held room nothing_kept (spec.expansion table lines p (reals f (map plain tokens))))
     → keeping.told budget h ≡ within room (spec.expanded table lines budget tokens)
-within_is table lines room budget tokens sets list p h list_is begun is =
+within_is table lines room budget tokens sets p h begun is =
     let f : Names → Names = stands_for sets in
     let whole : Outcome = spec.expansion table lines (spec.at_first budget) (map plain tokens) in
     ap (keeping.told budget) (is f (table_stands sets)
     ∙ ap (held room nothing_kept)
-    (ap (λ (q : Progress). spec.expansion table lines q (reals f list)) begun
-    ∙ ap (λ (ts : List Marked). spec.expansion table lines (spec.at_first budget) (reals f ts)) list_is
+    (ap (λ (q : Progress). spec.expansion table lines q (reals f (map plain tokens))) begun
     ∙ ap (spec.expansion table lines (spec.at_first budget)) (plains_real f refl tokens)))
     ∙ told_by_within room budget whole whole.progress.asked
 

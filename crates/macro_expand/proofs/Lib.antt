@@ -8,6 +8,7 @@ pub mod ElementLemmas
 pub mod SubstitutionLemmas
 pub mod ReadingLemmas
 pub mod ParensLemmas
+pub mod RestLemmas
 pub mod Examples
 pub mod SetLemmas
 pub mod NumberLemmas

@@ -12,7 +12,7 @@ use Rattle.macro_expand.specs.declared.arguments.Reading.{Reading}
 use Rattle.macro_expand.specs.declared.arguments.Called.{Called}
 use Rattle.macro_expand.specs.declared.arguments.Called.TheVariants.{Absent, Unclosed, Closed}
 use Rattle.macro_expand.specs.declared.arguments.Turn.{Turn}
-use Rattle.macro_expand.specs.declared.arguments.Turn.TheVariants.{Goes}
+use Rattle.macro_expand.specs.declared.arguments.Turn.TheVariants.{Goes, Ends}
 use Rattle.macro_expand.specs.Tokens.{is_mark}
 use Rattle.macro_expand.specs.Arguments as call
 use Rattle.macro_expand.specs.Arguments.{balanced, divides}
@@ -24,6 +24,11 @@ pub reads_on : (def : MacroDef) (at : ℕ) (r more : Reading) (t : Marked) (ts a
     more ≡ turn def at r t → read.reads def (at + 1) more ts ≡ read.reads def at r all
 reads_on def at r more t ts all is goes =
     ap (read.turned (λ r'. read.reads def (at + 1) r' ts)) goes ∙ ap (read.reads def at r) (sym is)
+
+pub ends_there : (def : MacroDef) (at : ℕ) (r : Reading) (called : Called) (t : Marked) (ts all : List Marked)
+    → all ≡ t ∷ ts → turn def at r t ≡ Ends called → called ≡ read.reads def at r all
+ends_there def at r called t ts all is ends =
+    sym (ap (read.reads def at r) is ∙ ap (read.turned (λ r'. read.reads def (at + 1) r' ts)) ends)
 
 -- a token is one mark
 pub mark_is : (text : List ℕ) (t : OutToken) → is_mark text t ≡ true → t.spelling ≡ text

@@ -4,6 +4,8 @@ pub mod Stands
 pub mod Joins
 pub mod Numbers
 pub mod Tokens
+pub mod Looks
+pub mod Rests
 pub mod Parens
 pub mod Progress
 pub mod Arguments

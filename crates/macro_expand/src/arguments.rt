@@ -1,13 +1,15 @@
 // The arguments of a function-like macro (ISO C11 6.10.3p4, p10 to p12).
 ghost use Rattle.std.specs.Prelude.{◌≡◌, [], ◌++◌, ◌∷◌, ◌≤◌, ◌<◌};
-ghost use Rattle.std.specs.Prelude.{◌^◌, ◌+◌, length, IfOk, option_copied};
+ghost use Rattle.std.specs.Prelude.{◌+◌, length, IfOk, option_copied};
 ghost use Rattle.macro_expand.specs.Arguments as spec;
+ghost use Rattle.macro_expand.specs.Looks.{seen};
 ghost use Rattle.macro_expand.specs.Reading as turns;
 
 use crate::hide::HideSet;
+use crate::look::Look;
 use crate::rest::Rest;
 use crate::tokens::{is_ident, is_mark};
-use crate::types::{Marked, MarkedList};
+use crate::types::MarkedList;
 use macro_table::MacroDef;
 use shared_text::Name;
 use std::alloc::{AllocError, Global};
@@ -89,8 +91,8 @@ pub(crate) fn name_count(def: &MacroDef) -> usize
     }
 }
 
-fn taken(reading: Reading, token: &Marked) -> Result<Reading, AllocError>
-    ensures { IfOk result (λ r. r ≡ turns.taken token.now reading) }
+fn taken(reading: Reading, token: &Look<'_>) -> Result<Reading, AllocError>
+    ensures { IfOk result (λ r. r ≡ turns.taken (seen token.now) reading) }
 {
     let Reading {
         depth,
@@ -135,9 +137,9 @@ fn parts(def: &MacroDef, reading: &Reading, token: &OutToken) -> bool
     !def.variadic || reading.done.as_slice().len() < name_count(def)
 }
 
-fn opened(reading: Reading, token: &Marked) -> Result<Reading, AllocError>
-    requires { reading.depth < 2 ^ 63 }
-    ensures value { IfOk result (λ r. r ≡ turns.opened token.now reading) }
+fn opened(reading: Reading, token: &Look<'_>) -> Result<Reading, AllocError>
+    requires { reading.depth < 18446744073709551615 }
+    ensures value { IfOk result (λ r. r ≡ turns.opened (seen token.now) reading) }
     ensures deep { IfOk result (λ r. r.depth ≤ reading.depth + 1) }
 {
     if reading.depth == 0 {
@@ -165,10 +167,10 @@ fn opened(reading: Reading, token: &Marked) -> Result<Reading, AllocError>
     })
 }
 
-fn closed(reading: Reading, token: &Marked, at: usize) -> Result<Turn, AllocError>
+fn closed(reading: Reading, token: &Look<'_>, at: usize) -> Result<Turn, AllocError>
     requires depth { 0 < reading.depth }
-    requires place { at < 2 ^ 63 }
-    ensures value { IfOk result (λ t. t ≡ turns.closed token.now reading at) }
+    requires place { at < 18446744073709551615 }
+    ensures value { IfOk result (λ t. t ≡ turns.closed (seen token.now) reading at) }
     ensures within { IfOk result (λ t. turns.IsWithin t reading.depth) }
 {
     if reading.depth == 1 {
@@ -199,24 +201,24 @@ fn take_turn(
     def: &MacroDef,
     at: usize,
     reading: Reading,
-    token: &Marked,
+    token: &Look<'_>,
 ) -> Result<Turn, AllocError>
     requires depth { reading.depth ≤ at }
-    requires place { at < 2 ^ 63 }
-    ensures value { IfOk result (λ t. t ≡ turns.turn def.now at reading token.now) }
+    requires place { at < 18446744073709551615 }
+    ensures value { IfOk result (λ t. t ≡ turns.turn def.now at reading (seen token.now)) }
     ensures within { IfOk result (λ t. turns.IsWithin t (at + 1)) }
 {
-    if is_mark("(", &token.token) {
+    if is_mark("(", token.token) {
         let opened = opened(reading, token)?;
         return Ok(Turn::Goes(opened));
     }
     if reading.depth == 0 {
         return Ok(Turn::Ends(Called::Absent));
     }
-    if is_mark(")", &token.token) {
+    if is_mark(")", token.token) {
         return closed(reading, token, at);
     }
-    if parts(def, &reading, &token.token) {
+    if parts(def, &reading, token.token) {
         let parted = parted(alloc, reading)?;
         return Ok(Turn::Goes(parted));
     }
@@ -235,13 +237,16 @@ fn at_end(reading: &Reading) -> Called
 }
 
 // The call that the tokens behind a name begin with. One that isn't closed isn't read.
-pub(crate) fn read_call(alloc: Global, def: &MacroDef, rest: &Rest) -> Result<Called, AllocError>
+pub(crate) fn read_call(
+    alloc: Global,
+    def: &MacroDef,
+    rest: &Rest<'_>,
+) -> Result<Called, AllocError>
     ensures { IfOk result (λ c. c ≡ spec.called def.now rest.now) }
 {
     if rest.is_open() {
         return Ok(Called::Unclosed);
     }
-    let items = rest.items();
     let mut reading = Reading {
         depth: 0,
         done: ArgumentList::new(alloc),
@@ -249,10 +254,10 @@ pub(crate) fn read_call(alloc: Global, def: &MacroDef, rest: &Rest) -> Result<Ca
     };
     let mut at = 0;
     'tokens: loop {
-        let Some(token) = items.get(at) else {
+        let Some(token) = rest.look(at) else {
             return Ok(at_end(&reading));
         };
-        let turn = take_turn(alloc, def, at, reading, token)?;
+        let turn = take_turn(alloc, def, at, reading, &token)?;
         match turn {
             Turn::Goes(more) => reading = more,
             Turn::Ends(called) => return Ok(called),

@@ -8,7 +8,7 @@ ghost use Rattle.macro_expand.specs.Tokens.{last_of, first_spaced};
 
 use crate::glue::pasted;
 use crate::operands::Operand;
-use crate::rest::Queue;
+use crate::queue::Queue;
 use crate::sets::Sets;
 use crate::types::{Marked, MarkedList, Progress};
 use std::alloc::{AllocError, Global};

@@ -30,14 +30,14 @@ use tok_data::{MacroOccs, OutToken, OutTokens, PpFaults, PpKind, Spelt, TokId, T
 
 // What came of the first token of a list: it is kept, or its replacement stands in what is left.
 #[derive(Debug, Drop)]
-pub(crate) struct Step {
+pub(crate) struct Step<'a> {
     pub(crate) progress: Progress,
     pub(crate) kept: Option<Marked>,
-    pub(crate) rest: Rest,
+    pub(crate) rest: Rest<'a>,
 }
 
-fn kept(progress: Progress, token: Marked, rest: Rest) -> Step
-    ensures { result ≡ steps.kept_step progress token rest }
+fn kept<'a>(progress: Progress, token: Marked, rest: Rest<'a>) -> Step<'a>
+    ensures { result ≡ steps.kept_step progress token rest.entry }
 {
     Step {
         progress,
@@ -77,8 +77,8 @@ fn decimal_name(alloc: Global, number: u32) -> Result<Name, AllocError>
     Name::from_str(alloc, text.as_str())
 }
 
-fn put(progress: Progress, token: Marked, rest: Rest) -> Result<Step, AllocError>
-    ensures { IfOk result (λ s. s ≡ steps.put_step progress token rest) }
+fn put<'a>(progress: Progress, token: Marked, rest: Rest<'a>) -> Result<Step<'a>, AllocError>
+    ensures { IfOk result (λ s. s ≡ steps.put_step progress token rest.entry) }
 {
     let rest = rest.before(token)?;
     Ok(Step {
@@ -88,30 +88,30 @@ fn put(progress: Progress, token: Marked, rest: Rest) -> Result<Step, AllocError
     })
 }
 
-fn refused_step(
+fn refused_step<'a>(
     alloc: Global,
     progress: Progress,
     token: Marked,
-    rest: Rest,
-) -> Result<Step, AllocError>
-    ensures { IfOk result (λ s. s ≡ steps.kept_step (made.refused token progress) token rest) }
+    rest: Rest<'a>,
+) -> Result<Step<'a>, AllocError>
+    ensures { IfOk result (λ s. s ≡ steps.kept_step (made.refused token progress) token rest.entry) }
 {
     let refused = progress.refused(alloc, &token)?;
     Ok(kept(refused, token, rest))
 }
 
 // `__LINE__`.
-fn line_step(
+fn line_step<'a>(
     alloc: Global,
     lines: &[(TokId, u32)],
     progress: Progress,
     token: Marked,
-    rest: Rest,
-) -> Result<Step, AllocError>
+    rest: Rest<'a>,
+) -> Result<Step<'a>, AllocError>
     ensures value { IfOk result (λ s. (f : Names → Names)
         → steps.real_step f s
-        ≡ steps.settled (real f token) (reals f rest) (spec.line_found lines.now progress (real f token))) }
-    ensures nearer { IfOk result (λ s. steps.IsNearer s progress.left rest) }
+        ≡ steps.settled (real f token) (reals f rest.entry) (spec.line_found lines.now progress (real f token))) }
+    ensures nearer { IfOk result (λ s. steps.IsNearer s progress.left rest.entry) }
 {
     if progress.left == 0 {
         let step = refused_step(alloc, progress, token, rest)?;
@@ -128,16 +128,16 @@ fn line_step(
 }
 
 // `__FILE__`.
-fn file_step(
+fn file_step<'a>(
     alloc: Global,
     progress: Progress,
     token: Marked,
-    rest: Rest,
-) -> Result<Step, AllocError>
+    rest: Rest<'a>,
+) -> Result<Step<'a>, AllocError>
     ensures value { IfOk result (λ s. (f : Names → Names)
         → steps.real_step f s
-        ≡ steps.settled (real f token) (reals f rest) (spec.file_found progress (real f token))) }
-    ensures nearer { IfOk result (λ s. steps.IsNearer s progress.left rest) }
+        ≡ steps.settled (real f token) (reals f rest.entry) (spec.file_found progress (real f token))) }
+    ensures nearer { IfOk result (λ s. steps.IsNearer s progress.left rest.entry) }
 {
     if progress.left == 0 {
         let step = refused_step(alloc, progress, token, rest)?;
@@ -153,8 +153,8 @@ fn file_step(
 // a hide set and what stands behind the call.
 #[derive(Drop)]
 pub(crate) enum Taken<'a> {
-    Settled(Step),
-    Called(Progress, Marked, &'a MacroDef, ArgumentList, HideSet, Rest),
+    Settled(Step<'a>),
+    Called(Progress, Marked, &'a MacroDef, ArgumentList, HideSet, Rest<'a>),
 }
 
 fn macro_step<'a>(
@@ -162,15 +162,15 @@ fn macro_step<'a>(
     sets: &mut Sets,
     progress: Progress,
     token: Marked,
-    rest: Rest,
+    rest: Rest<'a>,
     def: &'a MacroDef,
 ) -> Result<Taken<'a>, AllocError>
     ensures grows { OnOk result (Grows sets.old sets.new) }
     ensures value { IfOk result (λ s. (f : Names → Names) → Stands f sets.new → (again : Expander)
         → work.taken_outcome f again s
-        ≡ steps.after again (steps.step_by again (real f token) (reals f rest)
-        (spec.macro_found progress (real f token) (reals f rest) def.now def.now.params))) }
-    ensures nearer { IfOk result (λ s. work.IsTaken s progress.left rest) }
+        ≡ steps.after again (steps.step_by again (real f token) (reals f rest.entry)
+        (spec.macro_found progress (real f token) (reals f rest.entry) def.now def.now.params))) }
+    ensures nearer { IfOk result (λ s. work.IsTaken s progress.left rest.entry) }
 {
     let found = macro_found(alloc, sets, progress, &token, &rest, def)?;
     match found {
@@ -189,14 +189,14 @@ pub(crate) fn take_step<'a>(
     meaning: Meaning<'a>,
     progress: Progress,
     token: Marked,
-    rest: Rest,
+    rest: Rest<'a>,
 ) -> Result<Taken<'a>, AllocError>
     ensures grows { OnOk result (Grows sets.old sets.new) }
     ensures value { IfOk result (λ s. (f : Names → Names) → Stands f sets.new → (again : Expander)
         → work.taken_outcome f again s
-        ≡ steps.after again (steps.step_by again (real f token) (reals f rest)
-        (spec.found_by lines.now progress (real f token) (reals f rest) (steps.meant meaning.entry)))) }
-    ensures nearer { IfOk result (λ s. work.IsTaken s progress.left rest) }
+        ≡ steps.after again (steps.step_by again (real f token) (reals f rest.entry)
+        (spec.found_by lines.now progress (real f token) (reals f rest.entry) (steps.meant meaning.entry)))) }
+    ensures nearer { IfOk result (λ s. work.IsTaken s progress.left rest.entry) }
 {
     match meaning {
         Meaning::Ordinary => Ok(Taken::Settled(kept(progress, token, rest))),
@@ -213,18 +213,6 @@ pub(crate) fn take_step<'a>(
             Ok(taken)
         }
     }
-}
-
-// Tokens of which none was replaced before.
-fn plain_list(alloc: Global, list: &[OutToken]) -> Result<MarkedList, AllocError>
-    ensures { IfOk result (λ l. l ≡ list_map tokens.plain list.now) }
-{
-    let mut out = Vec::new(alloc);
-    for token in list {
-        let copy = token.copy()?;
-        out.push(Marked::plain(copy))?;
-    }
-    Ok(MarkedList::from_vec(out))
 }
 
 fn at_first(alloc: Global, budget: u32) -> Progress
@@ -295,7 +283,6 @@ pub fn expand_within(
 ) -> Result<Within, AllocError>
     ensures { IfOk result (λ w. w ≡ within room (spec.expanded (map.get table.now) lines.now budget tokens.now)) }
 {
-    let list = plain_list(alloc, tokens)?;
     let mut sets = Sets::new(alloc);
     let held = expansion(
         alloc,
@@ -304,7 +291,7 @@ pub fn expand_within(
         lines,
         room,
         at_first(alloc, budget),
-        list,
+        tokens,
     )?;
     Ok(told(alloc, budget, held))
 }

@@ -5,12 +5,14 @@ ghost use Rattle.macro_expand.specs.Stands.{Stands, Grows};
 ghost use Rattle.macro_expand.specs.Numbers.{real, reals, real_args, real_called};
 ghost use Rattle.std.specs.FinMap as map;
 ghost use Rattle.macro_expand.specs.Expansion as spec;
+ghost use Rattle.macro_expand.specs.Looks.{seen};
 ghost use Rattle.macro_expand.specs.Steps as steps;
 ghost use Rattle.macro_expand.specs.Progress as made;
 ghost use Rattle.macro_expand.specs.declared.finding.Found.TheVariants.{Stays};
 
 use crate::arguments::{ArgumentList, Called, fitted, lacks_variable, read_call};
 use crate::hide::HideSet;
+use crate::look::Look;
 use crate::rest::Rest;
 use crate::sets::Sets;
 use crate::tokens::is_ident;
@@ -56,11 +58,11 @@ pub(crate) fn meaning_of<'a>(
     sets: &mut Sets,
     table: &'a MacroTable,
     stopped: bool,
-    token: &Marked,
+    token: &Look<'_>,
 ) -> Result<Meaning<'a>, AllocError>
     ensures grows { OnOk result (Grows sets.old sets.new) }
     ensures value { IfOk result (λ m. (f : Names → Names) → Stands f sets.new
-        → steps.meant m ≡ steps.sense (map.get table.now) stopped (real f token.now)) }
+        → steps.meant m ≡ steps.sense (map.get table.now) stopped (real f (seen token.now))) }
 {
     if stopped {
         return Ok(Meaning::Ordinary);
@@ -249,7 +251,7 @@ pub(crate) fn macro_found(
     sets: &mut Sets,
     progress: Progress,
     token: &Marked,
-    rest: &Rest,
+    rest: &Rest<'_>,
     def: &MacroDef,
 ) -> Result<Found, AllocError>
     ensures grows { OnOk result (Grows sets.old sets.new) }

@@ -2,7 +2,7 @@
 ghost use Rattle.std.specs.Prelude.{◌≡◌, IfOk};
 ghost use Rattle.macro_expand.specs.Keeping as spec;
 
-use crate::rest::Queue;
+use crate::queue::Queue;
 use crate::types::{Marked, MarkedList, Progress};
 use std::alloc::{AllocError, Global};
 use tok_data::{OutToken, OutTokens, TokId};

@@ -1,5 +1,6 @@
 // Macro expansion over a list of replacements that are under way, in place of a recursion.
-ghost use Rattle.std.specs.Prelude.{◌≡◌, ◌≤◌, ◌<◌, ◌+◌, ◌∷◌, length, IfOk, OnOk};
+ghost use Rattle.std.specs.Prelude.{◌≡◌, ◌≤◌, ◌<◌, ◌+◌, ◌∷◌, length, map as list_map, IfOk, OnOk};
+ghost use Rattle.macro_expand.specs.Tokens.{plain};
 ghost use Rattle.macro_expand.specs.Codes.{Names};
 ghost use Rattle.macro_expand.specs.Stands.{Stands, Grows};
 ghost use Rattle.macro_expand.specs.Numbers.{reals};
@@ -17,6 +18,7 @@ use crate::expanding::{Step, Taken, take_step};
 use crate::finding::{Meaning, meaning_of};
 use crate::hide::HideSet;
 use crate::keeping::{Held, Kept, keep, nothing_kept};
+use crate::look::Look;
 use crate::rest::Rest;
 use crate::sets::Sets;
 use crate::splicing::spliced;
@@ -28,10 +30,10 @@ use tok_data::{OutToken, TokId};
 
 // A list in its expansion: what was done so far, what is expanded and what is left.
 #[derive(Debug, Drop)]
-pub(crate) struct Walked {
+pub(crate) struct Walked<'a> {
     pub(crate) progress: Progress,
     pub(crate) done: MarkedList,
-    pub(crate) rest: Rest,
+    pub(crate) rest: Rest<'a>,
 }
 
 // A name that is replaced: its hide set from then on, its definition and arguments, and what of its list stands before
@@ -43,7 +45,7 @@ pub(crate) struct Call<'a> {
     def: &'a MacroDef,
     args: ArgumentList,
     done: MarkedList,
-    rest: Rest,
+    rest: Rest<'a>,
 }
 
 // A replacement that waits for the expansion of an argument: what is built of it, the white space before the argument,
@@ -63,14 +65,14 @@ pub(crate) struct Frame<'a> {
 // The list that is expanded, and the replacements that wait for it, the last first.
 #[derive(Drop)]
 pub(crate) struct Machine<'a> {
-    pub(crate) level: Walked,
+    pub(crate) level: Walked<'a>,
     frames: VecDeque<Frame<'a>>,
 }
 
 // Where a list stops: at its end or behind a token that another was put for, or at a name that is replaced.
 #[derive(Drop)]
 pub(crate) enum Stop<'a> {
-    Level(Walked),
+    Level(Walked<'a>),
     Called(Progress, Call<'a>),
 }
 
@@ -80,13 +82,13 @@ fn walk<'a>(
     sets: &mut Sets,
     table: &'a MacroTable,
     lines: &[(TokId, u32)],
-    walked: Walked,
+    walked: Walked<'a>,
 ) -> Result<Stop<'a>, AllocError>
     ensures grows { OnOk result (Grows sets.old sets.new) }
     ensures value { IfOk result (λ s. (f : Names → Names) → Stands f sets.new
         → work.stop_outcome f (spec.expansion (map.get table.now) lines.now) s
-        ≡ steps.whole f (map.get table.now) lines.now walked) }
-    ensures ended { IfOk result (λ s. work.IsStop s walked.progress.left) }
+        ≡ steps.whole f (map.get table.now) lines.now walked.entry) }
+    ensures ended { IfOk result (λ s. work.IsStop s walked.entry.progress.left) }
 {
     let Walked {
         progress,
@@ -96,8 +98,8 @@ fn walk<'a>(
     let mut progress = progress;
     let mut rest = rest;
     let mut done = done.into_vec();
-    'tokens: while let Some(token) = rest.pop_front() {
-        let meaning = meaning_of(alloc, sets, table, progress.stopped, &token)?;
+    'tokens: while let Some(token) = rest.pop_front()? {
+        let meaning = meaning_of(alloc, sets, table, progress.stopped, &Look::of(&token))?;
         if let Meaning::Ordinary = meaning {
             done.push(token)?;
             continue;
@@ -448,22 +450,22 @@ fn deliver<'a>(
 }
 
 // The expansion of a list of tokens with their hide sets, of which no more than so many are kept.
-pub(crate) fn expansion(
+pub(crate) fn expansion<'a>(
     alloc: Global,
     sets: &mut Sets,
-    table: &MacroTable,
+    table: &'a MacroTable,
     lines: &[(TokId, u32)],
     room: usize,
     progress: Progress,
-    tokens: MarkedList,
+    tokens: &'a [OutToken],
 ) -> Result<Held, AllocError>
     ensures grows { OnOk result (Grows sets.old sets.new) }
     ensures value { IfOk result (λ h. (f : Names → Names) → Stands f sets.new
         → h ≡ keeping.held room keeping.nothing_kept
-        (spec.expansion (map.get table.now) lines.now progress (reals f tokens))) }
+        (spec.expansion (map.get table.now) lines.now progress (reals f (list_map plain tokens.now)))) }
     ensures fewer { IfOk result (λ h. h.progress.left ≤ progress.left) }
 {
-    let rest = Rest::from_list(alloc, tokens)?;
+    let rest = Rest::from_slice(alloc, tokens)?;
     let level = Walked {
         progress,
         done: MarkedList::new(alloc),

@@ -36,7 +36,7 @@ impl Parens {
     // With a token more at the front.
     #[tactic(auto, unfolding(crate::specs::Parens::before))]
     pub(crate) fn before(self, token: &OutToken) -> Result<Parens, AllocError>
-        requires { self.0 < 2 ^ 63 }
+        requires { self.0 < 18446744073709551615 }
         ensures value { IfOk result (λ p. p ≡ spec.before token.now self) }
         ensures free { IfOk result (λ p. p.0 ≤ self.0 + 1) }
     {

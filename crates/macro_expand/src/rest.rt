@@ -1,81 +1,43 @@
 // Lists of tokens that are read and written at their fronts.
-ghost use Rattle.std.specs.Prelude.{◌≡◌, [], ◌∷◌, ◌++◌, drop, IfOk, IsTrue, ◌↔◌, IfNone, option_to_list};
+ghost use Rattle.std.specs.Prelude.{◌≡◌, [], ◌∷◌, ◌++◌, ◌<◌, drop, map as list_map, slice_get};
+ghost use Rattle.std.specs.Prelude.{IfOk, OnOk, IfSome, IfNone, IsTrue, ◌↔◌, option_map, option_to_list};
 ghost use Rattle.macro_table.specs.declared.definition.MacroDef.{MacroDef};
 ghost use Rattle.macro_expand.specs.declared.arguments.Called.TheVariants.{Unclosed};
 ghost use Rattle.macro_expand.specs.Arguments.{called};
+ghost use Rattle.macro_expand.specs.Looks.{seen};
 ghost use Rattle.macro_expand.specs.Parens as spec;
+ghost use Rattle.macro_expand.specs.Tokens as tokens;
 
+use crate::look::Look;
 use crate::parens::Parens;
 use crate::tokens::is_mark;
 use crate::types::{Marked, MarkedList};
 use std::alloc::{AllocError, Global};
 use std::collections::VecDeque;
 use std::marker::Model;
+use tok_data::OutToken;
 
-// A list that is read from the front.
+// What is left of a list: tokens that were put in front, and behind them tokens of which none was replaced, which are
+// copied where they are read. It is read from the front and written there, and tells whether a call that it begins
+// with is closed.
 #[derive(Debug, Drop)]
-pub(crate) struct Queue {
-    items: VecDeque<Marked>,
-}
-
-impl Model for Queue {
-    ghost use Rattle.std.specs.Prelude.{List};
-    ghost use Rattle.macro_expand.specs.declared.types.Marked.{Marked};
-
-    ghost Value = { List Marked };
-
-    ghost view = { λ q. q.items.items };
-}
-
-impl Queue {
-    pub(crate) fn from_list(list: MarkedList) -> Queue
-        ensures { result ≡ list }
-    {
-        Queue {
-            items: VecDeque::from_vec(list.into_vec()),
-        }
-    }
-
-    pub(crate) fn from_items(items: VecDeque<Marked>) -> Queue
-        ensures { result ≡ items.items }
-    {
-        Queue { items }
-    }
-
-    // With one token more at the front.
-    pub(crate) fn before(self, token: Marked) -> Result<Queue, AllocError>
-        ensures { IfOk result (λ q. q ≡ token ∷ self) }
-    {
-        let mut items = self.items;
-        items.push_front(token)?;
-        Ok(Queue { items })
-    }
-
-    pub(crate) fn into_items(self) -> VecDeque<Marked>
-        ensures { result.items ≡ self }
-    {
-        self.items
-    }
-}
-
-// What is left of a list: it is read from the front and written there, and tells whether a call that it begins with is
-// closed.
-#[derive(Debug, Drop)]
-pub(crate) struct Rest {
-    items: VecDeque<Marked>,
+pub(crate) struct Rest<'a> {
+    front: VecDeque<Marked>,
+    behind: &'a [OutToken],
     parens: Parens,
 }
 
-impl Model for Rest {
+impl<'a> Model for Rest<'a> {
     ghost use Rattle.std.specs.Prelude.{List, ◌≡◌};
     ghost use Rattle.macro_expand.specs.declared.types.Marked.{Marked};
     ghost use Rattle.macro_expand.specs.Parens.{parens as parens_of};
+    ghost use Rattle.macro_expand.specs.Rests.{laid};
 
     ghost Value = { List Marked };
 
-    ghost view = { λ r. r.items.items };
+    ghost view = { λ r. laid r.front.items r.behind.now };
 
-    ghost invariant = { λ r. r.parens ≡ parens_of r.items.items };
+    ghost invariant = { λ r. r.parens ≡ parens_of (laid r.front.items r.behind.now) };
 }
 
 // The parentheses of a list.
@@ -92,84 +54,151 @@ fn parens_in(alloc: Global, list: &[Marked]) -> Result<Parens, AllocError>
     Ok(parens)
 }
 
-impl Rest {
-    pub(crate) fn from_list(alloc: Global, list: MarkedList) -> Result<Rest, AllocError>
+// The parentheses of tokens of which none was replaced.
+fn parens_of(alloc: Global, list: &[OutToken]) -> Result<Parens, AllocError>
+    ensures { IfOk result (λ p. p ≡ spec.parens (list_map tokens.plain list.now)) }
+{
+    let mut parens = Parens::new(alloc);
+    let mut front = list;
+    'tokens: while let Some((last, before)) = front.split_last() {
+        let more = parens.before(last)?;
+        parens = more;
+        front = before;
+    }
+    Ok(parens)
+}
+
+impl<'a> Rest<'a> {
+    pub(crate) fn from_list(alloc: Global, list: MarkedList) -> Result<Rest<'a>, AllocError>
         ensures { IfOk result (λ r. r ≡ list) }
     {
         let parens = parens_in(alloc, list.as_slice())?;
         Ok(Rest {
-            items: VecDeque::from_vec(list.into_vec()),
+            front: VecDeque::from_vec(list.into_vec()),
+            behind: &[],
             parens,
         })
     }
 
-    pub(crate) fn items(&self) -> &VecDeque<Marked>
-        ensures { result.now.items ≡ self.now }
+    pub(crate) fn from_slice(alloc: Global, list: &'a [OutToken]) -> Result<Rest<'a>, AllocError>
+        ensures { IfOk result (λ r. r ≡ list_map tokens.plain list.now) }
     {
-        &self.items
+        let parens = parens_of(alloc, list)?;
+        Ok(Rest {
+            front: VecDeque::new(alloc),
+            behind: list,
+            parens,
+        })
+    }
+
+    // The token at a place.
+    pub(crate) fn look(&self, at: usize) -> Option<Look<'_>>
+        ensures value { option_map seen result ≡ slice_get self.now at }
+        ensures within { IfSome result (λ _. at < 18446744073709551614) }
+    {
+        let count = self.front.len();
+        if at < count {
+            return match self.front.get(at) {
+                Some(marked) => Some(Look::of(marked)),
+                None => None,
+            };
+        }
+        match self.behind.get(at - count) {
+            Some(token) => Some(Look::plain(token)),
+            None => None,
+        }
     }
 
     pub(crate) fn is_empty(&self) -> bool
         ensures { IsTrue result ↔ (self.now ≡ []) }
     {
-        self.items.is_empty()
+        if self.front.is_empty() {
+            return self.behind.is_empty();
+        }
+        false
     }
 
     // A call that isn't closed stands in front.
     pub(crate) fn is_open(&self) -> bool
         ensures { IsTrue result → (def : MacroDef) → called def self.now ≡ Unclosed }
     {
-        let Some(first) = self.items.front() else {
+        let Some(first) = self.look(0) else {
             return false;
         };
-        if is_mark("(", &first.token) {
+        if is_mark("(", first.token) {
             return self.parens.is_first_open();
         }
         false
     }
 
     // The same in less memory, where most of it is unused: a list may wait while others are expanded.
-    pub(crate) fn slim(self) -> Rest
-        ensures { result ≡ self }
+    pub(crate) fn slim(self) -> Rest<'a>
+        ensures { result ≡ self.entry }
     {
-        let Rest { items, parens } = self;
-        let mut items = items;
-        if items.len() < items.capacity() / 4 {
-            items.shrink_to(items.len() * 2);
+        let Rest {
+            front,
+            behind,
+            parens,
+        } = self;
+        let mut front = front;
+        if front.len() < front.capacity() / 4 {
+            front.shrink_to(front.len() * 2);
         }
-        Rest { items, parens }
+        Rest {
+            front,
+            behind,
+            parens,
+        }
     }
 
     // The first token, which leaves.
-    pub(crate) fn pop_front(&mut self) -> Option<Marked>
-        ensures items { self.old ≡ option_to_list result ++ self.new }
-        ensures rest { self.new ≡ drop 1 self.old }
-        ensures ended { IfNone result (self.new ≡ []) }
+    pub(crate) fn pop_front(&mut self) -> Result<Option<Marked>, AllocError>
+        ensures items { IfOk result (λ o. self.old ≡ option_to_list o ++ self.new) }
+        ensures ended { IfOk result (λ o. IfNone o (self.new ≡ [])) }
     {
-        let Some(token) = self.items.pop_front() else {
-            return None;
+        if let Some(token) = self.front.pop_front() {
+            self.parens.leave(&token.token);
+            return Ok(Some(token));
+        }
+        let Some((first, behind)) = self.behind.split_first() else {
+            return Ok(None);
         };
-        self.parens.leave(&token.token);
-        Some(token)
+        let token = first.copy()?;
+        self.behind = behind;
+        self.parens.leave(first);
+        Ok(Some(Marked::plain(token)))
     }
 
-    // Without its first token, where it has one.
-    pub(crate) fn behind(self) -> Rest
-        ensures { result ≡ drop 1 self }
+    // The first token leaves, where there is one.
+    pub(crate) fn skip(&mut self)
+        ensures { self.new ≡ drop 1 self.old }
     {
-        let mut rest = self;
-        let _first = rest.pop_front();
-        rest
+        if let Some(token) = self.front.pop_front() {
+            self.parens.leave(&token.token);
+            return;
+        }
+        if let Some((first, behind)) = self.behind.split_first() {
+            self.behind = behind;
+            self.parens.leave(first);
+        }
     }
 
     // With one token more at the front.
-    pub(crate) fn before(self, token: Marked) -> Result<Rest, AllocError>
-        ensures { IfOk result (λ r. r ≡ token ∷ self) }
+    pub(crate) fn before(self, token: Marked) -> Result<Rest<'a>, AllocError>
+        ensures { IfOk result (λ r. r ≡ token ∷ self.entry) }
     {
-        let Rest { items, parens } = self;
+        let Rest {
+            front,
+            behind,
+            parens,
+        } = self;
         let parens = parens.before(&token.token)?;
-        let mut items = items;
-        items.push_front(token)?;
-        Ok(Rest { items, parens })
+        let mut front = front;
+        front.push_front(token)?;
+        Ok(Rest {
+            front,
+            behind,
+            parens,
+        })
     }
 }

@@ -49,11 +49,12 @@ fn marked_by(
 }
 
 // White space that nothing took passes to the next token.
-fn passed_on(space: bool, rest: Rest) -> Result<Rest, AllocError>
-    ensures { IfOk result (λ r. r ≡ tokens.passed_on space rest) }
+fn passed_on<'a>(space: bool, rest: Rest<'a>) -> Result<Rest<'a>, AllocError>
+    ensures { IfOk result (λ r. r ≡ tokens.passed_on space rest.entry) }
 {
     let mut rest = rest;
-    let Some(token) = rest.pop_front() else {
+    let first = rest.pop_front()?;
+    let Some(token) = first else {
         return Ok(rest);
     };
     let space = token.token.space_before || space;
@@ -61,17 +62,17 @@ fn passed_on(space: bool, rest: Rest) -> Result<Rest, AllocError>
 }
 
 // The tokens on a site, hidden from more names, in front of others.
-fn marked_before(
+fn marked_before<'a>(
     alloc: Global,
     sets: &mut Sets,
     site: &TokId,
     names: &HideSet,
     list: MarkedList,
-    rest: Rest,
-) -> Result<Rest, AllocError>
+    rest: Rest<'a>,
+) -> Result<Rest<'a>, AllocError>
     ensures grows { OnOk result (Grows sets.old sets.new) }
     ensures value { IfOk result (λ r. (f : Names → Names) → Stands f sets.new
-        → reals f r ≡ subst.all_marked site.now (f names.now) (reals f list) ++ reals f rest) }
+        → reals f r ≡ subst.all_marked site.now (f names.now) (reals f list) ++ reals f rest.entry) }
 {
     let mut front = list.into_vec();
     let mut rest = rest;
@@ -84,29 +85,30 @@ fn marked_before(
 }
 
 // The first token with this white space before it.
-fn respaced(space: bool, rest: Rest) -> Result<Rest, AllocError>
-    ensures { IfOk result (λ r. r ≡ tokens.first_spaced space rest) }
+fn respaced<'a>(space: bool, rest: Rest<'a>) -> Result<Rest<'a>, AllocError>
+    ensures { IfOk result (λ r. r ≡ tokens.first_spaced space rest.entry) }
 {
     let mut rest = rest;
-    let Some(token) = rest.pop_front() else {
+    let first = rest.pop_front()?;
+    let Some(token) = first else {
         return Ok(rest);
     };
     rest.before(token.spaced(space))
 }
 
 // What replaced a name, in front of the rest.
-pub(crate) fn spliced(
+pub(crate) fn spliced<'a>(
     alloc: Global,
     sets: &mut Sets,
     token: &Marked,
     names: &HideSet,
     list: MarkedList,
     space: bool,
-    rest: Rest,
-) -> Result<Rest, AllocError>
+    rest: Rest<'a>,
+) -> Result<Rest<'a>, AllocError>
     ensures grows { OnOk result (Grows sets.old sets.new) }
     ensures value { IfOk result (λ r. (f : Names → Names) → Stands f sets.new
-        → reals f r ≡ spec.spliced (real f token.now) (f names.now) (reals f list) space (reals f rest)) }
+        → reals f r ≡ spec.spliced (real f token.now) (f names.now) (reals f list) space (reals f rest.entry)) }
 {
     let behind = passed_on(space, rest)?;
     if list.as_slice().is_empty() {
@@ -118,13 +120,13 @@ pub(crate) fn spliced(
 }
 
 // The rest without its first tokens.
-pub(crate) fn dropped(width: usize, rest: Rest) -> Rest
-    ensures { result ≡ drop width rest }
+pub(crate) fn dropped<'a>(width: usize, rest: Rest<'a>) -> Rest<'a>
+    ensures { result ≡ drop width rest.entry }
 {
     let mut rest = rest;
     let mut left = width;
     while 0 < left {
-        rest = rest.behind();
+        rest.skip();
         left -= 1;
     }
     rest.slim()

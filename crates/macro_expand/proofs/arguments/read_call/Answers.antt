@@ -1,32 +1,60 @@
-use Rattle.std.proofs.Common.{◌∙◌, ◌+◌, List, [], drop, sym, ap, subst, arith}
+use Rattle.std.proofs.Common.{rules, ◌∙◌, ◌+◌, ◌≡◌, List, [], drop, sym, ap, subst, arith}
+use Rattle.std.proofs.lemmas.Option.{slice_get_within}
+use Rattle.std.specs.Prelude.{None, option_map}
 use Rattle.macro_expand.specs.declared.types.Marked.{Marked}
+use Rattle.macro_expand.specs.Looks.{seen}
 use Rattle.macro_expand.specs.Reading.{IsWithin, reads, nothing_read}
-use Rattle.macro_expand.proofs.ListLemmas.{drop_next}
-use Rattle.macro_expand.proofs.ReadingLemmas.{reads_on, reading_is}
+use Rattle.macro_expand.proofs.ListLemmas.{drop_at, drop_none}
+use Rattle.macro_expand.proofs.ReadingLemmas.{reads_on, ends_there, reading_is}
 use Rattle.macro_expand.proofs.arguments.read_call.Goals as goal
 
 pub tokens-init : goal.tokens-init
 tokens-init c =
     let def = c.args.def.now in
-    let items = c.items-items.result.now.items in
+    let rest = c.args.rest.now in
     record {
       goes = ap (λ (args : List (List Marked)). reads def 0 (record {
         depth = 0;
         done = args;
         current = c.new-2.result;
-      }) items) c.new.ensures
-          ∙ ap (λ (ts : List Marked). reads def 0 (record { depth = 0; done = []; current = ts }) items) c.new-2.ensures
-          ∙ ap (reads def 0 nothing_read) c.items-items.ensures ∙ reading_is def c.args.rest.now;
+      }) rest) c.new.ensures
+          ∙ ap (λ (ts : List Marked). reads def 0 (record { depth = 0; done = []; current = ts }) rest) c.new-2.ensures
+          ∙ reading_is def rest;
       depth = omega arith;
     }
 
 pub tokens-preserved : goal.tokens-preserved
 tokens-preserved c =
-    let items = c.items-items.result.now.items in
-    let next = drop_next items c.tokens.at c.in-Some.token.now c.in-Some.ensures.item.3.0 c.in-Some.ensures.lookup in
+    let rest = c.args.rest.now in
+    let at = sym c.look.ensures.value ∙ ap (option_map seen) c.in-Some.is in
+    let next = drop_at rest c.tokens.at (seen c.in-Some.token) at in
     record {
-      goes = reads_on c.args.def.now c.tokens.at c.tokens.reading c.in-Goes.more c.in-Some.token.now
-          (drop (c.tokens.at + 1) items) (drop c.tokens.at items) next (sym c.in-Goes.is ∙ c.in_ok-turn.ensures.value)
+      goes = reads_on c.args.def.now c.tokens.at c.tokens.reading c.in-Goes.more (seen c.in-Some.token)
+          (drop (c.tokens.at + 1) rest) (drop c.tokens.at rest) next (sym c.in-Goes.is ∙ c.in_ok-turn.ensures.value)
           ∙ c.tokens.invariant.goes;
       depth = subst (λ t. IsWithin t (c.tokens.at + 1)) c.in-Goes.is c.in_ok-turn.ensures.within;
     }
+
+pub tokens-smaller : goal.tokens-smaller
+tokens-smaller c =
+    let at = sym c.look.ensures.value ∙ ap (option_map seen) c.in-Some.is in
+    let within = slice_get_within c.args.rest.now c.tokens.at (seen c.in-Some.token) at in
+    omega (arith, within)
+
+pub returns-in_default : goal.returns-in_default
+returns-in_default c =
+    let rest = c.args.rest.now in
+    let none : c.look.result ≡ None = search rules in
+    c.at_end.ensures
+    ∙ ap (reads c.args.def.now c.tokens.at c.tokens.reading)
+    (sym (drop_none rest c.tokens.at (sym c.look.ensures.value ∙ ap (option_map seen) none)))
+    ∙ c.tokens.invariant.goes
+
+pub returns-in-Ends : goal.returns-in-Ends
+returns-in-Ends c =
+    let rest = c.args.rest.now in
+    let at = sym c.look.ensures.value ∙ ap (option_map seen) c.in-Some.is in
+    ends_there c.args.def.now c.tokens.at c.tokens.reading c.in-Ends.called (seen c.in-Some.token)
+    (drop (c.tokens.at + 1) rest) (drop c.tokens.at rest) (drop_at rest c.tokens.at (seen c.in-Some.token) at)
+    (sym c.in_ok-turn.ensures.value ∙ c.in-Ends.is)
+    ∙ c.tokens.invariant.goes

@@ -7,5 +7,4 @@ pub returns : goal.returns
 returns c =
     c.told.ensures
     ∙ within_is (map.get c.args.table.now) c.args.lines.now c.args.room c.args.budget c.args.tokens.now
-    c.expansion.new.sets c.in_ok-list.list c.at_first.result c.in_ok-held.held c.in_ok-list.ensures c.at_first.ensures
-    c.in_ok-held.ensures.value
+    c.expansion.new.sets c.at_first.result c.in_ok-held.held c.at_first.ensures c.in_ok-held.ensures.value

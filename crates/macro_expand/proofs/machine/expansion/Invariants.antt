@@ -1,9 +1,10 @@
 -- Each turn makes a replacement, or ends.
-use Rattle.std.proofs.Common.{◌≡◌, ◌≤◌, ◌+◌, ◌*◌, length, min}
+use Rattle.std.proofs.Common.{◌≡◌, ◌≤◌, ◌+◌, ◌*◌, length, min, map as list_map}
 use Rattle.std.specs.FinMap as map
 use Rattle.macro_expand.specs.Codes.{Names}
 use Rattle.macro_expand.specs.Stands.{Stands, Grows}
 use Rattle.macro_expand.specs.Numbers.{reals}
+use Rattle.macro_expand.specs.Tokens.{plain}
 use Rattle.macro_expand.specs.Expansion as spec
 use Rattle.macro_expand.specs.Keeping.{held, nothing_kept}
 use Rattle.macro_expand.specs.Machine as work
@@ -14,7 +15,7 @@ invariant-names l = record {
   grows : Grows l.fn.sets l.sets;
   same : (f : Names → Names) → Stands f l.sets
       → held l.room l.kept (work.outcome f (spec.expansion (map.get l.table) l.lines) l.machine)
-      ≡ held l.room nothing_kept (spec.expansion (map.get l.table) l.lines l.fn.progress (reals f l.fn.tokens));
+      ≡ held l.room nothing_kept (spec.expansion (map.get l.table) l.lines l.fn.progress (reals f (list_map plain l.tokens)));
   fewer : l.machine.level.progress.left ≤ l.fn.progress.left;
 }
 

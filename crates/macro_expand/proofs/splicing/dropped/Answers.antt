@@ -4,5 +4,5 @@ use Rattle.macro_expand.proofs.splicing.dropped.Goals as goal
 
 pub loop-left-preserved : goal.loop-left-preserved
 loop-left-preserved c =
-    ap (drop (c.loop-left.left - 1)) c.behind-rest.ensures ∙ drop_more c.loop-left.left c.loop-left.rest
+    ap (drop (c.loop-left.left - 1)) c.skip.ensures ∙ drop_more c.loop-left.left c.loop-left.rest
     c.loop-left-test.true ∙ c.loop-left.invariant

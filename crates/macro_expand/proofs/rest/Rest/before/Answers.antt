@@ -1,10 +1,16 @@
 use Rattle.std.proofs.Common.{rules, arith, ap, ◌<◌, ◌^◌, length}
+use Rattle.macro_expand.specs.Rests.{laid}
 use Rattle.macro_expand.proofs.ParensLemmas.{parens_at_most}
+use Rattle.macro_expand.proofs.RestLemmas.{laid_length}
 use Rattle.macro_expand.proofs.rest.Rest.before.Goals as goal
 
 pub before-requires : goal.before-requires
 before-requires c =
-    let few = parens_at_most c.self.inside.items.items in
+    let front = c.self.inside.front.items in
+    let behind = c.self.inside.behind.now in
+    let few = parens_at_most (laid front behind) in
     let is = ap (λ p. p.0) c.self.invariant in
-    let short : length c.self.inside.items.items < 2 ^ 63 = search rules in
-    omega (arith, few, is, short)
+    let all = laid_length front behind in
+    let short : length front < 2 ^ 63 = search rules in
+    let short_behind : length behind < 2 ^ 63 = search rules in
+    omega (arith, few, is, all, short, short_behind)

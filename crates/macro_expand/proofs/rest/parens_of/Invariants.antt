@@ -1,0 +1,13 @@
+use Rattle.std.proofs.Common.{◌≡◌, ◌≤◌, ◌+◌, length, map}
+use Rattle.macro_expand.specs.Parens.{all_before, parens}
+use Rattle.macro_expand.specs.Tokens.{plain}
+use Rattle.macro_expand.proofs.rest.parens_of.Given as goal
+
+abbrev pub invariant-tokens : goal.invariant-tokens
+invariant-tokens l = record {
+  goes : all_before (map plain l.front) l.parens ≡ parens (map plain l.list);
+  free : l.parens.0 + length l.front ≤ length l.list;
+}
+
+abbrev pub decreases-tokens : goal.decreases-tokens
+decreases-tokens l = length l.front
