@@ -1,6 +1,6 @@
 -- What is kept in turn is the front of the whole.
 use Rattle.std.proofs.Common.{◌≡◌, ℕ, zero, suc, ◌+◌, ◌-◌, ◌<◌, nat_lt, Bool, true, false, List, [], ◌∷◌, ◌++◌}
-use Rattle.std.proofs.Common.{length, take, map, refl, ap, sym, ◌∙◌, arith, append_assoc, if◌then◌else◌}
+use Rattle.std.proofs.Common.{length, take, drop, map, refl, ap, sym, ◌∙◌, arith, append_assoc, if◌then◌else◌}
 use Rattle.std.proofs.lemmas.List.{append-nil, length-append, length-take, take_all, map-append}
 use Rattle.std.proofs.lemmas.Bool.{le-ltb, lt-ltb}
 use Rattle.std.specs.Prelude.{Option, Some, None, option_map, slice_get}
@@ -16,17 +16,18 @@ use Rattle.macro_expand.specs.declared.keeping.Held.{Held}
 use Rattle.macro_expand.specs.declared.machine.Frame.{Frame}
 use Rattle.macro_expand.specs.Codes.{Names}
 use Rattle.macro_expand.specs.Stands.{Stands}
-use Rattle.macro_expand.specs.Numbers.{reals}
+use Rattle.macro_expand.specs.Numbers.{real, reals}
 use Rattle.macro_expand.specs.Substitution.{Expander}
 use Rattle.macro_expand.specs.Tokens.{plain}
 use Rattle.macro_expand.specs.Expansion as spec
 use Rattle.macro_expand.specs.Machine as work
+use Rattle.macro_expand.specs.Steps as steps
 use Rattle.macro_expand.specs.Room.{within}
 use Rattle.macro_expand.specs.Keeping as keeping
 use Rattle.macro_expand.specs.Keeping.{put, keep, bare, held, nothing_kept, first_of}
 use Rattle.macro_expand.proofs.SetLemmas.{stands_for, table_stands}
 use Rattle.macro_expand.proofs.NumberLemmas.{plains_real}
-use Rattle.macro_expand.proofs.WalkLemmas.{bare_real}
+use Rattle.macro_expand.proofs.WalkLemmas.{bare_real, whole_ordinary}
 
 pub keep_append : (room : ℕ) (xs ys : List OutToken) (k : Kept) → keep room (xs ++ ys) k ≡ keep room ys (keep room xs k)
 keep_append room [] ys k = refl
@@ -141,15 +142,36 @@ all_within room e w is fewer =
     ∙ ap (λ (ts : List OutToken). (let all : Expanded = record e { tokens = ts } in all))
     (take_all room e.tokens (omega (arith, count, told, fewer)))
 
+-- the first token of a list is kept
+pub skimmed : (f : Names → Names) (table : spec.Definitions) (lines : List (TokId × ℕ)) (room : ℕ) (p : Progress)
+    (k k' : Kept) (rest rest' : List Marked) (stopped : Bool)
+    → ((t : Marked) × ((rest ≡ t ∷ drop 1 rest) × (spec.Ordinary ≡ steps.sense table stopped (real f t))))
+    → p.stopped ≡ stopped → rest' ≡ drop 1 rest → k' ≡ keep room (bare (take 1 rest)) k
+    → held room k' (spec.expansion table lines p (reals f rest')) ≡ held room k (spec.expansion table lines p (reals f rest))
+skimmed f table lines room p k k' rest rest' stopped first going left kept =
+    let t : Marked = first.0 in
+    let begins : rest ≡ t ∷ drop 1 rest = first.1.0 in
+    let means : spec.Ordinary ≡ steps.sense table p.stopped (real f t) =
+    first.1.1 ∙ ap (λ (b : Bool). steps.sense table b (real f t)) (sym going) in
+    let one : k' ≡ put room t.token k = kept ∙ ap (λ (ts : List Marked). keep room (bare (take 1 ts)) k) begins in
+    let o : Outcome = spec.expansion table lines p (reals f (drop 1 rest)) in
+    ap (λ (ts : List Marked). held room k' (spec.expansion table lines p (reals f ts))) left
+    ∙ ap (λ (j : Kept). held room j o) one
+    ∙ ap (held room k) (whole_ordinary table lines p [] (real f t ∷ []) (real f t) (reals f (drop 1 rest))
+    (reals f rest) (spec.expansion table lines p (reals f rest)) means (ap (reals f) begins) refl refl)
+
 -- tokens that leave a list where nothing waits
-pub delivered : (f : Names → Names) (again : Expander) (room : ℕ) (k k' : Kept) (p : Progress)
-    (done none rest : List Marked) (frames : List Frame) → frames ≡ [] → none ≡ [] → k' ≡ keep room (bare done) k
-    → held room k' (work.resume f again frames (spec.with_front (reals f none) (again p (reals f rest))))
+pub delivered : (f : Names → Names) (again : Expander) (room : ℕ) (k k' k'' : Kept) (p : Progress)
+    (done none rest rest' : List Marked) (frames : List Frame) → frames ≡ [] → none ≡ [] → k' ≡ keep room (bare done) k
+    → held room k'' (again p (reals f rest')) ≡ held room k' (again p (reals f rest))
+    → held room k'' (work.resume f again frames (spec.with_front (reals f none) (again p (reals f rest'))))
     ≡ held room k (work.resume f again frames (spec.with_front (reals f done) (again p (reals f rest))))
-delivered f again room k k' p done none rest frames alone empty kept =
+delivered f again room k k' k'' p done none rest rest' frames alone empty kept skims =
     let o : Outcome = again p (reals f rest) in
-    ap (λ (l : List Frame). held room k' (work.resume f again l (spec.with_front (reals f none) o))) alone
-    ∙ ap (λ (l : List Marked). held room k' (spec.with_front (reals f l) o)) empty
+    let o' : Outcome = again p (reals f rest') in
+    ap (λ (l : List Frame). held room k'' (work.resume f again l (spec.with_front (reals f none) o'))) alone
+    ∙ ap (λ (l : List Marked). held room k'' (spec.with_front (reals f l) o')) empty
+    ∙ skims
     ∙ ap (λ (j : Kept). held room j o) kept
     ∙ ap (λ (ts : List OutToken). (let all : Held = record {
       progress = o.progress;

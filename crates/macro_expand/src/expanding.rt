@@ -242,6 +242,7 @@ fn told(alloc: Global, budget: u32, held: Held) -> Within
         asked,
     } = progress;
     let Kept { tokens, left_out } = kept;
+    let tokens = tokens.into_tokens();
     let used = budget - left;
     match asked {
         None => Within {

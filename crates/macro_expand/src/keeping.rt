@@ -1,16 +1,61 @@
 // The output tokens of an expansion, of which no more than so many are kept.
-ghost use Rattle.std.specs.Prelude.{◌≡◌, IfOk};
+ghost use Rattle.std.specs.Prelude.{◌≡◌, [], ◌∷◌, ◌++◌, length, OnOk};
 ghost use Rattle.macro_expand.specs.Keeping as spec;
 
 use crate::queue::Queue;
 use crate::types::{Marked, MarkedList, Progress};
 use std::alloc::{AllocError, Global};
+use std::marker::Model;
 use tok_data::{OutToken, OutTokens, TokId};
+
+// Output tokens, to which more come.
+#[derive(Debug, Drop)]
+pub(crate) struct TokenList {
+    items: Vec<OutToken>,
+}
+
+impl Model for TokenList {
+    ghost use Rattle.std.specs.Prelude.{List};
+    ghost use Rattle.tok_data.specs.declared.tokens.OutToken.{OutToken};
+
+    ghost Value = { List OutToken };
+
+    ghost view = { λ l. l.items.items };
+}
+
+impl TokenList {
+    fn new(alloc: Global) -> TokenList
+        ensures { result ≡ [] }
+    {
+        TokenList {
+            items: Vec::new(alloc),
+        }
+    }
+
+    fn len(&self) -> usize
+        ensures { result ≡ length self.now }
+    {
+        self.items.len()
+    }
+
+    fn push(&mut self, token: OutToken) -> Result<(), AllocError>
+        ensures { OnOk result (self.new ≡ self.old ++ token ∷ []) }
+    {
+        self.items.push(token)?;
+        Ok(())
+    }
+
+    pub(crate) fn into_tokens(self) -> OutTokens
+        ensures { result ≡ self }
+    {
+        OutTokens::from_vec(self.items)
+    }
+}
 
 // The tokens that are kept, and the site of the first one that isn't.
 #[derive(Debug, Drop)]
 pub(crate) struct Kept {
-    pub(crate) tokens: OutTokens,
+    pub(crate) tokens: TokenList,
     pub(crate) left_out: Option<TokId>,
 }
 
@@ -21,60 +66,56 @@ pub(crate) struct Held {
     pub(crate) kept: Kept,
 }
 
-pub(crate) fn nothing_kept(alloc: Global) -> Kept
-    ensures { result ≡ spec.nothing_kept }
-{
-    Kept {
-        tokens: OutTokens::from_vec(Vec::new(alloc)),
-        left_out: None,
+impl Kept {
+    pub(crate) fn nothing(alloc: Global) -> Kept
+        ensures { result ≡ spec.nothing_kept }
+    {
+        Kept {
+            tokens: TokenList::new(alloc),
+            left_out: None,
+        }
     }
-}
 
-fn first_of(first: Option<TokId>, site: TokId) -> Option<TokId>
-    ensures { result ≡ spec.first_of first site }
-{
-    match first {
-        Some(first) => Some(first),
-        None => Some(site),
+    // A token behind those that are kept.
+    #[tactic(auto, unfolding(crate::specs::Keeping::put))]
+    pub(crate) fn put(&mut self, room: usize, token: OutToken) -> Result<(), AllocError>
+        ensures { OnOk result (self.new ≡ spec.put room token self.old) }
+    {
+        if self.tokens.len() < room {
+            return self.tokens.push(token);
+        }
+        if self.left_out.is_none() {
+            let site = token.site.copy()?;
+            self.left_out = Some(site);
+        }
+        Ok(())
     }
-}
 
-#[tactic(auto, unfolding(crate::specs::Keeping::put))]
-fn put(room: usize, token: OutToken, kept: Kept) -> Result<Kept, AllocError>
-    ensures { IfOk result (λ k. k ≡ spec.put room token kept) }
-{
-    let Kept { tokens, left_out } = kept;
-    if tokens.as_slice().len() < room {
-        let mut items = tokens.into_vec();
-        items.push(token)?;
-        return Ok(Kept {
-            tokens: OutTokens::from_vec(items),
-            left_out,
-        });
+    // A copy of a token behind those that are kept; past the room nothing is copied.
+    #[tactic(auto, unfolding(crate::specs::Keeping::put))]
+    pub(crate) fn put_copy(&mut self, room: usize, token: &OutToken) -> Result<(), AllocError>
+        ensures { OnOk result (self.new ≡ spec.put room token.now self.old) }
+    {
+        if self.tokens.len() < room {
+            let copy = token.copy()?;
+            return self.tokens.push(copy);
+        }
+        if self.left_out.is_none() {
+            let site = token.site.copy()?;
+            self.left_out = Some(site);
+        }
+        Ok(())
     }
-    let OutToken {
-        kind: _,
-        spelling: _,
-        space_before: _,
-        spelt: _,
-        site,
-    } = token;
-    Ok(Kept {
-        tokens,
-        left_out: first_of(left_out, site),
-    })
-}
 
-// Tokens behind those that are kept.
-pub(crate) fn keep(room: usize, list: MarkedList, kept: Kept) -> Result<Kept, AllocError>
-    ensures { IfOk result (λ k. k ≡ spec.keep room (spec.bare list) kept) }
-{
-    let mut items = Queue::from_list(list).into_items();
-    let mut kept = kept;
-    'tokens: while let Some(marked) = items.pop_front() {
-        let Marked { token, hides: _ } = marked;
-        let more = put(room, token, kept)?;
-        kept = more;
+    // Tokens behind those that are kept.
+    pub(crate) fn keep(&mut self, room: usize, list: MarkedList) -> Result<(), AllocError>
+        ensures { OnOk result (self.new ≡ spec.keep room (spec.bare list) self.old) }
+    {
+        let mut items = Queue::from_list(list).into_items();
+        'tokens: while let Some(marked) = items.pop_front() {
+            let Marked { token, hides: _ } = marked;
+            self.put(room, token)?;
+        }
+        Ok(())
     }
-    Ok(kept)
 }

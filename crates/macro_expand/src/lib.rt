@@ -17,6 +17,7 @@ mod parens;
 mod queue;
 mod rest;
 mod sets;
+mod skimming;
 mod splicing;
 mod tokens;
 mod types;

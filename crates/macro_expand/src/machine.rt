@@ -1,5 +1,6 @@
 // Macro expansion over a list of replacements that are under way, in place of a recursion.
-ghost use Rattle.std.specs.Prelude.{◌≡◌, ◌≤◌, ◌<◌, ◌+◌, ◌∷◌, length, map as list_map, IfOk, OnOk};
+ghost use Rattle.std.specs.Prelude.{◌≡◌, ℕ, List, ◌≤◌, ◌<◌, ◌+◌, ◌∷◌, length, map as list_map, IfOk, OnOk};
+ghost use Rattle.tok_data.specs.declared.sources.TokId.{TokId as Site};
 ghost use Rattle.macro_expand.specs.Tokens.{plain};
 ghost use Rattle.macro_expand.specs.Codes.{Names};
 ghost use Rattle.macro_expand.specs.Stands.{Stands, Grows};
@@ -17,10 +18,11 @@ use crate::building::Building;
 use crate::expanding::{Step, Taken, take_step};
 use crate::finding::{Meaning, meaning_of};
 use crate::hide::HideSet;
-use crate::keeping::{Held, Kept, keep, nothing_kept};
+use crate::keeping::{Held, Kept};
 use crate::look::Look;
 use crate::rest::Rest;
 use crate::sets::Sets;
+use crate::skimming::skim;
 use crate::splicing::spliced;
 use crate::types::{Marked, MarkedList, Progress};
 use macro_table::{MacroDef, MacroTable};
@@ -404,49 +406,49 @@ pub(crate) fn climb<'a>(
     }
 }
 
-// A machine, and what is kept of the tokens that left it.
-#[derive(Drop)]
-pub(crate) struct Delivered<'a> {
-    machine: Machine<'a>,
-    kept: Kept,
-}
-
-// What is expanded leaves a machine in which nothing waits.
+// What is expanded leaves a machine in which nothing waits, and so do the tokens behind it that no macro takes.
 fn deliver<'a>(
     alloc: Global,
+    sets: &mut Sets,
+    table: &MacroTable,
     room: usize,
     machine: Machine<'a>,
-    kept: Kept,
-) -> Result<Delivered<'a>, AllocError>
-    ensures value { IfOk result (λ d. (f : Names → Names) (again : Expander)
-        → keeping.held room d.kept (work.outcome f again d.machine)
-        ≡ keeping.held room kept (work.outcome f again machine.entry)) }
-    ensures progress { IfOk result (λ d. d.machine.level.progress ≡ machine.entry.level.progress) }
-    ensures rest { IfOk result (λ d. d.machine.level.rest ≡ machine.entry.level.rest) }
-    ensures frames { IfOk result (λ d. d.machine.frames.items ≡ machine.entry.frames.items) }
+    kept: &mut Kept,
+) -> Result<Machine<'a>, AllocError>
+    ensures grows { OnOk result (Grows sets.old sets.new) }
+    ensures value { IfOk result (λ m. (f : Names → Names) → Stands f sets.new → (lines : List (Site × ℕ))
+        → keeping.held room kept.new (work.outcome f (spec.expansion (map.get table.now) lines) m)
+        ≡ keeping.held room kept.old (work.outcome f (spec.expansion (map.get table.now) lines) machine.entry)) }
+    ensures progress { IfOk result (λ m. m.level.progress ≡ machine.entry.level.progress) }
+    ensures shorter { IfOk result (λ m. length m.level.rest ≤ length machine.entry.level.rest) }
+    ensures frames { IfOk result (λ m. m.frames.items ≡ machine.entry.frames.items) }
 {
     let Machine { level, frames } = machine;
     if !frames.is_empty() {
-        return Ok(Delivered {
-            machine: Machine { level, frames },
-            kept,
-        });
+        return Ok(Machine { level, frames });
     }
     let Walked {
         progress,
         done,
         rest,
     } = level;
-    let kept = keep(room, done, kept)?;
+    kept.keep(room, done)?;
+    let mut rest = rest;
+    skim(
+        alloc,
+        sets,
+        table,
+        room,
+        progress.stopped,
+        &mut rest,
+        kept,
+    )?;
     let level = Walked {
         progress,
         done: MarkedList::new(alloc),
         rest,
     };
-    Ok(Delivered {
-        machine: Machine { level, frames },
-        kept,
-    })
+    Ok(Machine { level, frames })
 }
 
 // The expansion of a list of tokens with their hide sets, of which no more than so many are kept.
@@ -475,25 +477,20 @@ pub(crate) fn expansion<'a>(
         level,
         frames: VecDeque::new(alloc),
     };
-    let mut kept = nothing_kept(alloc);
+    let mut kept = Kept::nothing(alloc);
     'names: loop {
-        if machine.level.rest.is_empty() && machine.frames.is_empty() {
-            let Machine { level, frames: _ } = machine;
+        let delivered = deliver(alloc, sets, table, room, machine, &mut kept)?;
+        if delivered.level.rest.is_empty() && delivered.frames.is_empty() {
+            let Machine { level, frames: _ } = delivered;
             let Walked {
                 progress,
                 done,
                 rest: _,
             } = level;
-            let kept = keep(room, done, kept)?;
+            kept.keep(room, done)?;
             return Ok(Held { progress, kept });
         }
-        let next = climb(alloc, sets, table, lines, machine)?;
-        let delivered = deliver(alloc, room, next, kept)?;
-        let Delivered {
-            machine: left,
-            kept: more,
-        } = delivered;
-        machine = left;
-        kept = more;
+        let next = climb(alloc, sets, table, lines, delivered)?;
+        machine = next;
     }
 }

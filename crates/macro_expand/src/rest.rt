@@ -1,13 +1,15 @@
 // Lists of tokens that are read and written at their fronts.
-ghost use Rattle.std.specs.Prelude.{◌≡◌, [], ◌∷◌, ◌++◌, ◌<◌, drop, map as list_map, slice_get};
+ghost use Rattle.std.specs.Prelude.{◌≡◌, [], ◌∷◌, ◌++◌, ◌<◌, take, drop, map as list_map, slice_get};
 ghost use Rattle.std.specs.Prelude.{IfOk, OnOk, IfSome, IfNone, IsTrue, ◌↔◌, option_map, option_to_list};
 ghost use Rattle.macro_table.specs.declared.definition.MacroDef.{MacroDef};
 ghost use Rattle.macro_expand.specs.declared.arguments.Called.TheVariants.{Unclosed};
 ghost use Rattle.macro_expand.specs.Arguments.{called};
+ghost use Rattle.macro_expand.specs.Keeping as keeping;
 ghost use Rattle.macro_expand.specs.Looks.{seen};
 ghost use Rattle.macro_expand.specs.Parens as spec;
 ghost use Rattle.macro_expand.specs.Tokens as tokens;
 
+use crate::keeping::Kept;
 use crate::look::Look;
 use crate::parens::Parens;
 use crate::tokens::is_mark;
@@ -181,6 +183,24 @@ impl<'a> Rest<'a> {
             self.behind = behind;
             self.parens.leave(first);
         }
+    }
+
+    // The first token, where there is one, leaves for what is kept.
+    pub(crate) fn keep_first(&mut self, room: usize, kept: &mut Kept) -> Result<(), AllocError>
+        ensures rest { OnOk result (self.new ≡ drop 1 self.old) }
+        ensures kept { OnOk result (kept.new ≡ keeping.keep room (keeping.bare (take 1 self.old)) kept.old) }
+    {
+        if let Some(marked) = self.front.pop_front() {
+            self.parens.leave(&marked.token);
+            let Marked { token, hides: _ } = marked;
+            return kept.put(room, token);
+        }
+        if let Some((first, behind)) = self.behind.split_first() {
+            self.behind = behind;
+            self.parens.leave(first);
+            return kept.put_copy(room, first);
+        }
+        Ok(())
     }
 
     // With one token more at the front.

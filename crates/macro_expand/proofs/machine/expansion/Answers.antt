@@ -13,26 +13,31 @@ use Rattle.macro_expand.proofs.KeepingLemmas.{kept_last}
 use Rattle.macro_expand.proofs.WalkLemmas.{whole_done}
 use Rattle.macro_expand.proofs.machine.expansion.Goals as goal
 
+pub returns-then-is_empty-2-clause-grows : goal.returns-then-is_empty-2-clause-grows
+returns-then-is_empty-2-clause-grows c = λ f h. c.names.invariant.grows f (c.in_ok-delivered.ensures.grows f h)
+
 pub returns-then-is_empty-2-clause-value : goal.returns-then-is_empty-2-clause-value
 returns-then-is_empty-2-clause-value c = λ f h.
     let table = map.get c.args.table.now in
     let again : Expander = spec.expansion table c.args.lines.now in
-    let short : length c.names.machine.frames.items ≡ 0 = grind (arith, common_steps) in
-    let none : c.names.machine.frames.items ≡ [] = nil_from_length c.names.machine.frames.items short in
-    kept_last f c.args.room c.names.kept c.in_ok-kept.kept c.names.machine.level.progress c.names.machine.level.done
-    (work.outcome f again c.names.machine) c.in_ok-kept.ensures
-    (sym (whole_done f table c.args.lines.now c.names.machine.level (c.is_empty.ensures.0 c.if-is_empty.true))
-    ∙ ap (λ (l : List Frame). work.resume f again l (steps.whole f table c.args.lines.now c.names.machine.level))
-    (sym none))
-    ∙ c.names.invariant.same f h
+    let machine = c.in_ok-delivered.delivered in
+    let short : length machine.frames.items ≡ 0 = grind (arith, common_steps) in
+    let none : machine.frames.items ≡ [] = nil_from_length machine.frames.items short in
+    kept_last f c.args.room c.deliver.new.kept c.keep.new.self machine.level.progress machine.level.done
+    (work.outcome f again machine) c.in_ok-keep.ensures
+    (sym (whole_done f table c.args.lines.now machine.level (c.is_empty.ensures.0 c.if-is_empty.true))
+    ∙ ap (λ (l : List Frame). work.resume f again l (steps.whole f table c.args.lines.now machine.level)) (sym none))
+    ∙ c.in_ok-delivered.ensures.value f h c.args.lines.now
+    ∙ c.names.invariant.same f (c.in_ok-delivered.ensures.grows f h)
 
 pub names-preserved : goal.names-preserved
 names-preserved c = record {
-  grows = λ f h. c.names.invariant.grows f (c.in_ok-next.ensures.grows f h);
+  grows = λ f h. c.names.invariant.grows f (c.in_ok-delivered.ensures.grows f (c.in_ok-next.ensures.grows f h));
   same = λ f h.
-      c.in_ok-delivered.ensures.value f (spec.expansion (map.get c.args.table.now) c.args.lines.now)
-      ∙ ap (held c.args.room c.names.kept) (c.in_ok-next.ensures.value f h)
-      ∙ c.names.invariant.same f (c.in_ok-next.ensures.grows f h);
+      let stands = c.in_ok-next.ensures.grows f h in
+      ap (held c.args.room c.deliver.new.kept) (c.in_ok-next.ensures.value f h)
+      ∙ c.in_ok-delivered.ensures.value f stands c.args.lines.now
+      ∙ c.names.invariant.same f (c.in_ok-delivered.ensures.grows f stands);
   fewer = let next = c.in_ok-next.ensures.fewer in
       let same = ap (λ p. p.left) c.in_ok-delivered.ensures.progress in
       omega (arith, next, same, c.names.invariant.fewer);

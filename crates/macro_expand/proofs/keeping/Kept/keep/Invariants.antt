@@ -1,10 +1,10 @@
 use Rattle.std.proofs.Common.{◌≡◌, deque_len}
 use Rattle.macro_expand.specs.Keeping as spec
-use Rattle.macro_expand.proofs.keeping.keep.Given as goal
+use Rattle.macro_expand.proofs.keeping.Kept.keep.Given as goal
 
 abbrev pub invariant-tokens : goal.invariant-tokens
 invariant-tokens l =
-    spec.keep l.room (spec.bare l.items.items) l.kept ≡ spec.keep l.room (spec.bare l.fn.list) l.fn.kept
+    spec.keep l.room (spec.bare l.items.items) l.self ≡ spec.keep l.room (spec.bare l.fn.list) l.fn.self
 
 abbrev pub decreases-tokens : goal.decreases-tokens
 decreases-tokens l = deque_len l.items
