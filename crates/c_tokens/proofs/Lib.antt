@@ -18,8 +18,12 @@ pub mod MemberLemmas
 pub mod NextLemmas
 pub mod OpenLemmas
 pub mod OrderLemmas
+pub mod Productions
+pub mod QuotedProductions
 pub mod ReadingLemmas
 pub mod RunLemmas
+pub mod Scanned
+pub mod Standing
 pub mod WordLemmas
 pub mod WordReads
 mod SlimLemmas

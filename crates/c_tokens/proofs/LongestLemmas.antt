@@ -10,7 +10,7 @@ use Rattle.c_tokens.specs.declared.classes.State.TheVariants.{Blanks, Line, Bloc
 use Rattle.c_tokens.specs.Logical.{is_line_end}
 use Rattle.c_tokens.specs.Classes.{run, last_state, next_state, is_blank, is_nondigit, is_word_part}
 use Rattle.c_tokens.specs.Pieces.{Front, first_front, front_token, header_or_token, header_size, token_front, literal_prefix, literal_at, literal_or_plain, plain_front, block_comment, is_token, is_closed, is_quote, is_prefix}
-use Rattle.c_tokens.specs.Languages.{accepts, closes, is_identifier}
+use Rattle.c_tokens.proofs.Scanned.{accepts, closes, is_identifier}
 use Rattle.c_tokens.proofs.FrontLemmas.{if_cases}
 
 -- a language by states: no more characters than a run has

@@ -10,7 +10,8 @@ use Rattle.c_tokens.specs.declared.classes.State.TheVariants.{Blanks, Line, Bloc
 use Rattle.c_tokens.specs.Logical.{is_line_end}
 use Rattle.c_tokens.specs.Classes.{run, is_blank, is_digit, is_nondigit, is_number_part, is_single, is_pair, is_triple, is_quadruple, longest_of_four, punctuator_size}
 use Rattle.c_tokens.specs.Pieces.{Front, first_front, header_or_token, header_size, token_front, literal_prefix, literal_at, literal_or_plain, plain_front, punctuator_or_stray, block_comment, is_token, is_quote, is_prefix, closing_of}
-use Rattle.c_tokens.specs.Languages.{accepts, closes, is_identifier, is_number, is_literal, is_quoted, is_header_name, is_punctuator, punctuators, is_among, is_comment, is_white_space, may_be_header, is_piece, IsLongest}
+use Rattle.c_tokens.specs.Languages.{is_punctuator, punctuators, is_among}
+use Rattle.c_tokens.proofs.Scanned.{accepts, closes, is_identifier, is_number, is_literal, is_quoted, is_header_name, is_comment, is_white_space, may_be_header, is_piece, IsLongest}
 use Rattle.c_tokens.proofs.FrontLemmas.{if_cases, run_first, digits_go, line_goes}
 use Rattle.c_tokens.proofs.ClosedFronts.{PlaceWithin, prefix_within}
 use Rattle.c_tokens.proofs.LongestLemmas.{accepts_within, Closes, closes_exactly, first_part, second_part, either_part, take_see, below_first, below_front_token, no_prefix, below_identifier}

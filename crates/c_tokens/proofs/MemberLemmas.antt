@@ -1,31 +1,26 @@
 -- The piece at the front is a member of its class, unless it is open or a stray character.
-use Rattle.std.proofs.Common.{◌≡◌, ℕ, suc, ◌+◌, ◌<◌, inl, inr, Bool, true, false, ◌&&◌, ◌||◌, not, List, [], ◌∷◌, length, take, drop, refl, ap, sym, ◌∙◌, arith, Option, Some, None, slice_index, nat_lt, ◌==◌, codes}
+use Rattle.std.proofs.Common.{◌≡◌, ℕ, suc, ◌+◌, ◌<◌, inl, inr, Bool, true, false, ◌&&◌, ◌||◌, not, List, [], ◌∷◌, length, take, drop, refl, ap, sym, subst, ◌∙◌, arith, Option, Some, None, slice_index, nat_lt, ◌==◌, codes}
 use Rattle.std.proofs.lemmas.Grind.{common_steps}
 use Rattle.std.proofs.lemmas.List.{get_or-take, drop-take}
 use Rattle.std.specs.Option.{option_map_or}
 use Rattle.c_tokens.specs.declared.pieces.Class.{Class}
+use Rattle.c_tokens.specs.declared.pieces.Class.TheVariants.{Token}
 use Rattle.c_tokens.specs.declared.pieces.Context.{Context}
 use Rattle.c_tokens.specs.declared.pieces.Context.TheVariants.{Fresh, Hash, Include, Later}
 use Rattle.c_tokens.specs.declared.classes.State.{State}
 use Rattle.c_tokens.specs.declared.classes.State.TheVariants.{Blanks, Line, Block, Word, Digits, Text, HeaderFront}
 use Rattle.c_tokens.specs.Logical.{is_line_end}
 use Rattle.c_tokens.specs.Classes.{run, last_state, next_state, is_blank, is_digit, is_nondigit, is_single, is_pair, is_triple, is_quadruple, longest_of_four, punctuator_size}
-use Rattle.c_tokens.specs.Pieces.{Front, first_front, front_token, header_or_token, header_size, token_front, literal_prefix, literal_at, literal_or_plain, plain_front, punctuator_or_stray, block_comment, is_token, is_closed, is_quote, is_prefix, closing_of}
-use Rattle.c_tokens.specs.Languages.{accepts, closes, is_identifier, is_number, is_literal, is_quoted, is_header_name, is_punctuator, is_comment, is_white_space, may_be_header, is_piece, is_whole}
+use Rattle.c_tokens.specs.Pieces.{Front, first_front, front_token, header_or_token, header_size, token_front, literal_prefix, literal_at, literal_or_plain, plain_front, punctuator_or_stray, block_comment, is_token, literal_kind, is_closed, is_quote, is_prefix, closing_of}
+use Rattle.tok_data.specs.declared.tokens.PpKind.{PpKind}
+use Rattle.c_tokens.specs.Languages.{is_punctuator, is_whole, may_stand, IsMember, AreBlanks, line_end}
+use Rattle.c_tokens.proofs.Scanned.{accepts, closes, is_identifier, is_number, is_header_name, is_comment}
+use Rattle.c_tokens.proofs.Productions.{both, or_left, or_right, identifier_is, number_is, comment_is, blanks_are}
+use Rattle.c_tokens.proofs.QuotedProductions.{literal_in, header_is}
 use Rattle.c_tokens.proofs.FrontLemmas.{if_cases, run_first, digits_go, word_goes, blanks_go}
 use Rattle.c_tokens.proofs.LongestLemmas.{first_part, second_part, either_part}
 use Rattle.c_tokens.proofs.LongestTokens.{same_test}
 use Rattle.c_tokens.proofs.ClosedFirst.{third_some, pair_some}
-
-both : (a b : Bool) → a ≡ true → b ≡ true → a && b ≡ true
-both a b e f = rw (e, f) refl
-
-or_left : (a b : Bool) → a ≡ true → a || b ≡ true
-or_left a b e = rw e refl
-
-or_right : (a b : Bool) → b ≡ true → a || b ≡ true
-or_right true b e = refl
-or_right false b e = e
 
 one_more : (n c : ℕ) (cs : List ℕ) → take (1 + n) (c ∷ cs) ≡ c ∷ take n cs
 one_more n c cs = let e : 1 + n ≡ suc n = omega arith in rw e refl
@@ -100,14 +95,15 @@ prefix_kept n p cs inside =
     rw (c0, e, c1, f, c2, g) k)
     (λ g k. cc k)))
 
-literal_member : (p : ℕ) (cs : List ℕ) → literal_prefix cs ≡ Some p → is_closed (last_state (drop (p + 1) cs) (Text (slice_index cs p))) ≡ true → is_literal (take (p + 1 + run (drop (p + 1) cs) (Text (slice_index cs p))) cs) ≡ true
+literal_member : (p : ℕ) (cs : List ℕ) → literal_prefix cs ≡ Some p → is_closed (last_state (drop (p + 1) cs) (Text (slice_index cs p))) ≡ true
+    → IsMember (Token (literal_kind (slice_index cs p))) (take (p + 1 + run (drop (p + 1) cs) (Text (slice_index cs p))) cs)
 literal_member p cs e closed =
     let k : ℕ = run (drop (p + 1) cs) (Text (slice_index cs p)) in
     let n : ℕ = p + 1 + k in
     let inside : p < n = omega arith in
     let quote : slice_index (take n cs) p ≡ slice_index cs p = get_or-take n cs p 0 inside in
-    ap (λ (o : Option ℕ). is_quoted o (take n cs)) (prefix_kept n p cs inside e)
-    ∙ rw (quote, drop-take (p + 1) k cs) (closes_run (drop (p + 1) cs) (Text (slice_index cs p)) closed)
+    let closing : closes (drop (p + 1) (take n cs)) (Text (slice_index (take n cs) p)) ≡ true = rw (quote, drop-take (p + 1) k cs) (closes_run (drop (p + 1) cs) (Text (slice_index cs p)) closed) in
+    subst (λ (q : ℕ). IsMember (Token (literal_kind q)) (take n cs)) quote (literal_in p (take n cs) (prefix_kept n p cs inside e) closing)
 
 header_member : (c : ℕ) (xs : List ℕ) → (c == 60 || c == 34) && is_closed (last_state xs (HeaderFront (closing_of c))) ≡ true → is_header_name (take (1 + run xs (HeaderFront (closing_of c))) (c ∷ xs)) ≡ true
 header_member c xs e = rw (one_more (run xs (HeaderFront (closing_of c))) c xs)
@@ -131,13 +127,10 @@ block_member c (d ∷ ys) e closed =
     let parts : 2 + k ≡ suc (suc k) = omega arith in
     rw parts (or_right (c == 47 && d == 47 && accepts (c ∷ d ∷ take k ys) Line) _ (both (c == 47 && d == 42) _ e (closes_run ys Block closed)))
 
-blank_member : (cs : List ℕ) → 0 < length cs → is_blank (slice_index cs 0) ≡ true → is_white_space (take (run cs Blanks) cs) ≡ true
+blank_member : (cs : List ℕ) → 0 < length cs → is_blank (slice_index cs 0) ≡ true → AreBlanks (take (run cs Blanks) cs)
 blank_member cs long e =
     let some : 0 < run cs Blanks = run_first cs Blanks long (blanks_go (slice_index cs 0) e) in
-    or_left _ _ (both (is_blank (slice_index (take (run cs Blanks) cs) 0)) _ (rw (get_or-take (run cs Blanks) cs 0 0 some) e) (accepts_run cs Blanks))
-
-line_end_member : (c : ℕ) (xs : List ℕ) → is_line_end c ≡ true → is_white_space (take 1 (c ∷ xs)) ≡ true
-line_end_member c xs e = or_right (is_blank c && accepts (c ∷ []) Blanks) _ (rw e refl)
+    blanks_are (take (run cs Blanks) cs) (rw (get_or-take (run cs Blanks) cs 0 0 some) e) (accepts_run cs Blanks)
 
 -- punctuators: the table has each
 abbrev among : ℕ → List ℕ → Bool
@@ -231,54 +224,35 @@ punctuator_member c xs =
     two c [] e = absurd (lost (pair_some c 0 e))
     two c (d ∷ ys) e = pair_member c d e
 
--- a member of one class is a piece
-as_identifier : (context : Context) (w : List ℕ) → is_identifier w ≡ true → is_piece context w ≡ true
-as_identifier context w e = or_left _ _ (or_left _ _ (or_left _ _ (or_left _ _ (or_left _ _ (or_left _ _ e)))))
+-- what is whole at the front, neither open nor stray, is a member of its class
+abbrev FrontIs : Context → List ℕ → Front → Type 0
+FrontIs context cs f = is_whole f.class ≡ true → (may_stand f.class context ≡ true) × IsMember f.class (take f.size cs)
 
-as_number : (context : Context) (w : List ℕ) → is_number w ≡ true → is_piece context w ≡ true
-as_number context w e = or_left _ _ (or_left _ _ (or_left _ _ (or_left _ _ (or_left _ _ (or_right (is_identifier w) _ e)))))
-
-as_literal : (context : Context) (w : List ℕ) → is_literal w ≡ true → is_piece context w ≡ true
-as_literal context w e = or_left _ _ (or_left _ _ (or_left _ _ (or_left _ _ (or_right (is_identifier w || is_number w) _ e))))
-
-as_header : (w : List ℕ) → is_header_name w ≡ true → is_piece Include w ≡ true
-as_header w e = or_left _ _ (or_left _ _ (or_left _ _ (or_right (is_identifier w || is_number w || is_literal w) _ e)))
-
-as_punctuator : (context : Context) (w : List ℕ) → is_punctuator w ≡ true → is_piece context w ≡ true
-as_punctuator context w e = or_left _ _ (or_left _ _ (or_right (is_identifier w || is_number w || is_literal w || (may_be_header context && is_header_name w)) _ e))
-
-as_comment : (context : Context) (w : List ℕ) → is_comment w ≡ true → is_piece context w ≡ true
-as_comment context w e = or_left _ _ (or_right (is_identifier w || is_number w || is_literal w || (may_be_header context && is_header_name w) || is_punctuator w) _ e)
-
-as_white : (context : Context) (w : List ℕ) → is_white_space w ≡ true → is_piece context w ≡ true
-as_white context w e = or_right (is_identifier w || is_number w || is_literal w || (may_be_header context && is_header_name w) || is_punctuator w || is_comment w) _ e
-
--- what is whole at the front, neither open nor stray, is a piece
-abbrev IsMember : Context → List ℕ → Front → Type 0
-IsMember context cs f = is_whole f.class ≡ true → is_piece context (take f.size cs) ≡ true
-
-other_member : (context : Context) (c : ℕ) (xs : List ℕ) → IsMember context (c ∷ xs) (punctuator_or_stray (c ∷ xs))
+other_member : (context : Context) (c : ℕ) (xs : List ℕ) → FrontIs context (c ∷ xs) (punctuator_or_stray (c ∷ xs))
 unfolding punctuator_or_stray
-other_member context c xs = if_cases (IsMember context (c ∷ xs)) (nat_lt 0 (punctuator_size (c ∷ xs))) _ _
-    (λ e _. as_punctuator context (take (punctuator_size (c ∷ xs)) (c ∷ xs)) (punctuator_member c xs (grind (arith, common_steps, e)))) (λ _ whole. cc whole)
+other_member context c xs = if_cases (FrontIs context (c ∷ xs)) (nat_lt 0 (punctuator_size (c ∷ xs))) _ _
+    (λ e _. (refl, punctuator_member c xs (grind (arith, common_steps, e)))) (λ _ whole. cc whole)
 
-plain_member : (context : Context) (c : ℕ) (xs : List ℕ) → IsMember context (c ∷ xs) (plain_front (c ∷ xs))
+plain_member : (context : Context) (c : ℕ) (xs : List ℕ) → FrontIs context (c ∷ xs) (plain_front (c ∷ xs))
 unfolding plain_front
-plain_member context c xs = if_cases (IsMember context (c ∷ xs)) (is_nondigit c) _ _ (λ e _. as_identifier context (take (run (c ∷ xs) Word) (c ∷ xs)) (identifier_member (c ∷ xs) (omega arith) e))
-    (λ _. if_cases (IsMember context (c ∷ xs)) (is_digit c || (c == 46 && is_digit (slice_index xs 0))) _ _ (λ e _. as_number context (take (run (c ∷ xs) Digits) (c ∷ xs)) (number_member c xs e))
+plain_member context c xs = if_cases (FrontIs context (c ∷ xs)) (is_nondigit c) _ _ (λ e _. (refl, sym (identifier_is (take (run (c ∷ xs) Word) (c ∷ xs))) ∙ identifier_member (c ∷ xs) (omega arith) e))
+    (λ _. if_cases (FrontIs context (c ∷ xs)) (is_digit c || (c == 46 && is_digit (slice_index xs 0))) _ _ (λ e _. (refl, number_is (take (run (c ∷ xs) Digits) (c ∷ xs)) (number_member c xs e)))
     (λ _. other_member context c xs))
 
-literal_whole : (context : Context) (p : ℕ) (cs : List ℕ) → literal_prefix cs ≡ Some p → IsMember context cs (literal_at cs p)
+literal_stands : (q : ℕ) (context : Context) → may_stand (Token (literal_kind q)) context ≡ true
+literal_stands q context = if_cases (λ (kind : PpKind). may_stand (Token kind) context ≡ true) (q == 39) _ _ (λ _. refl) (λ _. refl)
+
+literal_whole : (context : Context) (p : ℕ) (cs : List ℕ) → literal_prefix cs ≡ Some p → FrontIs context cs (literal_at cs p)
 unfolding literal_at
 literal_whole context p cs e =
-    if_cases (λ (k : Class). is_whole k ≡ true → is_piece context (take (literal_at cs p).size cs) ≡ true) (is_closed (last_state (drop (p + 1) cs) (Text (slice_index cs p)))) _ _
-    (λ closed _. as_literal context (take (p + 1 + run (drop (p + 1) cs) (Text (slice_index cs p))) cs) (literal_member p cs e closed)) (λ _ whole. cc whole)
+    if_cases (λ (k : Class). is_whole k ≡ true → (may_stand k context ≡ true) × IsMember k (take (literal_at cs p).size cs)) (is_closed (last_state (drop (p + 1) cs) (Text (slice_index cs p)))) _ _
+    (λ closed _. (literal_stands (slice_index cs p) context, literal_member p cs e closed)) (λ _ whole. cc whole)
 
-token_by : (context : Context) (c : ℕ) (xs : List ℕ) (o : Option ℕ) → literal_prefix (c ∷ xs) ≡ o → IsMember context (c ∷ xs) (literal_or_plain o (c ∷ xs))
+token_by : (context : Context) (c : ℕ) (xs : List ℕ) (o : Option ℕ) → literal_prefix (c ∷ xs) ≡ o → FrontIs context (c ∷ xs) (literal_or_plain o (c ∷ xs))
 token_by context c xs None e = plain_member context c xs
 token_by context c xs (Some p) e = literal_whole context p (c ∷ xs) e
 
-token_member : (context : Context) (c : ℕ) (xs : List ℕ) → IsMember context (c ∷ xs) (token_front (c ∷ xs))
+token_member : (context : Context) (c : ℕ) (xs : List ℕ) → FrontIs context (c ∷ xs) (token_front (c ∷ xs))
 unfolding token_front
 token_member context c xs = token_by context c xs (literal_prefix (c ∷ xs)) refl
 
@@ -287,35 +261,35 @@ unfolding header_size
 header_size_member c xs = if_cases (λ (n : ℕ). 0 < n → is_header_name (take n (c ∷ xs)) ≡ true) ((c == 60 || c == 34) && is_closed (last_state xs (HeaderFront (closing_of c)))) _ _
     (λ e _. header_member c xs e) (λ _ some. absurd (lost some))
 
-header_or_token_member : (c : ℕ) (xs : List ℕ) → IsMember Include (c ∷ xs) (header_or_token (c ∷ xs))
+header_or_token_member : (c : ℕ) (xs : List ℕ) → FrontIs Include (c ∷ xs) (header_or_token (c ∷ xs))
 unfolding header_or_token
-header_or_token_member c xs = if_cases (IsMember Include (c ∷ xs)) (nat_lt 0 (header_size (c ∷ xs)) && not (is_token (token_front (c ∷ xs)).class && nat_lt (header_size (c ∷ xs)) (token_front (c ∷ xs)).size)) _ _
-    (λ e _. as_header (take (header_size (c ∷ xs)) (c ∷ xs)) (header_size_member c xs (above (header_size (c ∷ xs)) (first_part (nat_lt 0 (header_size (c ∷ xs))) _ e)))) (λ _. token_member Include c xs)
+header_or_token_member c xs = if_cases (FrontIs Include (c ∷ xs)) (nat_lt 0 (header_size (c ∷ xs)) && not (is_token (token_front (c ∷ xs)).class && nat_lt (header_size (c ∷ xs)) (token_front (c ∷ xs)).size)) _ _
+    (λ e _. (refl, header_is (take (header_size (c ∷ xs)) (c ∷ xs)) (header_size_member c xs (above (header_size (c ∷ xs)) (first_part (nat_lt 0 (header_size (c ∷ xs))) _ e))))) (λ _. token_member Include c xs)
   where
     above : (n : ℕ) → nat_lt 0 n ≡ true → 0 < n
     above n e = grind (arith, common_steps, e)
 
-front_token_member : (context : Context) (c : ℕ) (xs : List ℕ) → IsMember context (c ∷ xs) (front_token context (c ∷ xs))
+front_token_member : (context : Context) (c : ℕ) (xs : List ℕ) → FrontIs context (c ∷ xs) (front_token context (c ∷ xs))
 front_token_member Include c xs = header_or_token_member c xs
 front_token_member Fresh c xs = token_member Fresh c xs
 front_token_member Hash c xs = token_member Hash c xs
 front_token_member Later c xs = token_member Later c xs
 
-comment_member : (context : Context) (c : ℕ) (xs : List ℕ) → c == 47 && slice_index xs 0 == 42 ≡ true → IsMember context (c ∷ xs) (block_comment (c ∷ xs))
+comment_member : (context : Context) (c : ℕ) (xs : List ℕ) → c == 47 && slice_index xs 0 == 42 ≡ true → FrontIs context (c ∷ xs) (block_comment (c ∷ xs))
 unfolding block_comment
 comment_member context c xs e =
-    if_cases (λ (k : Class). is_whole k ≡ true → is_piece context (take (block_comment (c ∷ xs)).size (c ∷ xs)) ≡ true) (is_closed (last_state (drop 1 xs) Block)) _ _
-    (λ closed _. as_comment context (take (2 + run (drop 1 xs) Block) (c ∷ xs)) (block_member c xs e closed)) (λ _ whole. cc whole)
+    if_cases (λ (k : Class). is_whole k ≡ true → (may_stand k context ≡ true) × IsMember k (take (block_comment (c ∷ xs)).size (c ∷ xs))) (is_closed (last_state (drop 1 xs) Block)) _ _
+    (λ closed _. (refl, comment_is (take (2 + run (drop 1 xs) Block) (c ∷ xs)) (block_member c xs e closed))) (λ _ whole. cc whole)
 
-pub member : (context : Context) (c : ℕ) (xs : List ℕ) → IsMember context (c ∷ xs) (first_front context (c ∷ xs))
+pub member : (context : Context) (c : ℕ) (xs : List ℕ) → FrontIs context (c ∷ xs) (first_front context (c ∷ xs))
 unfolding first_front
 member context c xs =
-    if_cases (IsMember context (c ∷ xs)) (is_line_end c) _ _ (λ e _. as_white context (take 1 (c ∷ xs)) (line_end_member c xs e))
-    (λ _. if_cases (IsMember context (c ∷ xs)) (is_blank c) _ _ (λ e _. as_white context (take (run (c ∷ xs) Blanks) (c ∷ xs)) (blank_member (c ∷ xs) (omega arith) e))
-    (λ _. if_cases (IsMember context (c ∷ xs)) (c == 47 && slice_index xs 0 == 47) _ _ (λ e _. as_comment context (take (run (c ∷ xs) Line) (c ∷ xs)) (line_member c xs e))
-    (λ _. if_cases (IsMember context (c ∷ xs)) (c == 47 && slice_index xs 0 == 42) _ _ (λ e. comment_member context c xs e)
+    if_cases (FrontIs context (c ∷ xs)) (is_line_end c) _ _ (λ e _. (refl, line_end c e))
+    (λ _. if_cases (FrontIs context (c ∷ xs)) (is_blank c) _ _ (λ e _. (refl, blank_member (c ∷ xs) (omega arith) e))
+    (λ _. if_cases (FrontIs context (c ∷ xs)) (c == 47 && slice_index xs 0 == 47) _ _ (λ e _. (refl, comment_is (take (run (c ∷ xs) Line) (c ∷ xs)) (line_member c xs e)))
+    (λ _. if_cases (FrontIs context (c ∷ xs)) (c == 47 && slice_index xs 0 == 42) _ _ (λ e. comment_member context c xs e)
     (λ _. front_token_member context c xs))))
 
-pub whole_front : (context : Context) (cs : List ℕ) → 0 < length cs → IsMember context cs (first_front context cs)
+pub whole_front : (context : Context) (cs : List ℕ) → 0 < length cs → FrontIs context cs (first_front context cs)
 whole_front context [] long = absurd (omega (arith, long))
 whole_front context (c ∷ xs) long = member context c xs

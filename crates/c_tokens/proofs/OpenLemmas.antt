@@ -11,7 +11,8 @@ use Rattle.c_tokens.specs.declared.classes.State.TheVariants.{Block, Text, Line}
 use Rattle.c_tokens.specs.Logical.{is_line_end}
 use Rattle.c_tokens.specs.Classes.{last_state, is_blank, is_digit, is_nondigit, is_single, punctuator_size}
 use Rattle.c_tokens.specs.Pieces.{Front, first_front, front_token, header_or_token, header_size, token_front, literal_prefix, literal_at, literal_or_plain, literal_kind, plain_front, punctuator_or_stray, block_comment, is_token, is_closed, is_quote, is_prefix}
-use Rattle.c_tokens.specs.Languages.{accepts, closes, is_identifier, is_number, is_literal, is_quoted, is_header_name, is_punctuator, is_comment, is_white_space, may_be_header, is_piece}
+use Rattle.c_tokens.specs.Languages.{is_punctuator}
+use Rattle.c_tokens.proofs.Scanned.{accepts, closes, is_identifier, is_number, is_literal, is_quoted, is_header_name, is_comment, is_white_space, may_be_header, is_piece}
 use Rattle.c_tokens.proofs.FrontLemmas.{if_cases}
 use Rattle.c_tokens.proofs.ClosedFronts.{prefix_within}
 use Rattle.c_tokens.proofs.LongestLemmas.{first_part, second_part, either_part, take_see, no_prefix, Closes, closes_exactly}

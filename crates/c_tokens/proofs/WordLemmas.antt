@@ -1,9 +1,8 @@
 -- An identifier is read as one token.
-use Rattle.std.proofs.Common.{◌≡◌, ℕ, zero, suc, ◌+◌, ◌-◌, Bool, true, false, ◌&&◌, ◌||◌, List, [], ◌∷◌, length, take, refl, ap, sym, ◌∙◌, arith, Option, None, slice_index, bytes_eq, ◌==◌}
+use Rattle.std.proofs.Common.{◌≡◌, ℕ, zero, suc, ◌+◌, ◌-◌, Bool, true, false, ◌&&◌, ◌||◌, List, [], ◌∷◌, length, take, refl, ap, ◌∙◌, arith, None, slice_index, bytes_eq, ◌==◌}
 use Rattle.std.proofs.lemmas.Grind.{common_steps}
 use Rattle.std.proofs.lemmas.List.{take_all}
 use Rattle.std.specs.List.{flat_map, list_all, prefix_len}
-use Rattle.std.specs.Option.{option_map_or}
 use Rattle.tok_data.specs.declared.tokens.PpKind.TheVariants.{Ident}
 use Rattle.c_tokens.specs.declared.logical.Unit.TheVariants.{Plain}
 use Rattle.c_tokens.specs.declared.pieces.Class.TheVariants.{Token}
@@ -12,21 +11,12 @@ use Rattle.c_tokens.specs.declared.classes.State.TheVariants.{Word}
 use Rattle.c_tokens.specs.Cut.{cut}
 use Rattle.c_tokens.specs.Logical.{Character, codes_of, first_unit, first_source, backslash_width, begins_trigraph, continues, characters}
 use Rattle.c_tokens.specs.Classes.{run, next_state, is_nondigit, is_word_part}
-use Rattle.c_tokens.specs.Languages.{accepts, is_identifier}
+use Rattle.c_tokens.specs.Languages.{is_identifier}
 use Rattle.c_tokens.specs.Pieces.{Piece, pieces, after_piece, front_of, first_front, token_front, literal_prefix, plain_front, is_quote, is_prefix, spelling}
 use Rattle.c_tokens.specs.Lexed.{token_of, lexed}
 use Rattle.c_tokens.specs.Laws.{whole_token}
-use Rattle.c_tokens.proofs.FrontLemmas.{if_cases}
 use Rattle.c_tokens.proofs.LongestLemmas.{first_part, second_part}
 use Rattle.c_tokens.proofs.ClosedPieces.{closed_text, pieces_past}
-
--- word parts, one after another
-pub accepts_word : (w : List ℕ) → accepts w Word ≡ list_all is_word_part w
-unfolding next_state
-accepts_word [] = refl
-accepts_word (c ∷ w) = if_cases (λ (o : Option _). option_map_or (λ next. accepts w next) o false ≡ is_word_part c && list_all is_word_part w) (is_word_part c) _ _
-    (λ e. rw e (accepts_word w))
-    (λ e. rw e refl)
 
 run_word : (w : List ℕ) → list_all is_word_part w ≡ true → run w Word ≡ length w
 unfolding next_state
@@ -138,7 +128,6 @@ word_tokens b w starts e =
 pub identifier_token : (text : List ℕ) → is_identifier text ≡ true → (lexed text).tokens ≡ whole_token text ∷ []
 identifier_token [] e = cc e
 identifier_token (b ∷ w) e =
-    let starts : is_nondigit b ≡ true = first_part (is_nondigit b) (accepts (b ∷ w) Word) e in
-    let goes : accepts (b ∷ w) Word ≡ true = second_part (is_nondigit b) (accepts (b ∷ w) Word) e in
-    let parts : list_all is_word_part (b ∷ w) ≡ true = sym (accepts_word (b ∷ w)) ∙ goes in
+    let starts : is_nondigit b ≡ true = first_part (is_nondigit b) (list_all is_word_part (b ∷ w)) e in
+    let parts : list_all is_word_part (b ∷ w) ≡ true = second_part (is_nondigit b) (list_all is_word_part (b ∷ w)) e in
     (closed_text (b ∷ w)).same_tokens ∙ rw (word_characters 0 (b ∷ w) parts) (word_tokens b w starts parts)

@@ -25,7 +25,6 @@ use Rattle.c_tokens.specs.Laws.{whole_token}
 use Rattle.c_tokens.proofs.FrontLemmas.{sized_front, if_cases}
 use Rattle.c_tokens.proofs.LongestLemmas.{first_part, second_part}
 use Rattle.c_tokens.proofs.ClosedPieces.{closed_text}
-use Rattle.c_tokens.proofs.WordLemmas.{accepts_word}
 
 -- tokens of which the first stands behind white space
 abbrev FirstSpaced : List PpToken → Type 0
@@ -236,7 +235,7 @@ read_word c cs text s utf8 e =
     let none : NoneContinues (spelling own) = subst NoneContinues (sym t.spelled) (none_continues text utf8) in
     let words : list_all is_word_part text ≡ true = subst (λ (w : List ℕ). list_all is_word_part w ≡ true) t.spelled (plain_words own (take_spelled f.size (c ∷ cs) s) parts none) in
     let starts : slice_index text 0 ≡ code c = sym (ap (λ (w : List ℕ). slice_index w 0) t.spelled) ∙ first_of_some f.size c cs (sized_front Fresh c cs).some s.0 in
-    rw (starts, front.0, accepts_word text) words
+    rw (starts, front.0) words
 
 pub reads_identifier : (cs : List Character) (text : List ℕ) → AreSpelled cs → IsUtf8 text → flat_map token_of (pieces Fresh false 0 cs) ≡ whole_token text ∷ [] → is_identifier text ≡ true
 reads_identifier [] text s utf8 e = absurd (cc e)

@@ -1,5 +1,5 @@
--- The lexical elements of ISO C11 6.4, as languages over the first bytes of characters. A class whose members can
--- each go on is given by states, from one character to the next; a state that allows no more characters ends it.
+-- The kinds of characters in the lexical elements of ISO C11 6.4, and the states by which the members of a class that can
+-- go on are read, from one character to the next; a state that allows no more characters ends it.
 use Rattle.std.specs.Prelude.{ℕ, ◌+◌, Bool, false, ◌&&◌, ◌||◌, List, [], ◌∷◌, Option, Some, None, if◌then◌else◌, nat_le, ◌==◌, slice_index}
 use Rattle.std.specs.Option.{option_map_or}
 use Rattle.c_tokens.specs.declared.classes.State.{State}

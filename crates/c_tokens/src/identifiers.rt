@@ -21,7 +21,6 @@ fn begins_word(text: &[u8]) -> bool
     }
 }
 
-#[tactic(auto, using(crate::proofs::WordLemmas::accepts_word))]
 fn is_word(text: &[u8]) -> bool
     ensures { result ≡ Languages.is_identifier text.now }
 {

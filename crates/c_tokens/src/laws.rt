@@ -17,8 +17,9 @@ pub fn identifiers_are_tokens(_text: &str)
     ensures { IdentifierIsToken _text.now }
 {}
 
-/// The piece at the front of characters, given by their first bytes, is the longest front that is a token, a comment or
-/// white space, unless it is an open comment, an open literal or a stray character.
+/// The piece at the front of characters, given by their first bytes, is the longest front that the productions of ISO C11
+/// Annex A.1 make a token, a comment or white space, and a member of its class, unless it is an open comment, an open
+/// literal or a stray character; and these stand only where no front is a comment, a literal or any piece.
 pub fn front_is_longest(_codes: &[u8])
     ensures longest { FrontIsLongest _codes.now }
     ensures piece { FrontIsPiece _codes.now }
