@@ -18,3 +18,4 @@ pub mod JoinLemmas
 pub mod MachineLemmas
 pub mod UnmentionedLemmas
 pub mod KeepingLemmas
+pub mod LineLemmas

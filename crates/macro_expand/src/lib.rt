@@ -9,6 +9,7 @@ mod finding;
 mod glue;
 mod hide;
 mod keeping;
+mod laws;
 mod look;
 mod machine;
 mod names;
@@ -23,4 +24,5 @@ mod tokens;
 mod types;
 
 pub use expanding::{expand, expand_within};
+pub use laws::lines_change_nothing;
 pub use types::{Expanded, Within};

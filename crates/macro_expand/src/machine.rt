@@ -434,15 +434,7 @@ fn deliver<'a>(
     } = level;
     kept.keep(room, done)?;
     let mut rest = rest;
-    skim(
-        alloc,
-        sets,
-        table,
-        room,
-        progress.stopped,
-        &mut rest,
-        kept,
-    )?;
+    skim(alloc, sets, table, room, progress.stopped, &mut rest, kept)?;
     let level = Walked {
         progress,
         done: MarkedList::new(alloc),
