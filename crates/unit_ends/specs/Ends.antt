@@ -102,9 +102,9 @@ is_wanting name hs bs e = is_internal e.linkage && is_used name hs bs && not (st
 abbrev pub is_left_open : List ℕ → List HeadMeaning → Entity → Bool
 is_left_open name hs e = stated is_tentative name hs && not (stated defines name hs) && is_incomplete e.linkage hs e.ty
 
--- the fault of a name that nothing states before
+-- the fault of a name that nothing states before; one of a faulty type has shown its fault
 unfoldable pub first_rule : List ℕ → List HeadMeaning → List BodyMeaning → Entity → Option ℕ
-first_rule name hs bs e = if has_both name bs e then Some 430 else if is_wanting name hs bs e then Some 701 else if is_left_open name hs e then Some 703 else None
+first_rule name hs bs e = if not (is_type e.ty) then None else if has_both name bs e then Some 430 else if is_wanting name hs bs e then Some 701 else if is_left_open name hs e then Some 703 else None
 
 abbrev pub rule_at_first : List ℕ → List HeadMeaning → List BodyMeaning → Option Entity → Option ℕ
 rule_at_first name hs bs None = None

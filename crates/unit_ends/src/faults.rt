@@ -39,6 +39,9 @@ fn is_left_open(index: &Index<'_>, name: &Name, entity: &Entity) -> bool
 fn first_rule(index: &Index<'_>, name: &Name, entity: &Entity) -> Option<u16>
     ensures { result ≡ spec.first_rule name.now index.now.heads index.now.bodies entity.now }
 {
+    if !asked::is_type(&entity.ty) {
+        return None;
+    }
     if has_both(index, name, entity) {
         return Some(430);
     }
@@ -136,10 +139,13 @@ fn add_item(
     Ok(())
 }
 
-/// The faults of the end of a unit, whose items are given in order: at its first declaration a name with internal linkage
-/// that a body has declared with external linkage (6.2.2p7), one with internal linkage that is used and not defined (6.9p3),
-/// or a tentative definition that is incomplete at the end (6.9.2p2, p3); each definition of a name after the first (6.9p5). They stand in the order of the items, and
-/// within an item in that of its tokens. Its cost is linear in what the items declare, state and use.
+/// The faults of the end of a unit (ISO C11 6.2.2, 6.9, 6.9.2), whose items are given in order.
+///
+/// At its first declaration: 430 for a name with internal linkage that a body has declared with external linkage (6.2.2p7),
+/// 701 for one with internal linkage that is used and not defined (6.9p3), 703 for a tentative definition that is incomplete
+/// at the end (6.9.2p2, p3); none of these for a name of a faulty type. 702 at each definition of a name after the first
+/// (6.9p5). They stand in the order of the items, and within an item in that of its tokens. Its cost is linear in what the
+/// items declare, state and use. It fails for want of memory alone.
 pub fn end_faults(
     alloc: Global,
     heads: &[HeadMeaning],

@@ -1,4 +1,4 @@
-// The faults of the end of a unit (ISO C11 6.9, 6.9.2).
+// The faults of the end of a unit (ISO C11 6.2.2, 6.9, 6.9.2).
 #![tactic(auto)]
 
 mod asked;
