@@ -1,0 +1,12 @@
+use Rattle.std.proofs.Common.{[], ◌∷◌, map, string_bytes, refl}
+use Rattle.serde_json.specs.Written.{compact_text}
+use Rattle.gen_project.specs.Script.{opened}
+use Rattle.gen_project.proofs.Loops.{turns, adds}
+use Rattle.gen_project.proofs.script.open_units.Goals as goal
+
+pub units-preserved : goal.units-preserved
+units-preserved c =
+    let n = c.args.number in
+    let k = c.units.k in
+    turns (λ ks. map compact_text (map (opened n) ks)) (compact_text (opened n k) ∷ []) (map string_bytes c.args.contents.now.items) (map string_bytes c.units.contents.items) _ n k
+    (λ ks. refl) c.units-test.true (adds string_bytes c.units.contents.items c.push.new.self.items c.in_ok-content.content (compact_text (opened n k)) c.in_ok-push.ensures.items c.in_ok-content.ensures) c.units.invariant
