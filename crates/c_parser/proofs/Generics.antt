@@ -1,19 +1,18 @@
 -- Generic selections, and the place of a member: what a call found is the only one there; where a part has none, the whole
 -- has none.
 use Rattle.std.proofs.Common.{◌≡◌, refl, ap, sym, ◌∙◌, subst, ℕ, ◌+◌, ◌<◌, ◌≤◌, List, [], ◌∷◌, ◌++◌, length, arith, true, false, true≢false}
-use Rattle.tree_data.specs.Names.{Naming}
-use Rattle.tree_data.specs.Trees.{Tree, Generic_of, Offset_of, Behind, Operand_of, Index_of, Call_of, Call_with_of, Member_of, Step_of, Behinds, None_behind, Behind_then, behinds, Association, Typed_of, Default_of, Associations, No_associations, Association_then, associations}
+use Rattle.tree_data.specs.Trees.{Naming, Tree, Generic_of, Offset_of, Behind, Operand_of, Index_of, Call_of, Call_with_of, Member_of, Step_of, Behinds, None_behind, Behind_then, behinds, Association, Typed_of, Default_of, Associations, No_associations, Association_then, associations}
 use Rattle.c_parser.specs.declared.answers.Stop.{Stop}
 use Rattle.c_parser.specs.declared.kinds.Kind.{Kind}
 use Rattle.c_parser.specs.declared.kinds.Kind.TheVariants.{Identifier, Constant, Text, OpenParen, CloseParen, OpenBracket, Dot, Colon, Comma, Generic, OffsetOf, Default}
 use Rattle.c_parser.specs.Grammar.{IsAny, IsStep, AreSteps}
 use Rattle.c_parser.specs.Kinds.{kind_at, level_at, level_of, is_word, is_dot, is_size, is_member, is_designating, starts_type, ends_type}
-use Rattle.c_parser.specs.Reading.{Holds, HoldsBehind, HoldBehinds, HoldsAssociation, HoldAssociations, Reads, Stops, Found, FoundBehind, FoundSteps, FoundAssociation, FoundAssociations, FoundType, IsWant}
-use Rattle.c_parser.specs.TypeNames.{HoldsType}
+use Rattle.c_parser.specs.Reading.{HoldsType, Holds, HoldsBehind, HoldBehinds, HoldsAssociation, HoldAssociations, Reads, Stops, Found, FoundBehind, FoundSteps, FoundAssociation, FoundAssociations, FoundType, IsWant}
 use Rattle.c_parser.proofs.Marks.{clash, dot_designates}
 use Rattle.c_parser.proofs.Parsing.{Fails, found_only, found_behind_only}
 use Rattle.c_parser.proofs.Types.{type_starts}
-use Rattle.c_parser.proofs.Uniqueness.{OnlyAssociations, association_only, associations_begin, any_stop}
+use Rattle.c_parser.proofs.OneReading.{OnlyAssociations, associations_begin, any_stop}
+use Rattle.c_parser.proofs.Uniqueness.{association_only}
 use Rattle.c_parser.proofs.Views.{Primary, a_name, a_constant, a_text, a_paren, a_size, a_compound, a_generic, an_offset, Selected, Located, primary_view}
 
 abbrev pub OnlyAssociation : List Kind → ℕ → Association → ℕ → Type 0

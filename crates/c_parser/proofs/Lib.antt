@@ -1,3 +1,5 @@
+mod Abstract
+mod Forth
 mod Fronts
 mod Generics
 mod Initials
@@ -5,13 +7,17 @@ mod Joins
 mod KindLemmas
 mod Marks
 mod Numbers
+mod OneReading
 mod Openings
 mod Parsing
 mod Pushes
 mod Spans
 mod SpecifierLists
 mod Tables
+mod TypeReading
+mod Typed
 mod Types
 mod Uniqueness
 mod Views
 mod Wholes
+mod Words

@@ -22,7 +22,7 @@ spans_split (x ∷ xs) ys a b h =
     let r = spans_split xs ys (a + 1) b h.1 in
     record { at = r.at; front = (h.0, r.front); back = r.back }
 
-spans_forth : (xs : List ℕ) → (a b : ℕ) → Spans xs a b → a ≤ b
+pub spans_forth : (xs : List ℕ) → (a b : ℕ) → Spans xs a b → a ≤ b
 spans_forth [] a b h = omega (arith, h)
 spans_forth (x ∷ xs) a b h = omega (arith, spans_forth xs (a + 1) b h.1)
 

@@ -1,8 +1,7 @@
 -- Unary operators, casts, and what begins with the name of a type: what a call read there is the only thing there.
-use Rattle.std.proofs.Common.{◌≡◌, refl, ap, sym, ◌∙◌, subst, ℕ, zero, suc, ◌+◌, ◌<◌, ◌≤◌, List, [], ◌∷◌, length, arith, true, false, true≢false, Bool, ◌&&◌}
-use Rattle.tree_data.specs.Names.{Naming}
-use Rattle.tree_data.specs.Trees.{Tree, Of_type, Compound_of, Postfix_of, Front, Operator_of, Cast_of, Fronts, None_before, Front_then, fronts, Braces, Behinds, None_behind, Behind_then}
-use Rattle.tree_data.specs.Types.{type_of}
+use Rattle.std.proofs.Common.{◌≡◌, refl, ap, sym, ◌∙◌, subst, ℕ, zero, suc, ◌+◌, ◌<◌, ◌≤◌, List, [], ◌∷◌, length, arith, true, false, true≢false}
+use Rattle.tree_data.specs.Trees.{Naming, Tree, Of_type, Compound_of, Postfix_of, Front, Operator_of, Cast_of, Fronts, None_before, Front_then, fronts, Braces, Behinds, None_behind, Behind_then}
+use Rattle.tree_data.specs.Seen.{type_of}
 use Rattle.c_parser.specs.declared.answers.Stop.{Stop}
 use Rattle.c_parser.specs.declared.answers.Stop.TheVariants as stop
 use Rattle.c_parser.specs.declared.before.Begun.{Begun}
@@ -12,22 +11,15 @@ use Rattle.c_parser.specs.declared.kinds.Kind.TheVariants.{OpenParen, CloseParen
 use Rattle.c_parser.specs.Beginnings.{start_of, IsPlain, IsNamed, IsSized, IsLiteral, Begins, NoOperand}
 use Rattle.c_parser.specs.Grammar.{IsMore, goes_on}
 use Rattle.c_parser.specs.Kinds.{kind_at, level_at, is_prefix, is_size, is_suffix, is_opening, starts_type, ends_type, type_at, size_at, casts_at}
-use Rattle.c_parser.specs.Reading.{HoldsFront, HoldFronts, HoldBehinds, HoldBraces, Reads, Stops, Found, FoundFront, FoundPrefixes, FoundBraces, FoundType, IsWant}
-use Rattle.c_parser.specs.TypeNames.{HoldsType}
+use Rattle.c_parser.specs.Reading.{HoldsType, HoldsFront, HoldFronts, HoldBehinds, HoldBraces, Reads, Stops, Found, FoundFront, FoundPrefixes, FoundBraces, FoundType, IsWant}
 use Rattle.c_parser.proofs.Fronts.{Fore, Without}
 use Rattle.c_parser.proofs.Marks.{opening_is, no_type, level_suffix, suffix_level}
 use Rattle.c_parser.proofs.Parsing.{Fails, found_only, first_fails, typed_here, sized_here}
-use Rattle.c_parser.proofs.Types.{type_only, type_starts}
-use Rattle.c_parser.proofs.Uniqueness.{any_stop}
+use Rattle.c_parser.proofs.OneReading.{any_stop}
+use Rattle.c_parser.proofs.TypeReading.{type_only, typed_at}
+use Rattle.c_parser.proofs.Types.{type_starts}
+use Rattle.c_parser.proofs.Words.{left_of, right_of}
 use Rattle.c_parser.proofs.Views.{Primary, a_name, a_constant, a_text, a_paren, a_size, a_compound, a_generic, an_offset, primary_view, postfix_view, starts, Prefixing, an_operator, a_cast, prefix_view, first_postfix, opened_prefix, SizeAt, CastAt, Goes, size_clashes}
-
-left_of : (p q : Bool) → (p && q) ≡ true → p ≡ true
-left_of true q h = refl
-left_of false q h = absurd (true≢false (sym h))
-
-right_of : (p q : Bool) → (p && q) ≡ true → q ≡ true
-right_of true q h = h
-right_of false q h = absurd (true≢false (sym h))
 
 pub type_opens : (ks : List Kind) → (at : ℕ) → type_at ks at ≡ true → kind_at ks at ≡ OpenParen
 unfolding type_at
@@ -171,7 +163,7 @@ cast_found ks at y c z n u =
     let two : c < length ks = n.inside in
     record {
       reads = (refl, refl, n.opens, z, n.reads, n.closes, refl, u);
-      bare = λ t b r. (first_postfix ks t at b r).no_cast (cast_at ks at y c n u);
+      bare = λ t b r. (first_postfix ks t at b (typed_at ks (at + 1)) r).no_cast (cast_at ks at y c n u);
       forth = omega arith;
       inside = omega arith;
     }
@@ -191,7 +183,7 @@ cast_fails ks at k e fails xs m t b h r = cast_next ks at k e fails xs m t b h r
 not_cast : (ks : List Kind) → (at : ℕ) → (y : Naming) → (c : ℕ) → IsNamed ks at y c → (kind_at ks (c + 1) ≡ OpenBrace → ⊥)
     → casts_at ks at ≡ false → (xs : Fronts) → (m : ℕ) → (t : Tree) → (b : ℕ) → HoldFronts ks 15 xs at m → Reads ks 16 t m b → ⊥
 not_cast ks at y c n u z None_before m t b h r =
-    (first_postfix ks t at b (subst (λ x. Reads ks 16 t x b) h r)).no_cast (cast_at ks at y c n u)
+    (first_postfix ks t at b (typed_at ks (at + 1)) (subst (λ x. Reads ks 16 t x b) h r)).no_cast (cast_at ks at y c n u)
 not_cast ks at y c n u z (Front_then x xs) m t b h r =
     let v = casting ks x at h.0 n.opens (prefix_view ks x at h.0 h.1) in
     true≢false (sym v.casts ∙ z)
@@ -246,7 +238,7 @@ size_operates ks at y c n l k =
     let two : c < length ks = n.inside in
     record {
       reads = (refl, refl, ap is_prefix k, refl);
-      bare = λ t b r. size_not_here ks at y c n l ((first_postfix ks t at b r).no_operator (ap is_prefix k));
+      bare = λ t b r. size_not_here ks at y c n l ((first_postfix ks t at b (typed_at ks (at + 1)) r).no_operator (ap is_prefix k));
       forth = omega arith;
       inside = omega arith;
     }
@@ -291,7 +283,7 @@ operator_found ks at p n =
     record {
       reads = (refl, refl, p, refl);
       bare = λ t b r.
-          let s = (first_postfix ks t at b r).no_operator p in
+          let s = (first_postfix ks t at b (typed_at ks (at + 1)) r).no_operator p in
           true≢false (sym (sized_here ks s.name at s.closing s.sizes s.opens s.holds) ∙ n);
       forth = omega arith;
       inside = omega arith;
@@ -315,7 +307,7 @@ size_first ks at y c n x m g (an_operator e p f) =
       closes = n.named.closes;
       unbraced = n.unbraced;
     } in
-    size_clashes ks at here p (subst (λ k. Goes ks 15 k) f g)
+    size_clashes ks at (typed_at ks (at + 2)) here p (subst (λ k. Goes ks 15 k) f g)
 size_first ks at y c n x m g (a_cast y' c' e o z h l f u) = no_size_cast ks at n.sizes o
 
 literal_not : (ks : List Kind) → (at : ℕ) → (y : Naming) → (c : ℕ) → IsLiteral ks at y c → (x : Front) → (m : ℕ) → HoldsFront ks 15 x at m → ⊥

@@ -1,19 +1,18 @@
 -- What a call of the parser found is the only tree there; where a part has none, the whole has none.
 use Rattle.std.proofs.Common.{◌≡◌, refl, ap, sym, ◌∙◌, subst, ℕ, ◌+◌, ◌<◌, ◌≤◌, List, [], ◌∷◌, ◌++◌, length, arith, true, false, true≢false, append_assoc, append-nil, Bool, ◌&&◌}
-use Rattle.tree_data.specs.Trees.{Tree, Name_of, Constant_of, Text_of, Paren_of, Postfix_of, Binary_of, Behind, Operand_of, Index_of, Call_of, Call_with_of, Member_of, Step_of, Behinds, None_behind, Behind_then, behinds}
+use Rattle.tree_data.specs.Trees.{Naming, Tree, Name_of, Constant_of, Text_of, Paren_of, Postfix_of, Binary_of, Behind, Operand_of, Index_of, Call_of, Call_with_of, Member_of, Step_of, Behinds, None_behind, Behind_then, behinds}
 use Rattle.c_parser.specs.declared.answers.Stop.{Stop}
 use Rattle.c_parser.specs.declared.kinds.Kind.{Kind}
 use Rattle.c_parser.specs.declared.kinds.Kind.TheVariants.{Identifier, Constant, Text, OpenParen, CloseParen, OpenBracket, CloseBracket, Step, Generic, OffsetOf}
 use Rattle.c_parser.specs.Joining.{followed}
 use Rattle.c_parser.specs.Kinds.{kind_at, level_at, is_word, is_size, is_member, is_opening, starts_type, type_at, size_at}
 use Rattle.c_parser.specs.Levels.{IsBinary, behinds_level, rank}
-use Rattle.c_parser.specs.Reading.{HoldTexts, HoldsBehind, HoldBehinds, Reads, Stops, Found, FoundTexts, FoundBehind, FoundBehinds, IsWant}
-use Rattle.tree_data.specs.Names.{Naming}
+use Rattle.c_parser.specs.Reading.{HoldsType, HoldTexts, HoldsBehind, HoldBehinds, Reads, Stops, Found, FoundTexts, FoundBehind, FoundBehinds, IsWant}
 use Rattle.c_parser.specs.Grammar.{goes_on}
-use Rattle.c_parser.specs.TypeNames.{HoldsType}
 use Rattle.c_parser.proofs.Marks.{clash}
 use Rattle.c_parser.proofs.Types.{type_starts}
-use Rattle.c_parser.proofs.Uniqueness.{Only, OnlyBehinds, reads_only, behinds_only, behind_only, any_stop, closed, index_closes}
+use Rattle.c_parser.proofs.OneReading.{Only, OnlyBehinds, any_stop, closed, index_closes}
+use Rattle.c_parser.proofs.Uniqueness.{reads_only, behinds_only, behind_only}
 use Rattle.c_parser.proofs.Views.{lowered, loosely, Following, Primary, a_name, a_constant, a_text, a_paren, a_size, a_compound, a_generic, an_offset, primary_view, index_view, Calling, no_arguments, arguments, call_view, member_view, operand_view, begins}
 
 -- no tree of this level, whose call gave e, but for want of memory

@@ -4,12 +4,11 @@ use Rattle.std.proofs.lemmas.List.{map-append}
 use Rattle.tree_data.specs.declared.expr.Expr.{Expr}
 use Rattle.tree_data.specs.declared.parts.Suffix.{Suffix}
 use Rattle.tree_data.specs.declared.parts.Choice.{Choice}
-use Rattle.tree_data.specs.Seen.{tree_of, behind_of, front_of, piece_of, designator_of, operands_of, suffixes_of, choices_of, lefts_of, prefixes_of, pieces_of, designators_of, association_of, associations_of}
+use Rattle.tree_data.specs.Seen.{tree_of, behind_of, front_of, piece_of, designator_of, operands_of, suffixes_of, choices_of, lefts_of, prefix_of, prefixes_of, pieces_of, designators_of, association_of, associations_of}
 use Rattle.tree_data.specs.declared.inits.Piece.{Piece}
 use Rattle.tree_data.specs.declared.selections.Association.{Association}
 use Rattle.tree_data.specs.declared.inits.Designator.{Designator}
 use Rattle.tree_data.specs.declared.types.Prefix.{Prefix}
-use Rattle.tree_data.specs.Types.{prefix_of}
 use Rattle.tree_data.specs.Trees.{Tree, Operand_of, Choice_of, operand, left, is_unary}
 use Rattle.c_parser.specs.declared.kinds.Kind.{Kind}
 use Rattle.c_parser.specs.declared.kinds.Kind.TheVariants.{Question, Colon, CloseBrace, Comma}

@@ -1,17 +1,16 @@
 -- What a tree is at its level of precedence: first what has the level itself, then the tokens that tell the parts apart.
 use Rattle.std.proofs.Common.{◌≡◌, refl, ap, sym, ◌∙◌, subst, ℕ, ◌+◌, ◌-◌, ◌<◌, ◌≤◌, List, arith, ◌⊎◌, inl, inr, true, false, true≢false, not}
-use Rattle.tree_data.specs.Trees.{Tree, Name_of, Constant_of, Text_of, Paren_of, Postfix_of, Unary_of, Binary_of, Conditional_of, Assign_of, Of_type, Compound_of, Behind, Operand_of, Index_of, Call_of, Call_with_of, Member_of, Step_of, Behinds, None_behind, Behind_then, Front, Operator_of, Cast_of, Choice_of, Left_of, Fronts, None_before, Front_then, Braces, Braces_of, Generic_of, Offset_of, Associations}
+use Rattle.tree_data.specs.Trees.{Naming, Tree, Name_of, Constant_of, Text_of, Paren_of, Postfix_of, Unary_of, Binary_of, Conditional_of, Assign_of, Of_type, Compound_of, Behind, Operand_of, Index_of, Call_of, Call_with_of, Member_of, Step_of, Behinds, None_behind, Behind_then, Front, Operator_of, Cast_of, Choice_of, Left_of, Fronts, None_before, Front_then, Braces, Braces_of, Generic_of, Offset_of, Associations}
 use Rattle.c_parser.specs.declared.kinds.Kind.{Kind}
 use Rattle.c_parser.specs.declared.kinds.Kind.TheVariants.{Identifier, Constant, Text, OpenParen, CloseParen, OpenBracket, CloseBracket, OpenBrace, Step, Question, Colon, Comma, Generic, OffsetOf, SizeOf, AlignOf}
-use Rattle.tree_data.specs.Names.{Naming}
 use Rattle.c_parser.specs.Grammar.{IsMore, IsAny, IsBefore, AreSteps, goes_on}
 use Rattle.c_parser.specs.Joining.{followed, preceded}
 use Rattle.c_parser.specs.Kinds.{kind_at, level_at, is_prefix, is_word, is_size, is_opening, ends_type, casts_at, is_member, is_tight}
-use Rattle.c_parser.specs.TypeNames.{HoldsType}
 use Rattle.c_parser.specs.Levels.{IsBinary, behinds_level, fronts_level, rank}
-use Rattle.c_parser.specs.Reading.{HoldTexts, Holds, HoldsBehind, HoldBehinds, HoldsFront, HoldFronts, HoldBraces, HoldAssociations, Reads, Stops}
+use Rattle.c_parser.specs.Reading.{HoldTexts, Holds, HoldsBehind, HoldBehinds, HoldsFront, HoldFronts, HoldBraces, HoldAssociations, HoldsType, Reads, Stops}
 use Rattle.c_parser.proofs.Marks.{clash, leveled, is_start, prefix_starts, size_starts, no_type, member_not, member_level}
-use Rattle.c_parser.proofs.Types.{type_starts, type_only}
+use Rattle.c_parser.proofs.Typed.{Typed}
+use Rattle.c_parser.proofs.Types.{type_starts}
 use native.Mathlib.Decide.{dec_lt}
 
 pub lowered : (ks : List Kind) → (n m : ℕ) → (t : Tree) → (a b : ℕ) → n ≤ m → Reads ks m t a b → Reads ks n t a b
@@ -338,7 +337,7 @@ mutual
   starts ks (Generic_of k o t gs c) a b h = ap is_start h.2
   starts ks (Offset_of k o t m n bs c) a b h = ap is_start h.1
 
-  front_starts : (ks : List Kind) → (l : ℕ) → (xs : Fronts) → (a m : ℕ) → IsBefore xs → HoldFronts ks l xs a m → is_start (kind_at ks a) ≡ true
+  pub front_starts : (ks : List Kind) → (l : ℕ) → (xs : Fronts) → (a m : ℕ) → IsBefore xs → HoldFronts ks l xs a m → is_start (kind_at ks a) ≡ true
   front_starts ks l None_before a m i h = absurd i
   front_starts ks l (Front_then (Operator_of o) xs) a m i h = prefix_starts (kind_at ks a) h.1.2
   front_starts ks l (Front_then (Cast_of o t c) xs) a m i h = ap is_start h.1.2
@@ -493,24 +492,24 @@ plain ks a p o = record {
 braced_first : {A : Type 0} → (ks : List Kind) → (i : Braces) → (a b : ℕ) → HoldBraces ks i a b → (kind_at ks a ≡ OpenBrace → ⊥) → A
 braced_first ks (Braces_of o p ps t c) a b h n = absurd (n h.3)
 
-pub no_cast_literal : (ks : List Kind) → (y : Naming) → (a c : ℕ) → (i : Braces) → (b : ℕ) → HoldsType ks y (a + 1) c → kind_at ks c ≡ CloseParen
+pub no_cast_literal : (ks : List Kind) → (y : Naming) → (a c : ℕ) → Typed ks (a + 1) → (i : Braces) → (b : ℕ) → HoldsType ks y (a + 1) c → kind_at ks c ≡ CloseParen
     → HoldBraces ks i (c + 1) b → CastAt ks a → ⊥
-no_cast_literal ks y a c i b h l g cast =
-    let same = type_only ks y (a + 1) c h (ap ends_type l) cast.name cast.closing cast.holds (ap ends_type cast.closes) in
+no_cast_literal ks y a c u i b h l g cast =
+    let same = u y c h (ap ends_type l) cast.name cast.closing cast.holds (ap ends_type cast.closes) in
     braced_first ks i (c + 1) b g (subst (λ k. kind_at ks (k + 1) ≡ OpenBrace → ⊥) (sym same.1) cast.unbraced)
 
-first_primary : (ks : List Kind) → (t : Tree) → (a b : ℕ) → Primary ks t a b → Bare ks a
-first_primary ks t a b (a_name e k f) = plain ks a (ap is_prefix k) (ap is_opening k)
-first_primary ks t a b (a_constant e k f) = plain ks a (ap is_prefix k) (ap is_opening k)
-first_primary ks t a b (a_text ns e k f) = plain ks a (ap is_prefix k) (ap is_opening k)
-first_primary ks t a b (a_paren u c e k r l f) = record {
+first_primary : (ks : List Kind) → (t : Tree) → (a b : ℕ) → Typed ks (a + 1) → Primary ks t a b → Bare ks a
+first_primary ks t a b u (a_name e k f) = plain ks a (ap is_prefix k) (ap is_opening k)
+first_primary ks t a b u (a_constant e k f) = plain ks a (ap is_prefix k) (ap is_opening k)
+first_primary ks t a b u (a_text ns e k f) = plain ks a (ap is_prefix k) (ap is_opening k)
+first_primary ks t a b w (a_paren u c e k r l f) = record {
   no_operator = λ h. absurd (true≢false (sym h ∙ ap is_prefix k));
   no_cast = λ x.
       true≢false
       (sym (type_starts ks x.name (a + 1) x.closing x.holds)
       ∙ no_type (kind_at ks (a + 1)) (starts ks u (a + 1) c r.1));
 }
-first_primary ks t a b (a_size y c e k o h l f n) = record {
+first_primary ks t a b u (a_size y c e k o h l f n) = record {
   no_operator = λ x.
       record {
         name = y;
@@ -523,17 +522,17 @@ first_primary ks t a b (a_size y c e k o h l f n) = record {
       };
   no_cast = λ x. true≢false (sym (ap is_opening x.opens) ∙ size_opens_not (kind_at ks a) k);
 }
-first_primary ks t a b (a_compound y c i e k h l g) = record {
+first_primary ks t a b u (a_compound y c i e k h l g) = record {
   no_operator = λ x. absurd (true≢false (sym x ∙ ap is_prefix k));
-  no_cast = no_cast_literal ks y a c i b h l g;
+  no_cast = no_cast_literal ks y a c u i b h l g;
 }
-first_primary ks t a b (a_generic k v) = plain ks a (ap is_prefix k) (ap is_opening k)
-first_primary ks t a b (an_offset k v) = plain ks a (ap is_prefix k) (ap is_opening k)
+first_primary ks t a b u (a_generic k v) = plain ks a (ap is_prefix k) (ap is_opening k)
+first_primary ks t a b u (an_offset k v) = plain ks a (ap is_prefix k) (ap is_opening k)
 
-pub first_postfix : (ks : List Kind) → (t : Tree) → (a b : ℕ) → Reads ks 16 t a b → Bare ks a
-first_postfix ks t a b h =
+pub first_postfix : (ks : List Kind) → (t : Tree) → (a b : ℕ) → Typed ks (a + 1) → Reads ks 16 t a b → Bare ks a
+first_postfix ks t a b u h =
     let v = postfix_view ks t a b h in
-    first_primary ks v.first a v.behind (primary_view ks v.first a v.behind v.reads)
+    first_primary ks v.first a v.behind u (primary_view ks v.first a v.behind v.reads)
 
 pub cast_here : (ks : List Kind) → (y : Naming) → (a c m : ℕ) → kind_at ks a ≡ OpenParen → HoldsType ks y (a + 1) c → kind_at ks c ≡ CloseParen
     → m ≡ c + 1 → (kind_at ks m ≡ OpenBrace → ⊥) → CastAt ks a
@@ -595,11 +594,11 @@ begins_cast ks (Compound_of o y c i) a b e h = absurd (omega (arith, e))
 begins_cast ks (Generic_of k o u gs c) a b e h = absurd (omega (arith, e))
 begins_cast ks (Offset_of k o y m n bs c) a b e h = absurd (omega (arith, e))
 
-pub first_unary : (ks : List Kind) → (t : Tree) → (a b : ℕ) → Reads ks 15 t a b → CastAt ks a → ⊥
-first_unary ks t a b h =
+pub first_unary : (ks : List Kind) → (t : Tree) → (a b : ℕ) → Typed ks (a + 1) → Reads ks 15 t a b → CastAt ks a → ⊥
+first_unary ks t a b u h =
     elim (parted ks 15 t a b h) [
       | inl e ↦ begins_unary ks t a b e h.1
-      | inr r ↦ (first_postfix ks t a b r).no_cast
+      | inr r ↦ (first_postfix ks t a b u r).no_cast
     ]
 
 not_binary : {A : Type 0} → IsBinary 16 → A
@@ -788,24 +787,24 @@ casts_not ks a t =
     ap (λ x. not (is_tight (kind_at ks x))) same ∙ ap not t
 
 -- behind `sizeof` in front of a type name in parentheses, without a `{`, no operand stands
-sized_primary : {A : Type 0} → (ks : List Kind) → (a : ℕ) → SizeAt ks a → (f : Tree) → (m : ℕ) → Primary ks f (a + 1) m → A
-sized_primary ks a s f m (a_name e k g) = absurd (true≢false (sym (ap is_opening s.opens) ∙ ap is_opening k))
-sized_primary ks a s f m (a_constant e k g) = absurd (true≢false (sym (ap is_opening s.opens) ∙ ap is_opening k))
-sized_primary ks a s f m (a_text ns e k g) = absurd (true≢false (sym (ap is_opening s.opens) ∙ ap is_opening k))
-sized_primary ks a s f m (a_generic k v) = absurd (true≢false (sym (ap is_opening s.opens) ∙ ap is_opening k))
-sized_primary ks a s f m (an_offset k v) = absurd (true≢false (sym (ap is_opening s.opens) ∙ ap is_opening k))
-sized_primary ks a s f m (a_size y c e k o h l g n) = absurd (true≢false (sym k ∙ ap is_size s.opens))
-sized_primary ks a s f m (a_paren u c e k r l g) =
+sized_primary : {A : Type 0} → (ks : List Kind) → (a : ℕ) → Typed ks (a + 2) → SizeAt ks a → (f : Tree) → (m : ℕ) → Primary ks f (a + 1) m → A
+sized_primary ks a w s f m (a_name e k g) = absurd (true≢false (sym (ap is_opening s.opens) ∙ ap is_opening k))
+sized_primary ks a w s f m (a_constant e k g) = absurd (true≢false (sym (ap is_opening s.opens) ∙ ap is_opening k))
+sized_primary ks a w s f m (a_text ns e k g) = absurd (true≢false (sym (ap is_opening s.opens) ∙ ap is_opening k))
+sized_primary ks a w s f m (a_generic k v) = absurd (true≢false (sym (ap is_opening s.opens) ∙ ap is_opening k))
+sized_primary ks a w s f m (an_offset k v) = absurd (true≢false (sym (ap is_opening s.opens) ∙ ap is_opening k))
+sized_primary ks a w s f m (a_size y c e k o h l g n) = absurd (true≢false (sym k ∙ ap is_size s.opens))
+sized_primary ks a w s f m (a_paren u c e k r l g) =
     let two : (a + 1) + 1 ≡ a + 2 = omega arith in
     let here : HoldsType ks s.name ((a + 1) + 1) s.closing = subst (λ x. HoldsType ks s.name x s.closing) (sym two) s.holds in
     absurd
     (true≢false
     (sym (type_starts ks s.name ((a + 1) + 1) s.closing here)
     ∙ no_type (kind_at ks ((a + 1) + 1)) (starts ks u ((a + 1) + 1) c r.1)))
-sized_primary ks a s f m (a_compound y c i e k h l g) =
+sized_primary ks a w s f m (a_compound y c i e k h l g) =
     let two : (a + 1) + 1 ≡ a + 2 = omega arith in
     let same =
-    type_only ks y (a + 2) c (subst (λ x. HoldsType ks y x c) two h) (ap ends_type l) s.name s.closing s.holds (ap ends_type s.closes) in
+    w y c (subst (λ x. HoldsType ks y x c) two h) (ap ends_type l) s.name s.closing s.holds (ap ends_type s.closes) in
     braced_first ks i (c + 1) m g (subst (λ x. kind_at ks (x + 1) ≡ OpenBrace → ⊥) (sym same.1) s.unbraced)
 
 sized_front : {A : Type 0} → (ks : List Kind) → (a : ℕ) → SizeAt ks a → is_prefix (kind_at ks a) ≡ true → (x : Front) → (m : ℕ)
@@ -814,12 +813,12 @@ sized_front ks a s p x m (an_operator e k f) = opened_prefix ks (a + 1) k s.open
 sized_front ks a s p x m (a_cast y c e k z h l f u) =
     absurd (true≢false (sym z ∙ casts_not ks a (tight (kind_at ks a) s.sizes p)))
 
-sized_goes : {A : Type 0} → (ks : List Kind) → (a : ℕ) → SizeAt ks a → is_prefix (kind_at ks a) ≡ true → (xs : Fronts) → (m : ℕ) → (t : Tree)
+sized_goes : {A : Type 0} → (ks : List Kind) → (a : ℕ) → Typed ks (a + 2) → SizeAt ks a → is_prefix (kind_at ks a) ≡ true → (xs : Fronts) → (m : ℕ) → (t : Tree)
     → (b : ℕ) → HoldFronts ks 15 xs (a + 1) m → Reads ks 16 t m b → A
-sized_goes ks a s p None_before m t b h r =
+sized_goes ks a w s p None_before m t b h r =
     let v = postfix_view ks t (a + 1) b (subst (λ x. Reads ks 16 t x b) h r) in
-    sized_primary ks a s v.first v.behind (primary_view ks v.first (a + 1) v.behind v.reads)
-sized_goes ks a s p (Front_then x xs) m t b h r = sized_front ks a s p x h.0 (prefix_view ks x (a + 1) h.0 h.1)
+    sized_primary ks a w s v.first v.behind (primary_view ks v.first (a + 1) v.behind v.reads)
+sized_goes ks a w s p (Front_then x xs) m t b h r = sized_front ks a s p x h.0 (prefix_view ks x (a + 1) h.0 h.1)
 
-pub size_clashes : {A : Type 0} → (ks : List Kind) → (a : ℕ) → SizeAt ks a → is_prefix (kind_at ks a) ≡ true → Goes ks 15 (a + 1) → A
-size_clashes ks a s p g = sized_goes ks a s p g.more g.behind g.last g.end g.goes g.reads
+pub size_clashes : {A : Type 0} → (ks : List Kind) → (a : ℕ) → Typed ks (a + 2) → SizeAt ks a → is_prefix (kind_at ks a) ≡ true → Goes ks 15 (a + 1) → A
+size_clashes ks a w s p g = sized_goes ks a w s p g.more g.behind g.last g.end g.goes g.reads

@@ -1,24 +1,22 @@
 -- From a reading of the front to one of all tokens.
 use Rattle.std.proofs.Common.{◌≡◌, refl, ap, sym, subst, ℕ, ◌+◌, ◌<◌, List, length, arith, true, None}
-use Rattle.tree_data.specs.Trees.{Tree}
+use Rattle.tree_data.specs.Trees.{Tree, Naming}
 use Rattle.c_parser.specs.declared.answers.ParseError.{ParseError}
 use Rattle.c_parser.specs.declared.answers.ParseError.TheVariants as told
 use Rattle.c_parser.specs.declared.answers.Stop.{Stop}
 use Rattle.c_parser.specs.declared.answers.Stop.TheVariants.{Syntax, NoMemory}
 use Rattle.c_parser.specs.declared.kinds.Kind.{Kind}
-use Rattle.c_parser.specs.Reading.{Reads, Found, FoundType, IsWant, at_front, IsAtFront, IsRefused, IsDeep}
+use Rattle.c_parser.specs.Reading.{Reads, Found, FoundType, HoldsType, IsWant, at_front, IsAtFront, IsRefused, IsDeep}
 use Rattle.c_parser.specs.Brackets.{too_deep}
 use Rattle.c_parser.specs.Grammar.{IsMeaning, IsCause}
 use Rattle.c_parser.proofs.Parsing.{Fails, found_only}
-use Rattle.c_parser.proofs.Spans.{expression_reads, reads_expression}
+use Rattle.c_parser.proofs.Spans.{expression_reads, reads_expression, formed_type, spanned_type, held_type}
 use Rattle.c_parser.proofs.Uniqueness.{past_end, stops_at_end, reads_only}
-use Rattle.tree_data.specs.Names.{Naming}
-use Rattle.c_parser.specs.Grammar.{numbers}
+use Rattle.c_parser.specs.Grammar.{numbers, spell_type}
 use Rattle.c_parser.specs.Kinds.{kind_at, ends_type}
 use Rattle.c_parser.specs.TypeMeaning.{IsTypeName, IsTypeMeaning, IsTypeCause}
-use Rattle.c_parser.specs.TypeNames.{spell_type, HoldsType}
 use Rattle.c_parser.proofs.Numbers.{Spans, numbers_span, span_numbers}
-use Rattle.c_parser.proofs.Types.{type_formed, type_spanned, type_held, type_only}
+use Rattle.c_parser.proofs.TypeReading.{type_only}
 
 pub front_is : (e : Stop) → IsAtFront (at_front e)
 front_is (Syntax at) = refl
@@ -88,7 +86,7 @@ type_to_end ks t b found not =
 type_reads : (ks : List Kind) → (t : Naming) → IsTypeName ks t → HoldsType ks t 0 (length ks)
 type_reads ks t e =
     let all : 0 + length ks ≡ length ks = omega arith in
-    type_held
+    held_type
     ks
     t
     0
@@ -103,8 +101,8 @@ reads_type : (ks : List Kind) → (t : Naming) → HoldsType ks t 0 (length ks) 
 reads_type ks t h =
     let all : length ks ≡ 0 + length ks = omega arith in
     record {
-      proper = type_formed ks t 0 (length ks) h;
-      spells = span_numbers (spell_type t) 0 (length ks) (length ks) (type_spanned ks t 0 (length ks) h) all;
+      proper = formed_type ks t 0 (length ks) h;
+      spells = span_numbers (spell_type t) 0 (length ks) (length ks) (spanned_type ks t 0 (length ks) h) all;
     }
 
 only_to_end : (ks : List Kind) → (t u : Naming) → HoldsType ks t 0 (length ks) → IsTypeName ks u → t ≡ u

@@ -1,8 +1,7 @@
 -- What was read in front of an operand, where that shows the operand's front too (ISO C11 6.5.2.5, 6.5.3, 6.5.4).
 use Rattle.std.specs.Prelude.{◌≡◌, ℕ, ◌+◌, ◌<◌, ◌≤◌, List, length, true, false}
-use Rattle.tree_data.specs.Names.{Naming}
-use Rattle.tree_data.specs.Trees.{Tree, Operator_of, Fronts}
-use Rattle.tree_data.specs.Types.{type_of, prefix_of}
+use Rattle.tree_data.specs.Trees.{Naming, Tree, Operator_of, Fronts}
+use Rattle.tree_data.specs.Seen.{type_of, prefix_of}
 use Rattle.c_parser.specs.declared.answers.Stop.{Stop}
 use Rattle.c_parser.specs.declared.before.Begun.{Begun}
 use Rattle.c_parser.specs.declared.before.Begun.TheVariants.{Plain, Size, Literal}
@@ -11,8 +10,7 @@ use Rattle.c_parser.specs.declared.before.Front.TheVariants as read
 use Rattle.c_parser.specs.declared.kinds.Kind.{Kind}
 use Rattle.c_parser.specs.declared.kinds.Kind.TheVariants.{OpenParen, CloseParen, OpenBrace}
 use Rattle.c_parser.specs.Kinds.{kind_at, is_prefix, is_size, type_at, size_at}
-use Rattle.c_parser.specs.Reading.{HoldFronts, Reads, FoundFront, IsWant}
-use Rattle.c_parser.specs.TypeNames.{HoldsType}
+use Rattle.c_parser.specs.Reading.{HoldsType, HoldFronts, Reads, FoundFront, IsWant}
 
 -- the place from which the operand stands
 abbrev pub start_of : Begun → ℕ

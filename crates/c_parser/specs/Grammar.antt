@@ -1,14 +1,14 @@
 -- The grammar of expressions (ISO C11 6.5) and of initializers (6.7.9): what a tree spells, and which trees are proper. A
 -- case a production; productions that go on to the left or to the right by themselves are lists, of one part at least.
-use Rattle.std.specs.Prelude.{◌≡◌, Bool, false, ℕ, zero, suc, ◌+◌, ◌≤◌, List, [], ◌∷◌, ◌++◌, length, Option, Some, None, true}
-use Rattle.tree_data.specs.Trees.{Tree, Name_of, Constant_of, Text_of, Paren_of, Postfix_of, Unary_of, Binary_of, Conditional_of, Assign_of, Of_type, Compound_of, Behind, Operand_of, Index_of, Call_of, Call_with_of, Member_of, Step_of, Behinds, None_behind, Behind_then, Front, Operator_of, Cast_of, Choice_of, Left_of, Fronts, None_before, Front_then, Braces, Braces_of, Initial, Value_of, List_of, Piece, Plain_of, Designated_of, Pieces, No_pieces, Piece_then, Designator, Element_of, Field_of, Designators, No_designators, Designator_then, Generic_of, Offset_of, Association, Typed_of, Default_of, Associations, No_associations, Association_then}
+use Rattle.std.specs.Prelude.{◌≡◌, Bool, false, ℕ, zero, suc, ◌+◌, ◌≤◌, ◌||◌, List, [], ◌∷◌, ◌++◌, length, Option, Some, None, true}
+use Rattle.tree_data.specs.Trees.{Tree, Name_of, Constant_of, Text_of, Paren_of, Postfix_of, Unary_of, Binary_of, Conditional_of, Assign_of, Of_type, Compound_of, Behind, Operand_of, Index_of, Call_of, Call_with_of, Member_of, Step_of, Behinds, None_behind, Behind_then, Front, Operator_of, Cast_of, Choice_of, Left_of, Fronts, None_before, Front_then, Braces, Braces_of, Initial, Value_of, List_of, Piece, Plain_of, Designated_of, Pieces, No_pieces, Piece_then, Designator, Element_of, Field_of, Designators, No_designators, Designator_then, Generic_of, Offset_of, Association, Typed_of, Default_of, Associations, No_associations, Association_then, Specifying, Word_of, Typedef_of, Tag_of, Atomic_of, Specifyings, No_specifiers, Specifier_then, Naming, Type_of, Declaring, Declaring_of, Grouping, No_group, Group_of, Deriving, Array_of, Function_of, Derivings, No_derivings, Deriving_then, Bound, Unsized_of, Any_size_of, Sized_of, Static_sized_of, Sized_static_of}
 use Rattle.c_parser.specs.declared.answers.ParseError.{ParseError}
 use Rattle.c_parser.specs.declared.answers.ParseError.TheVariants.{Syntax, TooDeep, NoMemory}
 use Rattle.c_parser.specs.declared.kinds.Kind.{Kind}
-use Rattle.c_parser.specs.declared.kinds.Kind.TheVariants.{Identifier, Constant, Text, OpenParen, CloseParen, OpenBracket, CloseBracket, OpenBrace, CloseBrace, Step, Question, Colon, Comma, Generic, OffsetOf, Default}
+use Rattle.c_parser.specs.declared.kinds.Kind.TheVariants.{Identifier, Constant, Text, OpenParen, CloseParen, OpenBracket, CloseBracket, OpenBrace, CloseBrace, Step, Question, Colon, Comma, Generic, OffsetOf, Default, TypeName, Tag, Star, Atomic, Static}
 use Rattle.c_parser.specs.Brackets.{too_deep}
-use Rattle.c_parser.specs.Kinds.{kind_at, level_at, is_prefix, casts_at, is_size, is_word, is_equals, is_dot, is_member}
-use Rattle.c_parser.specs.TypeNames.{spell_type, IsType}
+use Rattle.c_parser.specs.Kinds.{kind_at, level_at, is_prefix, casts_at, is_size, is_word, is_equals, is_dot, is_member, is_type_word, specifies_at}
+use Rattle.c_parser.specs.Declarators.{spell_pointers, AreQualifiers, AreThere, ArePointers, IsAbstract}
 use Rattle.c_parser.specs.Levels.{expression, assignment_expression, conditional_expression, logical_OR_expression, unary_expression, postfix_expression, primary_expression, IsBinary, behinds_level, rank}
 
 -- of a comma that may be left out
@@ -86,6 +86,41 @@ abbrev mutual
   spell_associations No_associations = []
   spell_associations (Association_then o x xs) = o ∷ (spell_association x ++ spell_associations xs)
 
+  pub spell_specifying : Specifying → List ℕ
+  spell_specifying (Word_of n) = n ∷ []
+  spell_specifying (Typedef_of n) = n ∷ []
+  spell_specifying (Tag_of k n) = k ∷ n ∷ []
+  spell_specifying (Atomic_of k o t c) = k ∷ o ∷ (spell_type t ++ c ∷ [])
+
+  pub spell_specifyings : Specifyings → List ℕ
+  spell_specifyings No_specifiers = []
+  spell_specifyings (Specifier_then s ss) = spell_specifying s ++ spell_specifyings ss
+
+  pub spell_type : Naming → List ℕ
+  spell_type (Type_of ss d) = spell_specifyings ss ++ spell_declaring d
+
+  pub spell_declaring : Declaring → List ℕ
+  spell_declaring (Declaring_of ps g ds) = spell_pointers ps ++ (spell_grouping g ++ spell_derivings ds)
+
+  pub spell_grouping : Grouping → List ℕ
+  spell_grouping No_group = []
+  spell_grouping (Group_of o d c) = o ∷ (spell_declaring d ++ c ∷ [])
+
+  pub spell_deriving : Deriving → List ℕ
+  spell_deriving (Array_of o b c) = o ∷ (spell_bound b ++ c ∷ [])
+  spell_deriving (Function_of o c) = o ∷ c ∷ []
+
+  pub spell_derivings : Derivings → List ℕ
+  spell_derivings No_derivings = []
+  spell_derivings (Deriving_then d ds) = spell_deriving d ++ spell_derivings ds
+
+  pub spell_bound : Bound → List ℕ
+  spell_bound (Unsized_of ns) = ns
+  spell_bound (Any_size_of n) = n ∷ []
+  spell_bound (Sized_of ns t) = ns ++ spell t
+  spell_bound (Static_sized_of n ns t) = n ∷ (ns ++ spell t)
+  spell_bound (Sized_static_of ns n t) = ns ++ (n ∷ spell t)
+
 abbrev pub IsMore : Behinds → Type 0
 IsMore None_behind = ⊥
 IsMore (Behind_then b bs) = Unit {0}
@@ -128,6 +163,17 @@ goes_on _ = true
 abbrev pub IsComma : List Kind → Option ℕ → Type 0
 IsComma kinds None = Unit {0}
 IsComma kinds (Some o) = kind_at kinds o ≡ Comma
+
+-- a type specifier is among these
+abbrev pub has_type : List Kind → Specifying → Bool
+has_type kinds (Word_of n) = is_type_word (kind_at kinds n)
+has_type kinds (Typedef_of n) = true
+has_type kinds (Tag_of k n) = true
+has_type kinds (Atomic_of k o t c) = true
+
+abbrev pub AreSome : Specifyings → Type 0
+AreSome No_specifiers = ⊥
+AreSome (Specifier_then s ss) = Unit {0}
 
 -- each part of the tree is what the tree's production has there; `l ≤ rank kinds t` says that t is of the nonterminal l
 abbrev mutual
@@ -327,6 +373,63 @@ abbrev mutual
   AreAssociated kinds No_associations = Unit {0}
   AreAssociated kinds (Association_then o x xs) =
       (kind_at kinds o ≡ Comma) × IsAssociated kinds x × AreAssociated kinds xs
+
+  -- 6.7.2.1 type-specifier | type-qualifier; an identifier is a typedef name where no type specifier stands before it
+  pub IsSpecifying : List Kind → Bool → Specifying → Type 0
+  IsSpecifying kinds typed (Word_of n) = specifies_at kinds n ≡ true
+  IsSpecifying kinds typed (Typedef_of n) = (typed ≡ false) × (kind_at kinds n ≡ TypeName)
+  IsSpecifying kinds typed (Tag_of k n) = (kind_at kinds k ≡ Tag) × (is_word (kind_at kinds n) ≡ true)
+  -- 6.7.2.4 atomic-type-specifier : _Atomic ( type-name )
+  IsSpecifying kinds typed (Atomic_of k o t c) =
+      (kind_at kinds k ≡ Atomic) × (kind_at kinds o ≡ OpenParen) × IsType kinds t × (kind_at kinds c ≡ CloseParen)
+
+  pub AreSpecifying : List Kind → Bool → Specifyings → Type 0
+  AreSpecifying kinds typed No_specifiers = Unit {0}
+  AreSpecifying kinds typed (Specifier_then s ss) =
+      IsSpecifying kinds typed s × AreSpecifying kinds (has_type kinds s || typed) ss
+
+  -- 6.7.7 type-name : specifier-qualifier-list abstract-declarator opt
+  pub IsType : List Kind → Naming → Type 0
+  IsType kinds (Type_of ss d) = AreSome ss × AreSpecifying kinds false ss × IsDeclaring kinds d
+
+  -- 6.7.7 abstract-declarator : pointer | pointer opt direct-abstract-declarator, each part left out or there
+  pub IsDeclaring : List Kind → Declaring → Type 0
+  IsDeclaring kinds (Declaring_of ps g ds) = ArePointers kinds ps × IsGrouping kinds g × AreDerived kinds ds
+
+  -- 6.7.7 direct-abstract-declarator : ( abstract-declarator ), in which something stands
+  pub IsGrouping : List Kind → Grouping → Type 0
+  IsGrouping kinds No_group = Unit {0}
+  IsGrouping kinds (Group_of o d c) =
+      (kind_at kinds o ≡ OpenParen) × IsAbstract d × IsDeclaring kinds d × (kind_at kinds c ≡ CloseParen)
+
+  pub IsDerived : List Kind → Deriving → Type 0
+  -- 6.7.7 direct-abstract-declarator opt [ .. ]
+  IsDerived kinds (Array_of o b c) =
+      (kind_at kinds o ≡ OpenBracket) × IsBound kinds b × (kind_at kinds c ≡ CloseBracket)
+  -- direct-abstract-declarator opt ( parameter-type-list opt ), so far without parameters
+  IsDerived kinds (Function_of o c) = (kind_at kinds o ≡ OpenParen) × (kind_at kinds c ≡ CloseParen)
+
+  pub AreDerived : List Kind → Derivings → Type 0
+  AreDerived kinds No_derivings = Unit {0}
+  AreDerived kinds (Deriving_then d ds) = IsDerived kinds d × AreDerived kinds ds
+
+  pub IsBound : List Kind → Bound → Type 0
+  -- 6.7.7 [ type-qualifier-list opt assignment-expression opt ]
+  IsBound kinds (Unsized_of ns) = AreQualifiers kinds ns
+  IsBound kinds (Sized_of ns t) = AreQualifiers kinds ns × (assignment_expression ≤ rank kinds t) × IsFormed kinds t
+  -- [ static type-qualifier-list opt assignment-expression ]
+  IsBound kinds (Static_sized_of n ns t) =
+      (kind_at kinds n ≡ Static)
+      × AreQualifiers kinds ns
+      × (assignment_expression ≤ rank kinds t) × IsFormed kinds t
+  -- [ type-qualifier-list static assignment-expression ]
+  IsBound kinds (Sized_static_of ns n t) =
+      AreThere ns
+      × AreQualifiers kinds ns
+      × (kind_at kinds n ≡ Static)
+      × (assignment_expression ≤ rank kinds t) × IsFormed kinds t
+  -- [ * ]
+  IsBound kinds (Any_size_of n) = kind_at kinds n ≡ Star
 
 -- the tree is of the nonterminal n
 abbrev pub Proper : List Kind → ℕ → Tree → Type 0

@@ -1,7 +1,7 @@
 -- The kinds of tokens by their numbers, and what those of operators begin or go on with (ISO C11 6.5).
-use Rattle.std.specs.Prelude.{ℕ, ◌+◌, ◌-◌, ◌<◌, ◌&&◌, not, List, length, slice_index_or, Bool, true, false}
+use Rattle.std.specs.Prelude.{ℕ, ◌+◌, ◌-◌, ◌<◌, ◌&&◌, ◌||◌, not, List, length, slice_index_or, Bool, true, false}
 use Rattle.c_parser.specs.declared.kinds.Kind.{Kind}
-use Rattle.c_parser.specs.declared.kinds.Kind.TheVariants.{Equals, Dot, Identifier, TypeName, OpenParen, CloseParen, OpenBracket, Member, Step, SizeOf, AlignOf, TypeWord, Qualifier, Tag, Complement, Question, Assignment, Comma, Or, And, Bar, Caret, Ampersand, Equality, Relation, Shift, Sign, Star, Quotient, Colon, End}
+use Rattle.c_parser.specs.declared.kinds.Kind.TheVariants.{Equals, Dot, Identifier, TypeName, OpenParen, CloseParen, OpenBracket, CloseBracket, Member, Step, SizeOf, AlignOf, TypeWord, Qualifier, Tag, Complement, Question, Assignment, Comma, Or, And, Bar, Caret, Ampersand, Equality, Relation, Shift, Sign, Star, Quotient, Colon, Atomic, Static, End}
 
 -- the level of precedence at which an expression goes on with such a token behind it, 0 where it doesn't: 1 for `,`,
 -- 2 for assignment, 3 for `?`, from `||` at 4 to `*` at 13, 16 for postfix operators
@@ -92,6 +92,14 @@ is_specifying TypeWord = true
 is_specifying Qualifier = true
 is_specifying _ = false
 
+abbrev pub is_qualifier : Kind → Bool
+is_qualifier Qualifier = true
+is_qualifier _ = false
+
+abbrev pub is_static : Kind → Bool
+is_static Static = true
+is_static _ = false
+
 abbrev pub is_type_word : Kind → Bool
 is_type_word TypeWord = true
 is_type_word _ = false
@@ -102,6 +110,7 @@ starts_type TypeWord = true
 starts_type Qualifier = true
 starts_type Tag = true
 starts_type TypeName = true
+starts_type Atomic = true
 starts_type _ = false
 
 -- in front of such a token the name of a type may end: `)`, `:`, `,`, and behind all tokens
@@ -111,6 +120,27 @@ ends_type Colon = true
 ends_type Comma = true
 ends_type End = true
 ends_type _ = false
+
+-- in front of such a token pointers may end: what an array or a function or a group begins with, or the name of a type ends
+abbrev pub ends_pointers : Kind → Bool
+ends_pointers OpenParen = true
+ends_pointers OpenBracket = true
+ends_pointers CloseParen = true
+ends_pointers Colon = true
+ends_pointers Comma = true
+ends_pointers End = true
+ends_pointers _ = false
+
+-- in front of such a token specifiers may end
+abbrev pub ends_specifiers : Kind → Bool
+ends_specifiers Star = true
+ends_specifiers OpenParen = true
+ends_specifiers OpenBracket = true
+ends_specifiers CloseParen = true
+ends_specifiers Colon = true
+ends_specifiers Comma = true
+ends_specifiers End = true
+ends_specifiers _ = false
 
 -- of the token with this number, `End` behind the last
 abbrev pub kind_at : List Kind → ℕ → Kind
@@ -134,6 +164,43 @@ size_at kinds at = is_size (kind_at kinds at) && type_at kinds (at + 1)
 -- no operator stands in front of this token that takes a unary-expression
 unfoldable pub casts_at : List Kind → ℕ → Bool
 casts_at kinds at = not (is_tight (kind_at kinds (at - 1)))
+
+-- `_Atomic` stands for itself where no `(` stands behind it (6.7.3p4); in front of one it begins a type specifier (6.7.2.4)
+abbrev pub is_atomic : Kind → Bool
+is_atomic Atomic = true
+is_atomic _ = false
+
+unfoldable pub atomic_at : List Kind → ℕ → Bool
+atomic_at kinds at = is_atomic (kind_at kinds at) && not (is_opening (kind_at kinds (at + 1)))
+
+-- a keyword that stands for itself in a list of specifiers, and one among them that is a qualifier
+unfoldable pub specifies_at : List Kind → ℕ → Bool
+specifies_at kinds at = is_specifying (kind_at kinds at) || atomic_at kinds at
+
+unfoldable pub qualifies_at : List Kind → ℕ → Bool
+qualifies_at kinds at = is_qualifier (kind_at kinds at) || atomic_at kinds at
+
+-- `_Atomic ( type-name )` begins here
+unfoldable pub atomic_opens : List Kind → ℕ → Bool
+atomic_opens kinds at = is_atomic (kind_at kinds at) && is_opening (kind_at kinds (at + 1))
+
+-- what an array or a function begins with in a declarator (6.7.6)
+abbrev pub is_deriving : Kind → Bool
+is_deriving OpenBracket = true
+is_deriving OpenParen = true
+is_deriving _ = false
+
+abbrev pub is_star : Kind → Bool
+is_star Star = true
+is_star _ = false
+
+abbrev pub is_closing_bracket : Kind → Bool
+is_closing_bracket CloseBracket = true
+is_closing_bracket _ = false
+
+-- `*` in place of an array's size: behind one that is an operator an operand stands
+unfoldable pub any_size_at : List Kind → ℕ → Bool
+any_size_at kinds at = is_star (kind_at kinds at) && is_closing_bracket (kind_at kinds (at + 1))
 
 -- a kind but `End` is that of a token
 abbrev pub IsInside : List Kind → ℕ → Kind → Type 0

@@ -1,5 +1,6 @@
 pub mod Beginnings
 pub mod Brackets
+pub mod Declarators
 pub mod Grammar
 pub mod Joining
 pub mod Kinds

@@ -1,17 +1,16 @@
 -- A proper tree by the place at which its tokens begin and the place behind them, which is what the parser reads.
-use Rattle.std.specs.Prelude.{◌≡◌, ℕ, ◌+◌, ◌<◌, ◌≤◌, List, [], ◌∷◌, length, Option, None, Result, Ok, Err, Some, true}
-use Rattle.tree_data.specs.Trees.{Tree, Name_of, Constant_of, Text_of, Paren_of, Postfix_of, Unary_of, Binary_of, Conditional_of, Assign_of, Of_type, Compound_of, Behind, Operand_of, Index_of, Call_of, Call_with_of, Member_of, Step_of, Behinds, None_behind, Behind_then, Front, Operator_of, Cast_of, Choice_of, Left_of, Fronts, None_before, Front_then, Braces, Braces_of, Initial, Value_of, List_of, Piece, Plain_of, Designated_of, Pieces, No_pieces, Piece_then, Designator, Element_of, Field_of, Designators, No_designators, Designator_then, Generic_of, Offset_of, Association, Typed_of, Default_of, Associations, No_associations, Association_then}
+use Rattle.std.specs.Prelude.{◌≡◌, ℕ, ◌+◌, ◌<◌, ◌≤◌, ◌||◌, Bool, List, [], ◌∷◌, length, Option, None, Result, Ok, Err, Some, true, false}
+use Rattle.tree_data.specs.Trees.{Tree, Name_of, Constant_of, Text_of, Paren_of, Postfix_of, Unary_of, Binary_of, Conditional_of, Assign_of, Of_type, Compound_of, Behind, Operand_of, Index_of, Call_of, Call_with_of, Member_of, Step_of, Behinds, None_behind, Behind_then, Front, Operator_of, Cast_of, Choice_of, Left_of, Fronts, None_before, Front_then, Braces, Braces_of, Initial, Value_of, List_of, Piece, Plain_of, Designated_of, Pieces, No_pieces, Piece_then, Designator, Element_of, Field_of, Designators, No_designators, Designator_then, Generic_of, Offset_of, Association, Typed_of, Default_of, Associations, No_associations, Association_then, Specifying, Word_of, Typedef_of, Tag_of, Atomic_of, Specifyings, No_specifiers, Specifier_then, Naming, Type_of, Declaring, Declaring_of, Grouping, No_group, Group_of, Deriving, Array_of, Function_of, Derivings, No_derivings, Deriving_then, Bound, Unsized_of, Any_size_of, Sized_of, Static_sized_of, Sized_static_of}
 use Rattle.c_parser.specs.declared.answers.ParseError.{ParseError}
 use Rattle.c_parser.specs.declared.answers.ParseError.TheVariants as told
 use Rattle.c_parser.specs.declared.answers.Stop.{Stop}
 use Rattle.c_parser.specs.declared.answers.Stop.TheVariants.{Syntax, NoMemory}
 use Rattle.c_parser.specs.declared.kinds.Kind.{Kind}
-use Rattle.c_parser.specs.declared.kinds.Kind.TheVariants.{Identifier, Constant, Text, OpenParen, CloseParen, OpenBracket, CloseBracket, OpenBrace, CloseBrace, Step, Question, Colon, Comma, Generic, OffsetOf, Default}
+use Rattle.c_parser.specs.declared.kinds.Kind.TheVariants.{Identifier, Constant, Text, OpenParen, CloseParen, OpenBracket, CloseBracket, OpenBrace, CloseBrace, Step, Question, Colon, Comma, Generic, OffsetOf, Default, TypeName, Tag, Star, Atomic, Static}
 use Rattle.c_parser.specs.Brackets.{too_deep}
-use Rattle.c_parser.specs.Grammar.{IsMore, IsAny, IsBefore, AreSteps, goes_on}
-use Rattle.c_parser.specs.Kinds.{kind_at, level_at, is_prefix, casts_at, is_size, is_word, is_equals, is_dot, is_member}
-use Rattle.c_parser.specs.TypeNames.{HoldsType}
-use Rattle.tree_data.specs.Names.{Naming}
+use Rattle.c_parser.specs.Grammar.{IsMore, IsAny, IsBefore, AreSteps, goes_on, has_type, AreSome}
+use Rattle.c_parser.specs.Kinds.{kind_at, level_at, is_prefix, casts_at, is_size, is_word, is_equals, is_dot, is_member, specifies_at, qualifies_at}
+use Rattle.c_parser.specs.Declarators.{AreThere, IsAbstract}
 use Rattle.c_parser.specs.Levels.{IsBinary, behinds_level, rank}
 
 abbrev pub HoldTexts : List Kind → List ℕ → ℕ → ℕ → Type 0
@@ -22,6 +21,15 @@ HoldTexts ks (n ∷ ns) a b = (n ≡ a) × (kind_at ks a ≡ Text) × HoldTexts 
 abbrev pub HoldsComma : List Kind → Option ℕ → ℕ → ℕ → Type 0
 HoldsComma ks None a b = b ≡ a
 HoldsComma ks (Some o) a b = (o ≡ a) × (kind_at ks a ≡ Comma) × (b ≡ a + 1)
+
+abbrev pub HoldQualifiers : List Kind → List ℕ → ℕ → ℕ → Type 0
+HoldQualifiers ks [] a b = b ≡ a
+HoldQualifiers ks (n ∷ ns) a b = (n ≡ a) × (qualifies_at ks a ≡ true) × HoldQualifiers ks ns (a + 1) b
+
+abbrev pub HoldPointers : List Kind → List (ℕ × List ℕ) → ℕ → ℕ → Type 0
+HoldPointers ks [] a b = b ≡ a
+HoldPointers ks (p ∷ ps) a b =
+    (m : ℕ) × (p.0 ≡ a) × (kind_at ks a ≡ Star) × HoldQualifiers ks p.1 (a + 1) m × HoldPointers ks ps m b
 
 abbrev mutual
   pub Holds : List Kind → Tree → ℕ → ℕ → Type 0
@@ -155,6 +163,53 @@ abbrev mutual
   HoldAssociations ks No_associations a b = b ≡ a
   HoldAssociations ks (Association_then o x xs) a b =
       (m : ℕ) × (o ≡ a) × (kind_at ks a ≡ Comma) × HoldsAssociation ks x (a + 1) m × HoldAssociations ks xs m b
+
+  pub HoldSpecifying : List Kind → Bool → Specifying → ℕ → ℕ → Type 0
+  HoldSpecifying ks typed (Word_of n) a b = (n ≡ a) × (specifies_at ks a ≡ true) × (b ≡ a + 1)
+  HoldSpecifying ks typed (Typedef_of n) a b = (n ≡ a) × (typed ≡ false) × (kind_at ks a ≡ TypeName) × (b ≡ a + 1)
+  HoldSpecifying ks typed (Tag_of k n) a b =
+      (k ≡ a) × (kind_at ks a ≡ Tag) × (n ≡ a + 1) × (is_word (kind_at ks n) ≡ true) × (b ≡ n + 1)
+  HoldSpecifying ks typed (Atomic_of k o t c) a b =
+      (k ≡ a) × (kind_at ks a ≡ Atomic) × (o ≡ a + 1) × (kind_at ks o ≡ OpenParen)
+      × HoldsType ks t (o + 1) c × (kind_at ks c ≡ CloseParen) × (b ≡ c + 1)
+
+  pub HoldSpecifyings : List Kind → Bool → Specifyings → ℕ → ℕ → Type 0
+  HoldSpecifyings ks typed No_specifiers a b = b ≡ a
+  HoldSpecifyings ks typed (Specifier_then s ss) a b =
+      (m : ℕ) × HoldSpecifying ks typed s a m × HoldSpecifyings ks (has_type ks s || typed) ss m b
+
+  pub HoldsType : List Kind → Naming → ℕ → ℕ → Type 0
+  HoldsType ks (Type_of ss d) a b =
+      (m : ℕ) × AreSome ss × HoldSpecifyings ks false ss a m × HoldsDeclaring ks d m b
+
+  pub HoldsDeclaring : List Kind → Declaring → ℕ → ℕ → Type 0
+  HoldsDeclaring ks (Declaring_of ps g ds) a b =
+      (m : ℕ) × (n : ℕ) × HoldPointers ks ps a m × HoldsGrouping ks g m n × HoldDerivings ks ds n b
+
+  pub HoldsGrouping : List Kind → Grouping → ℕ → ℕ → Type 0
+  HoldsGrouping ks No_group a b = b ≡ a
+  HoldsGrouping ks (Group_of o d c) a b =
+      (o ≡ a) × (kind_at ks a ≡ OpenParen) × IsAbstract d × HoldsDeclaring ks d (a + 1) c
+      × (kind_at ks c ≡ CloseParen) × (b ≡ c + 1)
+
+  pub HoldsDeriving : List Kind → Deriving → ℕ → ℕ → Type 0
+  HoldsDeriving ks (Array_of o x c) a b =
+      (o ≡ a) × (kind_at ks a ≡ OpenBracket) × HoldsBound ks x (a + 1) c × (kind_at ks c ≡ CloseBracket) × (b ≡ c + 1)
+  HoldsDeriving ks (Function_of o c) a b =
+      (o ≡ a) × (kind_at ks a ≡ OpenParen) × (c ≡ a + 1) × (kind_at ks c ≡ CloseParen) × (b ≡ c + 1)
+
+  pub HoldDerivings : List Kind → Derivings → ℕ → ℕ → Type 0
+  HoldDerivings ks No_derivings a b = b ≡ a
+  HoldDerivings ks (Deriving_then d ds) a b = (m : ℕ) × HoldsDeriving ks d a m × HoldDerivings ks ds m b
+
+  pub HoldsBound : List Kind → Bound → ℕ → ℕ → Type 0
+  HoldsBound ks (Unsized_of ns) a b = HoldQualifiers ks ns a b
+  HoldsBound ks (Sized_of ns t) a b = (m : ℕ) × HoldQualifiers ks ns a m × (2 ≤ rank ks t) × Holds ks t m b
+  HoldsBound ks (Static_sized_of n ns t) a b =
+      (m : ℕ) × (n ≡ a) × (kind_at ks a ≡ Static) × HoldQualifiers ks ns (a + 1) m × (2 ≤ rank ks t) × Holds ks t m b
+  HoldsBound ks (Sized_static_of ns n t) a b =
+      AreThere ns × HoldQualifiers ks ns a n × (kind_at ks n ≡ Static) × (2 ≤ rank ks t) × Holds ks t (n + 1) b
+  HoldsBound ks (Any_size_of n) a b = (n ≡ a) × (kind_at ks a ≡ Star) × (b ≡ a + 1)
 
 -- a tree of the nonterminal n stands from a to b
 abbrev pub Reads : List Kind → ℕ → Tree → ℕ → ℕ → Type 0

@@ -1,12 +1,11 @@
 -- The name of a type that tokens mean, all of them, and why they mean none (ISO C11 6.7.7).
 use Rattle.std.specs.Prelude.{◌≡◌, List, length, Some, None}
-use Rattle.tree_data.specs.Names.{Naming}
+use Rattle.tree_data.specs.Trees.{Naming}
 use Rattle.c_parser.specs.declared.answers.ParseError.{ParseError}
 use Rattle.c_parser.specs.declared.answers.ParseError.TheVariants.{Syntax, TooDeep, NoMemory}
 use Rattle.c_parser.specs.declared.kinds.Kind.{Kind}
 use Rattle.c_parser.specs.Brackets.{too_deep}
-use Rattle.c_parser.specs.Grammar.{numbers}
-use Rattle.c_parser.specs.TypeNames.{spell_type, IsType}
+use Rattle.c_parser.specs.Grammar.{numbers, spell_type, IsType}
 
 -- a proper name that spells tokens of these kinds, all of them
 pub record IsTypeName (kinds : List Kind) (t : Naming) : Type 0 where

@@ -1,15 +1,12 @@
 // What stands in front of an operand: unary operators and casts, and the front of an operand that begins with the name of
 // a type. `( type-name )` is read once; the token behind it tells what it is.
 ghost use Rattle.std.specs.Prelude.{◌≡◌, ℕ, ◌+◌, ◌<◌, ◌≤◌, length, true, IfOk, IfErr};
-ghost use Rattle.tree_data.specs.Names.{Naming};
-ghost use Rattle.tree_data.specs.Seen.{prefixes_of};
-ghost use Rattle.tree_data.specs.Trees.{Tree, Fronts, None_before, fronts};
-ghost use Rattle.tree_data.specs.Types.{type_of};
+ghost use Rattle.tree_data.specs.Seen.{prefixes_of, type_of};
+ghost use Rattle.tree_data.specs.Trees.{Naming, Tree, Fronts, None_before, fronts};
 ghost use Rattle.c_parser.specs.declared.kinds.Kind.TheVariants.{OpenParen, CloseParen};
 ghost use Rattle.c_parser.specs.Beginnings.{start_of, Begins, Fronted, IsNamed, NoOperand};
 ghost use Rattle.c_parser.specs.Kinds as spec;
-ghost use Rattle.c_parser.specs.Reading.{Reads, HoldFronts, Stops, FoundPrefixes, MustGive};
-ghost use Rattle.c_parser.specs.TypeNames.{HoldsType};
+ghost use Rattle.c_parser.specs.Reading.{Reads, HoldsType, HoldFronts, Stops, FoundPrefixes, MustGive};
 
 use crate::answers::Stop;
 use crate::kinds::{Kind, casts_at, kind_at, size_at, type_at};
@@ -36,7 +33,8 @@ pub(crate) enum Front {
 }
 
 // `( type-name )`, and the place of the `)`.
-fn typed(alloc: Global, kinds: &[Kind], at: u32) -> Result<(TypeName, u32), Stop>
+#[cycle(parser)]
+pub(crate) fn typed(alloc: Global, kinds: &[Kind], at: u32) -> Result<(TypeName, u32), Stop>
     requires size { length kinds.now ≤ 2000000 }
     requires inside { at < length kinds.now }
     requires kind { spec.kind_at kinds.now at ≡ OpenParen }
@@ -55,6 +53,7 @@ fn typed(alloc: Global, kinds: &[Kind], at: u32) -> Result<(TypeName, u32), Stop
 }
 
 // `sizeof` or `_Alignof` in front of a type name in parentheses.
+#[cycle(parser)]
 fn size(alloc: Global, kinds: &[Kind], at: u32) -> Result<Front, Stop>
     requires size { length kinds.now ≤ 2000000 }
     requires inside { at ≤ length kinds.now }
@@ -76,6 +75,7 @@ fn size(alloc: Global, kinds: &[Kind], at: u32) -> Result<Front, Stop>
 }
 
 // A type name in parentheses: a cast, but in front of a `{`.
+#[cycle(parser)]
 fn cast(alloc: Global, kinds: &[Kind], at: u32) -> Result<Front, Stop>
     requires size { length kinds.now ≤ 2000000 }
     requires inside { at ≤ length kinds.now }
@@ -93,10 +93,14 @@ fn cast(alloc: Global, kinds: &[Kind], at: u32) -> Result<Front, Stop>
     if !casts_at(kinds, at) {
         return Err(Stop::Syntax(at));
     }
-    Ok(Front::Before(Prefix::cast(at, name, closing), closing + 1))
+    match Prefix::cast(alloc, at, name, closing) {
+        Ok(cast) => Ok(Front::Before(cast, closing + 1)),
+        Err(_) => Err(Stop::NoMemory),
+    }
 }
 
 // What stands in front of an operand.
+#[cycle(parser)]
 fn in_front(alloc: Global, kinds: &[Kind], at: u32) -> Result<Front, Stop>
     requires size { length kinds.now ≤ 2000000 }
     requires inside { at ≤ length kinds.now }
@@ -116,6 +120,7 @@ fn in_front(alloc: Global, kinds: &[Kind], at: u32) -> Result<Front, Stop>
 }
 
 // The unary operators and casts that stand here, and what was read behind them.
+#[cycle(parser)]
 pub(crate) fn prefixes(alloc: Global, kinds: &[Kind], at: u32) -> Result<(Vec<Prefix>, Begun), Stop>
     requires size { length kinds.now ≤ 2000000 }
     requires inside { at ≤ length kinds.now }

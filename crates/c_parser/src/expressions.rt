@@ -1,9 +1,8 @@
 // Expressions, from the comma down to primary expressions: a function a level of precedence, and loops where a production
 // goes on by itself. Each reads from left to right and says at which token it stopped.
 ghost use Rattle.std.specs.Prelude.{◌≡◌, ℕ, ◌+◌, ◌<◌, ◌≤◌, length, true, false, IfOk, IfErr};
-ghost use Rattle.tree_data.specs.Seen.{tree_of, behind_of, operands_of, suffixes_of};
+ghost use Rattle.tree_data.specs.Seen.{tree_of, behind_of, operands_of, suffixes_of, type_of};
 ghost use Rattle.tree_data.specs.Trees.{Tree, Behind, Behinds, None_behind, behinds};
-ghost use Rattle.tree_data.specs.Types.{type_of};
 ghost use Rattle.c_parser.specs.declared.kinds.Kind.TheVariants.{Text, OpenParen, OpenBracket};
 ghost use Rattle.c_parser.specs.Beginnings.{start_of, Begins, IsPlain, IsSized, IsLiteral};
 ghost use Rattle.c_parser.specs.Grammar.{goes_on};
@@ -225,7 +224,13 @@ fn suffixes(alloc: Global, kinds: &[Kind], at: u32) -> Result<(Vec<Suffix>, u32)
 }
 
 // The size or alignment of a type, behind which no postfix operator may stand (6.5.3).
-fn sized(kinds: &[Kind], keyword: u32, name: TypeName, closing: u32) -> Result<(Expr, u32), Stop>
+fn sized(
+    alloc: Global,
+    kinds: &[Kind],
+    keyword: u32,
+    name: TypeName,
+    closing: u32,
+) -> Result<(Expr, u32), Stop>
     requires size { length kinds.now ≤ 2000000 }
     requires sized { IsSized kinds.now keyword (type_of name) closing }
     ensures found { IfOk result (λ r. Found kinds.now 17 keyword (tree_of r.0) r.1) }
@@ -235,10 +240,10 @@ fn sized(kinds: &[Kind], keyword: u32, name: TypeName, closing: u32) -> Result<(
     if kind_at(kinds, closing + 1).is_suffix() {
         return Err(Stop::Syntax(closing + 1));
     }
-    Ok((
-        Expr::of_type(keyword, keyword + 1, name, closing),
-        closing + 1,
-    ))
+    match Expr::of_type(alloc, keyword, keyword + 1, name, closing) {
+        Ok(expr) => Ok((expr, closing + 1)),
+        Err(_) => Err(Stop::NoMemory),
+    }
 }
 
 // A compound literal (6.5.2.5), whose type was read.
@@ -281,7 +286,7 @@ fn begun_with(alloc: Global, kinds: &[Kind], begun: Begun) -> Result<(Expr, u32)
             Ok(found) => Ok(found),
             Err(stop) => Err(stop),
         },
-        Begun::Size(keyword, name, closing) => match sized(kinds, keyword, name, closing) {
+        Begun::Size(keyword, name, closing) => match sized(alloc, kinds, keyword, name, closing) {
             Ok(found) => Ok(found),
             Err(stop) => Err(stop),
         },

@@ -10,6 +10,9 @@ pub(crate) enum Kind {
     // A keyword that is a type specifier by itself, as `int`.
     TypeWord,
     Qualifier,
+    // `_Atomic`.
+    Atomic,
+    Static,
     // `struct`, `union` and `enum`.
     Tag,
     Constant,
@@ -124,7 +127,7 @@ impl Kind {
     {
         matches!(
             self,
-            Kind::TypeWord | Kind::Qualifier | Kind::Tag | Kind::TypeName
+            Kind::TypeWord | Kind::Qualifier | Kind::Tag | Kind::TypeName | Kind::Atomic
         )
     }
 
@@ -140,6 +143,37 @@ impl Kind {
         ensures { result ≡ spec.is_member self }
     {
         matches!(self, Kind::Member | Kind::Dot)
+    }
+
+    pub fn is_qualifier(self) -> bool
+        ensures { result ≡ spec.is_qualifier self }
+    {
+        matches!(self, Kind::Qualifier)
+    }
+
+    pub fn is_atomic(self) -> bool
+        ensures { result ≡ spec.is_atomic self }
+    {
+        matches!(self, Kind::Atomic)
+    }
+
+    // Whether an array or a function begins with it in a declarator (6.7.6).
+    pub fn is_deriving(self) -> bool
+        ensures { result ≡ spec.is_deriving self }
+    {
+        matches!(self, Kind::OpenBracket | Kind::OpenParen)
+    }
+
+    pub fn is_star(self) -> bool
+        ensures { result ≡ spec.is_star self }
+    {
+        matches!(self, Kind::Star)
+    }
+
+    pub fn is_closing_bracket(self) -> bool
+        ensures { result ≡ spec.is_closing_bracket self }
+    {
+        matches!(self, Kind::CloseBracket)
     }
 
     pub fn is_opening(self) -> bool
@@ -191,6 +225,42 @@ pub(crate) fn size_at(kinds: &[Kind], at: u32) -> bool
     ensures { result ≡ spec.size_at kinds.now at }
 {
     kind_at(kinds, at).is_size() && type_at(kinds, at + 1)
+}
+
+// Whether `_Atomic ( type-name )` begins at this token (6.7.2.4).
+#[tactic(auto, unfolding(crate::specs::Kinds::atomic_opens))]
+pub(crate) fn atomic_opens(kinds: &[Kind], at: u32) -> bool
+    requires { at ≤ 2000001 }
+    ensures { result ≡ spec.atomic_opens kinds.now at }
+{
+    kind_at(kinds, at).is_atomic() && kind_at(kinds, at + 1).is_opening()
+}
+
+// Whether this token is `_Atomic` for itself, as a qualifier (6.7.3).
+#[tactic(auto, unfolding(crate::specs::Kinds::atomic_at))]
+fn atomic_at(kinds: &[Kind], at: u32) -> bool
+    requires { at ≤ 2000001 }
+    ensures { result ≡ spec.atomic_at kinds.now at }
+{
+    kind_at(kinds, at).is_atomic() && !kind_at(kinds, at + 1).is_opening()
+}
+
+// Whether this token is a qualifier.
+#[tactic(auto, unfolding(crate::specs::Kinds::qualifies_at))]
+pub(crate) fn qualifies_at(kinds: &[Kind], at: u32) -> bool
+    requires { at ≤ 2000001 }
+    ensures { result ≡ spec.qualifies_at kinds.now at }
+{
+    kind_at(kinds, at).is_qualifier() || atomic_at(kinds, at)
+}
+
+// Whether `*` stands here in place of an array's size (6.7.6.2).
+#[tactic(auto, unfolding(crate::specs::Kinds::any_size_at))]
+pub(crate) fn any_size_at(kinds: &[Kind], at: u32) -> bool
+    requires { at ≤ 2000001 }
+    ensures { result ≡ spec.any_size_at kinds.now at }
+{
+    kind_at(kinds, at).is_star() && kind_at(kinds, at + 1).is_closing_bracket()
 }
 
 // Whether no operator stands in front of this token that takes a unary-expression.

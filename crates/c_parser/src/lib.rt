@@ -4,6 +4,7 @@
 mod answers;
 mod before;
 mod brackets;
+mod declarators;
 mod expressions;
 mod initializers;
 mod joining;

@@ -54,7 +54,10 @@ fn association(alloc: Global, kinds: &[Kind], at: u32) -> Result<(Association, u
         return Err(Stop::Syntax(colon));
     };
     match level(alloc, kinds, ASSIGNMENT, colon + 1) {
-        Ok((expr, end)) => Ok((Association::typed(name, colon, expr), end)),
+        Ok((expr, end)) => match Association::typed(alloc, name, colon, expr) {
+            Ok(association) => Ok((association, end)),
+            Err(_) => Err(Stop::NoMemory),
+        },
         Err(stop) => Err(stop),
     }
 }

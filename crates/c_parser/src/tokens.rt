@@ -61,7 +61,7 @@ static MARKS: [(&str, Kind); 48] = [
     ("%>", Kind::CloseBrace),
 ];
 
-static WORDS: [(&str, Kind); 23] = [
+static WORDS: [(&str, Kind); 25] = [
     ("sizeof", Kind::SizeOf),
     ("_Alignof", Kind::AlignOf),
     ("const", Kind::Qualifier),
@@ -85,6 +85,8 @@ static WORDS: [(&str, Kind); 23] = [
     ("_Generic", Kind::Generic),
     ("__offsetof", Kind::OffsetOf),
     ("default", Kind::Default),
+    ("_Atomic", Kind::Atomic),
+    ("static", Kind::Static),
 ];
 
 fn look_up(text: &str, table: &[(&str, Kind)]) -> Option<Kind>

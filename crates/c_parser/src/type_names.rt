@@ -1,57 +1,106 @@
-// Names of types (ISO C11 6.7.7): specifiers and qualifiers, and pointers.
-ghost use Rattle.std.specs.Prelude.{◌≡◌, ◌||◌, true, ℕ, ◌+◌, ◌<◌, ◌≤◌, length, map, IfOk, IfErr, IfSome, IfNone};
-ghost use Rattle.tree_data.specs.Names.{Naming};
-ghost use Rattle.tree_data.specs.Types.{specifying, pointing, type_of};
+// Names of types (ISO C11 6.7.7): specifiers and qualifiers, and a declarator.
+ghost use Rattle.std.specs.Prelude.{◌≡◌, ◌||◌, true, false, ℕ, ◌+◌, ◌<◌, ◌≤◌, length, IfOk, IfErr};
+ghost use Rattle.tree_data.specs.Seen.{specifier_of, specifiers_of, type_of};
+ghost use Rattle.tree_data.specs.Trees.{Naming, Atomic_of, Specifyings, No_specifiers, specifyings};
+ghost use Rattle.c_parser.specs.declared.kinds.Kind.TheVariants.{CloseParen};
 ghost use Rattle.c_parser.specs.Kinds as spec;
-ghost use Rattle.c_parser.specs.Reading.{FoundType, MustGive};
-ghost use Rattle.c_parser.specs.TypeNames.{HoldSpecifying, HoldsType, NoMore, FoundSpecifiers, FoundQualifiers, FoundPointers, has_type};
+ghost use Rattle.c_parser.specs.Reading.{HoldsType, HoldSpecifyings, FoundType, MustGive};
+ghost use Rattle.c_parser.specs.TypeNames.{FoundSpecifying, FoundSpecifiers, Specified, FailsSpecifying};
 
 use crate::answers::Stop;
-use crate::kinds::{Kind, kind_at};
+use crate::before::typed;
+use crate::declarators::declarator;
+use crate::kinds::{Kind, atomic_opens, kind_at};
 use std::alloc::Global;
-use tree_data::{Declarator, Pointer, Specifier, Specs, TypeName};
+use tree_data::{Specifier, Specs, TypeName};
 
-// The specifier that stands here, the place behind it, and whether a type specifier has stood by then.
-fn specifier(kinds: &[Kind], at: u32, typed: bool) -> Option<(Specifier, u32, bool)>
+// The specifier of one or two tokens that stands here, the place behind it, and whether a type specifier has stood by then.
+fn short_specifier(kinds: &[Kind], at: u32, typed: bool) -> Option<(Specifier, u32, bool)>
     requires size { length kinds.now ≤ 2000000 }
     requires inside { at ≤ length kinds.now }
-    ensures found { IfSome result (λ r. HoldSpecifying kinds.now typed (specifying r.0) at r.1) }
-    ensures inside { IfSome result (λ r. r.1 ≤ length kinds.now) }
-    ensures typed { IfSome result (λ r. r.2 ≡ (has_type kinds.now (specifying r.0) || typed)) }
-    ensures none { IfNone result (NoMore kinds.now typed at) }
+    requires short { spec.atomic_opens kinds.now at ≡ false }
+    ensures { Specified kinds.now typed at result }
 {
     match kind_at(kinds, at) {
-        Kind::TypeWord => Some((Specifier::Word(at), at + 1, true)),
-        Kind::Qualifier => Some((Specifier::Word(at), at + 1, typed)),
+        Kind::TypeWord => Some((Specifier::word(at), at + 1, true)),
+        Kind::Qualifier => Some((Specifier::word(at), at + 1, typed)),
+        Kind::Atomic => Some((Specifier::word(at), at + 1, typed)),
         Kind::TypeName => {
             if typed {
                 return None;
             }
-            Some((Specifier::TypedefName(at), at + 1, true))
+            Some((Specifier::typedef_name(at), at + 1, true))
         }
         Kind::Tag => {
             if !kind_at(kinds, at + 1).is_word() {
                 return None;
             }
-            Some((Specifier::Tag(at, at + 1), at + 2, true))
+            Some((Specifier::tag(at, at + 1), at + 2, true))
         }
         _ => None,
     }
 }
 
+// `_Atomic ( type-name )`.
+#[cycle(parser)]
+fn atomic(alloc: Global, kinds: &[Kind], at: u32) -> Result<(Specifier, u32), Stop>
+    requires size { length kinds.now ≤ 2000000 }
+    requires inside { at ≤ length kinds.now }
+    requires opens { spec.atomic_opens kinds.now at ≡ true }
+    ensures found { IfOk result (λ r. FoundSpecifying kinds.now false at (specifier_of r.0) r.1) }
+    ensures only { (t : Naming) → (end : ℕ) → HoldsType kinds.now t ((at + 1) + 1) end → spec.kind_at kinds.now end ≡ CloseParen
+        → MustGive result (λ r. (specifier_of r.0 ≡ Atomic_of at (at + 1) t end) × (r.1 ≡ end + 1)) }
+{
+    let (name, closing) = match typed(alloc, kinds, at + 1) {
+        Ok(found) => found,
+        Err(stop) => return Err(stop),
+    };
+    match Specifier::atomic(alloc, at, at + 1, name, closing) {
+        Ok(specifier) => Ok((specifier, closing + 1)),
+        Err(_) => Err(Stop::NoMemory),
+    }
+}
+
+// The specifier that stands here, the place behind it, and whether a type specifier has stood by then.
+#[cycle(parser)]
+fn specifier(
+    alloc: Global,
+    kinds: &[Kind],
+    at: u32,
+    typed: bool,
+) -> Result<Option<(Specifier, u32, bool)>, Stop>
+    requires size { length kinds.now ≤ 2000000 }
+    requires inside { at ≤ length kinds.now }
+    ensures found { IfOk result (λ r. Specified kinds.now typed at r) }
+    ensures fails { IfErr result (λ e. FailsSpecifying kinds.now typed at e) }
+{
+    if !atomic_opens(kinds, at) {
+        return Ok(short_specifier(kinds, at, typed));
+    }
+    match atomic(alloc, kinds, at) {
+        Ok((specifier, next)) => Ok(Some((specifier, next, true))),
+        Err(stop) => Err(stop),
+    }
+}
+
 // All specifiers and qualifiers that stand here.
+#[cycle(parser)]
 fn specifiers(alloc: Global, kinds: &[Kind], at: u32) -> Result<(Vec<Specifier>, u32), Stop>
     requires size { length kinds.now ≤ 2000000 }
     requires inside { at ≤ length kinds.now }
-    ensures found { IfOk result (λ r. FoundSpecifiers kinds.now at (map specifying r.0.items) r.1) }
-    ensures memory { IfErr result (λ e. e ≡ Stop.NoMemory) }
+    ensures found { IfOk result (λ r. FoundSpecifiers kinds.now at (specifyings (specifiers_of r.0.items) No_specifiers) r.1) }
+    ensures only { (ss : Specifyings) → (end : ℕ) → HoldSpecifyings kinds.now false ss at end
+        → spec.ends_specifiers (spec.kind_at kinds.now end) ≡ true
+        → MustGive result (λ r. (specifyings (specifiers_of r.0.items) No_specifiers ≡ ss) × (r.1 ≡ end)) }
 {
     let mut specifiers = Vec::new(alloc);
     let mut end = at;
     let mut typed = false;
     'specifiers: loop {
-        let Some((one, next, typed_then)) = specifier(kinds, end, typed) else {
-            return Ok((specifiers, end));
+        let (one, next, typed_then) = match specifier(alloc, kinds, end, typed) {
+            Ok(Some((one, next, typed_then))) => (one, next, typed_then),
+            Ok(None) => return Ok((specifiers, end)),
+            Err(stop) => return Err(stop),
         };
         let Ok(()) = specifiers.push(one) else {
             return Err(Stop::NoMemory);
@@ -61,55 +110,8 @@ fn specifiers(alloc: Global, kinds: &[Kind], at: u32) -> Result<(Vec<Specifier>,
     }
 }
 
-// All qualifiers that stand here.
-fn qualifiers(alloc: Global, kinds: &[Kind], at: u32) -> Result<(Vec<u32>, u32), Stop>
-    requires size { length kinds.now ≤ 2000000 }
-    requires inside { at ≤ length kinds.now }
-    ensures found { IfOk result (λ r. FoundQualifiers kinds.now at r.0.items r.1) }
-    ensures memory { IfErr result (λ e. e ≡ Stop.NoMemory) }
-{
-    let mut qualifiers = Vec::new(alloc);
-    let mut end = at;
-    'qualifiers: loop {
-        let Kind::Qualifier = kind_at(kinds, end) else {
-            return Ok((qualifiers, end));
-        };
-        let Ok(()) = qualifiers.push(end) else {
-            return Err(Stop::NoMemory);
-        };
-        end += 1;
-    }
-}
-
-// All pointers that stand here.
-fn pointers(alloc: Global, kinds: &[Kind], at: u32) -> Result<(Vec<Pointer>, u32), Stop>
-    requires size { length kinds.now ≤ 2000000 }
-    requires inside { at ≤ length kinds.now }
-    ensures found { IfOk result (λ r. FoundPointers kinds.now at (map pointing r.0.items) r.1) }
-    ensures memory { IfErr result (λ e. e ≡ Stop.NoMemory) }
-{
-    let mut pointers = Vec::new(alloc);
-    let mut end = at;
-    'pointers: loop {
-        let Kind::Star = kind_at(kinds, end) else {
-            return Ok((pointers, end));
-        };
-        let (qualifiers, next) = match qualifiers(alloc, kinds, end + 1) {
-            Ok(found) => found,
-            Err(stop) => return Err(stop),
-        };
-        let pointer = Pointer {
-            star: end,
-            qualifiers,
-        };
-        let Ok(()) = pointers.push(pointer) else {
-            return Err(Stop::NoMemory);
-        };
-        end = next;
-    }
-}
-
 // The name of a type, behind which `)`, `:`, `,` or nothing has to stand.
+#[cycle(parser)]
 pub(crate) fn type_name(alloc: Global, kinds: &[Kind], at: u32) -> Result<(TypeName, u32), Stop>
     requires size { length kinds.now ≤ 2000000 }
     requires inside { at ≤ length kinds.now }
@@ -124,13 +126,8 @@ pub(crate) fn type_name(alloc: Global, kinds: &[Kind], at: u32) -> Result<(TypeN
     if specifiers.as_slice().is_empty() {
         return Err(Stop::Syntax(behind));
     }
-    let (pointers, end) = match pointers(alloc, kinds, behind) {
-        Ok(found) => found,
-        Err(stop) => return Err(stop),
-    };
-    let name = TypeName {
-        specs: Specs { specifiers },
-        declarator: Declarator { pointers },
-    };
-    Ok((name, end))
+    match declarator(alloc, kinds, behind) {
+        Ok((declarator, end)) => Ok((TypeName::new(Specs::new(specifiers), declarator), end)),
+        Err(stop) => Err(stop),
+    }
 }

@@ -1,14 +1,11 @@
 // An expression, or the name of a type, that takes all tokens.
 ghost use Rattle.std.specs.Prelude.{◌≡◌, ◌≤◌, length, IfOk, IfErr, None};
-ghost use Rattle.tree_data.specs.Names.{Naming};
-ghost use Rattle.tree_data.specs.Seen.{tree_of};
-ghost use Rattle.tree_data.specs.Trees.{Tree};
-ghost use Rattle.tree_data.specs.Types.{naming, type_of};
+ghost use Rattle.tree_data.specs.Seen.{tree_of, naming, type_of};
+ghost use Rattle.tree_data.specs.Trees.{Tree, Naming};
 ghost use Rattle.c_parser.specs.Brackets.{too_deep};
 ghost use Rattle.c_parser.specs.Grammar.{IsMeaning, IsCause, ReadingIsUnique};
-ghost use Rattle.c_parser.specs.Reading.{Reads, at_front, IsAtFront, IsRefused, IsDeep};
+ghost use Rattle.c_parser.specs.Reading.{Reads, HoldsType, at_front, IsAtFront, IsRefused, IsDeep};
 ghost use Rattle.c_parser.specs.TypeMeaning.{IsTypeMeaning, IsTypeCause, TypeReadingIsUnique};
-ghost use Rattle.c_parser.specs.TypeNames.{HoldsType};
 ghost use Rattle.c_parser.specs.Tokens as spec;
 
 use crate::answers::{ParseError, Stop};
@@ -69,8 +66,7 @@ fn shallow_kinds(
 }
 
 /// The one expression that the tokens spell, all of them (ISO C11 6.5), with `__offsetof ( type-name , member-designator )`,
-/// which `offsetof` stands for (7.19), among the primary expressions. Of type names (6.7.7) those are whose specifiers are keywords, qualifiers, a tag or a typedef
-/// name, and whose declarator is pointers. An identifier among `names` is a typedef name, and `( name )` the front of a
+/// which `offsetof` stands for (7.19), among the primary expressions. Of type names (6.7.7) those are that `parse_type_name` reads. An identifier among `names` is a typedef name, and `( name )` the front of a
 /// cast or of a compound literal; it or a keyword is no expression, but it may be the name of a member or a tag. The tokens are at most 2,000,000.
 ///
 /// Errors: TooDeep with the bracket that opens the 257th level, which is looked for first; Syntax(0) exactly where
@@ -107,9 +103,9 @@ fn whole_type(alloc: Global, kinds: &[Kind]) -> Result<TypeName, ParseError>
 }
 
 /// The one name of a type that the tokens spell, all of them (ISO C11 6.7.7): specifiers and qualifiers, and an abstract
-/// declarator. Of specifiers its grammar has keywords, qualifiers, tags without braces and, where no type specifier stands
-/// before it, a typedef name, which is an identifier among `names`; of declarators it has pointers. Arrays, functions,
-/// braces and `_Atomic` are not in it yet. The tokens are at most 2,000,000.
+/// declarator. Of specifiers its grammar has keywords, qualifiers, `_Atomic ( type-name )`, tags without braces and, where no type specifier
+/// stands before it, a typedef name, which is an identifier among `names`; of declarators it has pointers, parentheses, arrays
+/// and functions without parameters. Parameters and braces are not in it yet. The tokens are at most 2,000,000.
 ///
 /// Errors: TooDeep with the bracket that opens the 257th level, which is looked for first; Syntax(0) exactly where
 /// no name of the grammar spells the tokens and no bracket is too deep; NoMemory.
@@ -127,7 +123,7 @@ pub fn parse_type_name(
         Err(error) => return Err(error),
     };
     match whole_type(alloc, kinds.as_slice()) {
-        Ok(name) => Ok((name.specs, name.declarator)),
+        Ok(name) => Ok(name.into_parts()),
         Err(error) => Err(error),
     }
 }

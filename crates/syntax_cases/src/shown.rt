@@ -2,8 +2,8 @@
 use std::alloc::{AllocError, Global};
 use tok_data::OutToken;
 use tree_data::{
-    Association, Braces, Choice, Declarator, Designator, Expr, Init, Piece, Prefix, Specifier,
-    Specs, Suffix, TypeName,
+    Association, Bound, Braces, Choice, Declarator, Deriving, Designator, Expr, Group, Init, Piece,
+    Prefix, Specifier, Specs, Suffix, TypeName,
 };
 
 fn spelling(tokens: &[OutToken], at: u32) -> &str {
@@ -84,6 +84,16 @@ fn show_text(out: &mut String, tokens: &[OutToken], pieces: &[u32]) -> Result<()
     out.push_str(")")
 }
 
+// Numbers of tokens, each with a space in front of it.
+fn show_words(out: &mut String, tokens: &[OutToken], words: &[u32]) -> Result<(), AllocError> {
+    for word in words {
+        out.push_str(" ")?;
+        spell(out, tokens, *word)?;
+    }
+    Ok(())
+}
+
+#[cycle(show)]
 fn show_specifier(
     out: &mut String,
     tokens: &[OutToken],
@@ -99,9 +109,102 @@ fn show_specifier(
             spell(out, tokens, *tag)?;
             out.push_str(")")
         }
+        Specifier::Atomic(_, _, name, _) => {
+            out.push_str("(atomic ")?;
+            show_name(out, tokens, &name.specs, &name.declarator)?;
+            out.push_str(")")
+        }
     }
 }
 
+#[cycle(show)]
+fn show_bound(out: &mut String, tokens: &[OutToken], bound: &Bound) -> Result<(), AllocError> {
+    match bound {
+        Bound::Unsized(qualifiers) => show_words(out, tokens, qualifiers.as_slice()),
+        Bound::AnySize(_) => out.push_str(" *"),
+        Bound::Sized(qualifiers, size) => {
+            show_words(out, tokens, qualifiers.as_slice())?;
+            out.push_str(" ")?;
+            show(out, tokens, size)
+        }
+        Bound::StaticSized(_, qualifiers, size) => {
+            out.push_str(" static")?;
+            show_words(out, tokens, qualifiers.as_slice())?;
+            out.push_str(" ")?;
+            show(out, tokens, size)
+        }
+        Bound::SizedStatic(qualifiers, _, size) => {
+            show_words(out, tokens, qualifiers.as_slice())?;
+            out.push_str(" static ")?;
+            show(out, tokens, size)
+        }
+    }
+}
+
+fn open_deriving(out: &mut String, deriving: &Deriving) -> Result<(), AllocError> {
+    match deriving {
+        Deriving::Array(_, _, _) => out.push_str("(array "),
+        Deriving::Function(_, _) => out.push_str("(func "),
+    }
+}
+
+#[cycle(show)]
+fn close_deriving(
+    out: &mut String,
+    tokens: &[OutToken],
+    deriving: &Deriving,
+) -> Result<(), AllocError> {
+    if let Deriving::Array(_, bound, _) = deriving {
+        show_bound(out, tokens, bound)?;
+    }
+    out.push_str(")")
+}
+
+#[cycle(show)]
+fn show_group(out: &mut String, tokens: &[OutToken], group: &Group) -> Result<(), AllocError> {
+    match group {
+        Group::NoGroup => out.push_str("_"),
+        Group::Grouped(_, inner, _) => {
+            out.push_str("(paren ")?;
+            show_declarator(out, tokens, inner)?;
+            out.push_str(")")
+        }
+    }
+}
+
+fn open_pointers(
+    out: &mut String,
+    tokens: &[OutToken],
+    declarator: &Declarator,
+) -> Result<(), AllocError> {
+    for pointer in &declarator.pointers {
+        out.push_str("(ptr ")?;
+        for qualifier in &pointer.qualifiers {
+            spell(out, tokens, *qualifier)?;
+            out.push_str(" ")?;
+        }
+    }
+    Ok(())
+}
+
+#[cycle(show)]
+fn show_declarator(
+    out: &mut String,
+    tokens: &[OutToken],
+    declarator: &Declarator,
+) -> Result<(), AllocError> {
+    open_pointers(out, tokens, declarator)?;
+    for deriving in declarator.derivings.iter().rev() {
+        open_deriving(out, deriving)?;
+    }
+    show_group(out, tokens, &declarator.group)?;
+    for deriving in &declarator.derivings {
+        close_deriving(out, tokens, deriving)?;
+    }
+    close(out, declarator.pointers.len())
+}
+
+#[cycle(show)]
 fn show_name(
     out: &mut String,
     tokens: &[OutToken],
@@ -114,18 +217,11 @@ fn show_name(
         show_specifier(out, tokens, specifier)?;
     }
     out.push_str(") ")?;
-    for pointer in &declarator.pointers {
-        out.push_str("(ptr ")?;
-        for qualifier in &pointer.qualifiers {
-            spell(out, tokens, *qualifier)?;
-            out.push_str(" ")?;
-        }
-    }
-    out.push_str("_")?;
-    close(out, declarator.pointers.len())?;
+    show_declarator(out, tokens, declarator)?;
     out.push_str(")")
 }
 
+#[cycle(show)]
 fn open_prefix(out: &mut String, tokens: &[OutToken], prefix: &Prefix) -> Result<(), AllocError> {
     match prefix {
         Prefix::Operator(at) => open_unary(out, tokens, *at),
@@ -138,6 +234,7 @@ fn open_prefix(out: &mut String, tokens: &[OutToken], prefix: &Prefix) -> Result
 }
 
 // `sizeof` or `_Alignof` with a type.
+#[cycle(show)]
 fn show_of_type(
     out: &mut String,
     tokens: &[OutToken],

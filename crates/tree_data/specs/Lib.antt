@@ -1,4 +1,2 @@
-pub mod Names
 pub mod Seen
 pub mod Trees
-pub mod Types

@@ -1,6 +1,5 @@
--- Trees without addresses (ISO C11 6.5, 6.7.9).
+-- Trees without addresses (ISO C11 6.5, 6.7.7, 6.7.9).
 use Rattle.std.specs.Prelude.{ℕ, Bool, true, false, List, [], ◌∷◌, Option}
-use Rattle.tree_data.specs.Names.{Naming}
 
 mutual
   pub data Tree : Type 0 where
@@ -78,6 +77,47 @@ mutual
     No_associations : Associations
     Association_then : ℕ → Association → Associations → Associations
 
+  -- a specifier or qualifier of a type: a keyword for itself, a typedef name, a tag behind its keyword, `_Atomic ( type-name )`
+  pub data Specifying : Type 0 where
+    Word_of : ℕ → Specifying
+    Typedef_of : ℕ → Specifying
+    Tag_of : ℕ → ℕ → Specifying
+    Atomic_of : ℕ → ℕ → Naming → ℕ → Specifying
+
+  pub data Specifyings : Type 0 where
+    No_specifiers : Specifyings
+    Specifier_then : Specifying → Specifyings → Specifyings
+
+  -- the name of a type: specifiers, and what is derived from their type
+  pub data Naming : Type 0 where
+    Type_of : Specifyings → Declaring → Naming
+
+  -- each `*` with the qualifiers behind it, a declarator in parentheses, and the arrays and functions behind these
+  pub data Declaring : Type 0 where
+    Declaring_of : List (ℕ × List ℕ) → Grouping → Derivings → Declaring
+
+  pub data Grouping : Type 0 where
+    No_group : Grouping
+    Group_of : ℕ → Declaring → ℕ → Grouping
+
+  -- an array, or a function without parameters
+  pub data Deriving : Type 0 where
+    Array_of : ℕ → Bound → ℕ → Deriving
+    Function_of : ℕ → ℕ → Deriving
+
+  pub data Derivings : Type 0 where
+    No_derivings : Derivings
+    Deriving_then : Deriving → Derivings → Derivings
+
+  -- what stands in the brackets of an array: qualifiers; `*`; a size with qualifiers in front of it; one with `static` and
+  -- qualifiers in front of it, or with qualifiers and `static`
+  pub data Bound : Type 0 where
+    Unsized_of : List ℕ → Bound
+    Any_size_of : ℕ → Bound
+    Sized_of : List ℕ → Tree → Bound
+    Static_sized_of : ℕ → List ℕ → Tree → Bound
+    Sized_static_of : List ℕ → ℕ → Tree → Bound
+
 -- some in front of others
 abbrev pub behinds : List Behind → Behinds → Behinds
 behinds [] more = more
@@ -99,6 +139,14 @@ abbrev pub associations : List (ℕ × Association) → Associations
 associations [] = No_associations
 associations (x ∷ xs) = Association_then x.0 x.1 (associations xs)
 
+abbrev pub specifyings : List Specifying → Specifyings → Specifyings
+specifyings [] more = more
+specifyings (s ∷ ss) more = Specifier_then s (specifyings ss more)
+
+abbrev pub derivings : List Deriving → Derivings → Derivings
+derivings [] more = more
+derivings (d ∷ ds) more = Deriving_then d (derivings ds more)
+
 abbrev pub operand : ℕ × Tree → Behind
 operand p = Operand_of p.0 p.1
 
@@ -106,12 +154,15 @@ abbrev pub left : Tree × ℕ → Front
 left p = Left_of p.0 p.1
 
 -- the first is an operator
+abbrev pub operates : Front → Bool
+operates (Operator_of o) = true
+operates (Cast_of o t c) = false
+operates (Choice_of t q e c) = false
+operates (Left_of t o) = false
+
 abbrev pub is_operator : Fronts → Bool
 is_operator None_before = false
-is_operator (Front_then (Operator_of o) fs) = true
-is_operator (Front_then (Cast_of o t c) fs) = false
-is_operator (Front_then (Choice_of t q e c) fs) = false
-is_operator (Front_then (Left_of t o) fs) = false
+is_operator (Front_then f fs) = operates f
 
 -- the tree's production is one of unary-expression (6.5.3)
 abbrev pub is_unary : Tree → Bool

@@ -3,8 +3,7 @@ ghost use Rattle.std.specs.Prelude.{◌≡◌, IfOk};
 ghost use Rattle.tree_data.specs.Trees as spec;
 ghost use Rattle.tree_data.specs.Trees.{is_unary};
 ghost use Rattle.tree_data.specs.Seen as seen;
-ghost use Rattle.tree_data.specs.Seen.{tree_of, braces_of};
-ghost use Rattle.tree_data.specs.Types.{type_of};
+ghost use Rattle.tree_data.specs.Seen.{tree_of, braces_of, type_of};
 
 use crate::inits::Braces;
 use crate::parts::{Choice, Suffix};
@@ -30,7 +29,7 @@ pub enum Expr {
     /// At least one unary operator or cast and the operand behind the last one, which is applied first (6.5.3, 6.5.4).
     Unary(Vec<Prefix>, Box<Expr>),
     /// `sizeof ( type-name )` or `_Alignof ( type-name )` (6.5.3).
-    OfType(u32, u32, TypeName, u32),
+    OfType(u32, u32, Box<TypeName>, u32),
     /// An operand and at least one binary operator with the operand behind it; all operators are of one level of
     /// precedence and group to the left (6.5.5 to 6.5.14, 6.5.17).
     Binary(Box<Expr>, Vec<(u32, Expr)>),
@@ -39,7 +38,7 @@ pub enum Expr {
     /// At least one place with the assignment operator behind it, and the value (6.5.16).
     Assign(Vec<(Expr, u32)>, Box<Expr>),
     /// `( type-name )` and the braces of a compound literal (6.5.2.5).
-    Compound(u32, TypeName, u32, Box<Braces>),
+    Compound(u32, Box<TypeName>, u32, Box<Braces>),
     /// `_Generic (`, the controlling expression, at least one association with the comma in front of it, `)` (6.5.1.1).
     Generic(u32, u32, Box<Expr>, Vec<(u32, Association)>, u32),
     /// `__offsetof (`, the name of a type, `,`, the name of a member and what selects within it, `)`, for `offsetof` (7.19).
@@ -122,10 +121,17 @@ impl Expr {
     }
 
     /// The size or the alignment of a type.
-    pub fn of_type(keyword: u32, opening: u32, name: TypeName, closing: u32) -> Expr
-        ensures { tree_of result ≡ spec.Of_type keyword opening (type_of name) closing }
+    pub fn of_type(
+        alloc: Global,
+        keyword: u32,
+        opening: u32,
+        name: TypeName,
+        closing: u32,
+    ) -> Result<Expr, AllocError>
+        ensures { IfOk result (λ e. tree_of e ≡ spec.Of_type keyword opening (type_of name) closing) }
     {
-        Expr::OfType(keyword, opening, name, closing)
+        let name = Box::new(alloc, name)?;
+        Ok(Expr::OfType(keyword, opening, name, closing))
     }
 
     /// A compound literal.
@@ -138,6 +144,7 @@ impl Expr {
     ) -> Result<Expr, AllocError>
         ensures { IfOk result (λ e. tree_of e ≡ spec.Compound_of opening (type_of name) closing (braces_of braces)) }
     {
+        let name = Box::new(alloc, name)?;
         let braces = Box::new(alloc, braces)?;
         Ok(Expr::Compound(opening, name, closing, braces))
     }

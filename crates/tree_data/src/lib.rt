@@ -11,4 +11,4 @@ pub use expr::Expr;
 pub use inits::{Braces, Designator, Init, Piece};
 pub use parts::{Choice, Suffix};
 pub use selections::Association;
-pub use types::{Declarator, Pointer, Prefix, Specifier, Specs, TypeName};
+pub use types::{Bound, Declarator, Deriving, Group, Pointer, Prefix, Specifier, Specs, TypeName};

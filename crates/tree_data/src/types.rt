@@ -1,10 +1,15 @@
 // Names of types (ISO C11 6.7.7), and what stands in front of an operand.
-ghost use Rattle.std.specs.Prelude.{◌≡◌};
-ghost use Rattle.tree_data.specs.Types as spec;
-ghost use Rattle.tree_data.specs.Trees as tree;
+ghost use Rattle.std.specs.Prelude.{◌≡◌, IfOk};
+ghost use Rattle.tree_data.specs.Seen as seen;
+ghost use Rattle.tree_data.specs.Seen.{prefix_of, specifier_of, specs_of, declarator_of, group_of, deriving_of, bound_of, type_of, naming};
+ghost use Rattle.tree_data.specs.Trees as spec;
+
+use crate::expr::Expr;
+use std::alloc::{AllocError, Global};
 
 /// A specifier or qualifier of a type (6.7.2, 6.7.3).
 #[derive(Drop)]
+#[cycle(trees)]
 pub enum Specifier {
     /// A keyword that stands for itself: a basic type or a qualifier.
     Word(u32),
@@ -12,6 +17,8 @@ pub enum Specifier {
     TypedefName(u32),
     /// `struct`, `union` or `enum`, and the tag (6.7.2.3).
     Tag(u32, u32),
+    /// `_Atomic ( type-name )` (6.7.2.4).
+    Atomic(u32, u32, Box<TypeName>, u32),
 }
 
 /// `*` and the qualifiers behind it (6.7.6.1).
@@ -23,18 +30,61 @@ pub struct Pointer {
 
 /// Specifiers and qualifiers as they stand, at least one (6.7, 6.7.2.1).
 #[derive(Drop)]
+#[cycle(trees)]
 pub struct Specs {
     pub specifiers: Vec<Specifier>,
 }
 
-/// A declarator (6.7.6, 6.7.7), so far one without a name: its pointers, of which the first is outermost.
+/// A declarator (6.7.6, 6.7.7), so far one without a name: its pointers from left to right, a declarator in parentheses if
+/// there is one, and the arrays and functions behind it from left to right. What stands in the parentheses is outermost;
+/// of the rest the first array or function is, and the last pointer is the outermost of the pointers.
 #[derive(Drop)]
+#[cycle(trees)]
 pub struct Declarator {
     pub pointers: Vec<Pointer>,
+    pub group: Group,
+    pub derivings: Vec<Deriving>,
+}
+
+/// What the pointers of a declarator stand in front of, so far without a name.
+#[derive(Drop)]
+#[cycle(trees)]
+pub enum Group {
+    /// Nothing, or an array or a function.
+    NoGroup,
+    /// `( declarator )`, in which something stands.
+    Grouped(u32, Box<Declarator>, u32),
+}
+
+/// An array or a function (6.7.6.2, 6.7.6.3).
+#[derive(Drop)]
+#[cycle(trees)]
+pub enum Deriving {
+    /// `[`, what stands in the brackets, and `]`.
+    Array(u32, Bound, u32),
+    /// `( )`, without parameters.
+    Function(u32, u32),
+}
+
+/// What stands in the brackets of an array (6.7.6.2, 6.7.7).
+#[derive(Drop)]
+#[cycle(trees)]
+pub enum Bound {
+    /// Qualifiers, if there are any, and no size.
+    Unsized(Vec<u32>),
+    /// `*` in place of a size.
+    AnySize(u32),
+    /// Qualifiers, if there are any, and the size.
+    Sized(Vec<u32>, Box<Expr>),
+    /// `static`, qualifiers if there are any, and the size.
+    StaticSized(u32, Vec<u32>, Box<Expr>),
+    /// At least one qualifier, `static`, and the size.
+    SizedStatic(Vec<u32>, u32, Box<Expr>),
 }
 
 /// The name of a type (6.7.7).
 #[derive(Drop)]
+#[cycle(trees)]
 pub struct TypeName {
     pub specs: Specs,
     pub declarator: Declarator,
@@ -42,35 +92,216 @@ pub struct TypeName {
 
 /// What stands in front of an operand (6.5.3, 6.5.4).
 #[derive(Drop)]
+#[cycle(trees)]
 pub enum Prefix {
     /// A unary operator, `++`, `--` or `sizeof`.
     Operator(u32),
     /// `( type-name )`, a cast.
-    Cast(u32, TypeName, u32),
+    Cast(u32, Box<TypeName>, u32),
+}
+
+impl Specifier {
+    /// A keyword.
+    pub fn word(at: u32) -> Specifier
+        ensures { specifier_of result ≡ spec.Word_of at }
+    {
+        Specifier::Word(at)
+    }
+
+    /// A typedef name.
+    pub fn typedef_name(at: u32) -> Specifier
+        ensures { specifier_of result ≡ spec.Typedef_of at }
+    {
+        Specifier::TypedefName(at)
+    }
+
+    /// A tag behind its keyword.
+    pub fn tag(keyword: u32, tag: u32) -> Specifier
+        ensures { specifier_of result ≡ spec.Tag_of keyword tag }
+    {
+        Specifier::Tag(keyword, tag)
+    }
+
+    /// An atomic type.
+    pub fn atomic(
+        alloc: Global,
+        keyword: u32,
+        opening: u32,
+        name: TypeName,
+        closing: u32,
+    ) -> Result<Specifier, AllocError>
+        ensures { IfOk result (λ s. specifier_of s ≡ spec.Atomic_of keyword opening (type_of name) closing) }
+    {
+        let name = Box::new(alloc, name)?;
+        Ok(Specifier::Atomic(keyword, opening, name, closing))
+    }
+}
+
+impl Specs {
+    /// Specifiers in order.
+    pub fn new(specifiers: Vec<Specifier>) -> Specs
+        ensures { specs_of result ≡ spec.specifyings (seen.specifiers_of specifiers.items) spec.No_specifiers }
+    {
+        Specs { specifiers }
+    }
+}
+
+impl Declarator {
+    /// A declarator of these parts.
+    pub fn new(pointers: Vec<Pointer>, group: Group, derivings: Vec<Deriving>) -> Declarator
+        ensures { declarator_of result ≡ spec.Declaring_of (seen.pointers_of pointers.items) (group_of group)
+            (spec.derivings (seen.derivings_of derivings.items) spec.No_derivings) }
+    {
+        Declarator {
+            pointers,
+            group,
+            derivings,
+        }
+    }
+}
+
+impl Group {
+    /// No group.
+    pub fn none() -> Group
+        ensures { group_of result ≡ spec.No_group }
+    {
+        Group::NoGroup
+    }
+
+    /// A declarator in parentheses.
+    pub fn of(
+        alloc: Global,
+        opening: u32,
+        inner: Declarator,
+        closing: u32,
+    ) -> Result<Group, AllocError>
+        ensures { IfOk result (λ g. group_of g ≡ spec.Group_of opening (declarator_of inner) closing) }
+    {
+        let inner = Box::new(alloc, inner)?;
+        Ok(Group::Grouped(opening, inner, closing))
+    }
+}
+
+impl Deriving {
+    /// An array.
+    pub fn array(opening: u32, bound: Bound, closing: u32) -> Deriving
+        ensures { deriving_of result ≡ spec.Array_of opening (bound_of bound) closing }
+    {
+        Deriving::Array(opening, bound, closing)
+    }
+
+    /// A function without parameters.
+    pub fn function(opening: u32, closing: u32) -> Deriving
+        ensures { deriving_of result ≡ spec.Function_of opening closing }
+    {
+        Deriving::Function(opening, closing)
+    }
+}
+
+impl Bound {
+    /// Qualifiers alone.
+    pub fn unsized_by(qualifiers: Vec<u32>) -> Bound
+        ensures { bound_of result ≡ spec.Unsized_of qualifiers.items }
+    {
+        Bound::Unsized(qualifiers)
+    }
+
+    /// `*` in place of a size.
+    pub fn any_size(at: u32) -> Bound
+        ensures { bound_of result ≡ spec.Any_size_of at }
+    {
+        Bound::AnySize(at)
+    }
+
+    /// A size.
+    pub fn sized(alloc: Global, qualifiers: Vec<u32>, size: Expr) -> Result<Bound, AllocError>
+        ensures { IfOk result (λ b. bound_of b ≡ spec.Sized_of qualifiers.items (seen.tree_of size)) }
+    {
+        let size = Box::new(alloc, size)?;
+        Ok(Bound::Sized(qualifiers, size))
+    }
+
+    /// `static` and a size.
+    pub fn static_sized(
+        alloc: Global,
+        word: u32,
+        qualifiers: Vec<u32>,
+        size: Expr,
+    ) -> Result<Bound, AllocError>
+        ensures { IfOk result (λ b. bound_of b ≡ spec.Static_sized_of word qualifiers.items (seen.tree_of size)) }
+    {
+        let size = Box::new(alloc, size)?;
+        Ok(Bound::StaticSized(word, qualifiers, size))
+    }
+
+    /// Qualifiers, `static` and a size.
+    pub fn sized_static(
+        alloc: Global,
+        qualifiers: Vec<u32>,
+        word: u32,
+        size: Expr,
+    ) -> Result<Bound, AllocError>
+        ensures { IfOk result (λ b. bound_of b ≡ spec.Sized_static_of qualifiers.items word (seen.tree_of size)) }
+    {
+        let size = Box::new(alloc, size)?;
+        Ok(Bound::SizedStatic(qualifiers, word, size))
+    }
+}
+
+impl TypeName {
+    /// A name of these parts.
+    pub fn new(specs: Specs, declarator: Declarator) -> TypeName
+        ensures { type_of result ≡ naming specs declarator }
+    {
+        TypeName { specs, declarator }
+    }
+
+    /// Its parts.
+    pub fn into_parts(self) -> (Specs, Declarator)
+        ensures { naming result.0 result.1 ≡ type_of self }
+    {
+        (self.specs, self.declarator)
+    }
 }
 
 impl Prefix {
     /// An operator.
     pub fn operator(at: u32) -> Prefix
-        ensures { spec.prefix_of result ≡ tree.Operator_of at }
+        ensures { prefix_of result ≡ spec.Operator_of at }
     {
         Prefix::Operator(at)
     }
 
     /// A cast.
-    pub fn cast(opening: u32, name: TypeName, closing: u32) -> Prefix
-        ensures { spec.prefix_of result ≡ tree.Cast_of opening (spec.type_of name) closing }
+    pub fn cast(
+        alloc: Global,
+        opening: u32,
+        name: TypeName,
+        closing: u32,
+    ) -> Result<Prefix, AllocError>
+        ensures { IfOk result (λ p. prefix_of p ≡ spec.Cast_of opening (type_of name) closing) }
     {
-        Prefix::Cast(opening, name, closing)
+        let name = Box::new(alloc, name)?;
+        Ok(Prefix::Cast(opening, name, closing))
+    }
+
+    // Whether it is an operator.
+    fn is_operator(&self) -> bool
+        ensures { result ≡ spec.operates (prefix_of self.now) }
+    {
+        match self {
+            Prefix::Operator(_) => true,
+            Prefix::Cast(_, _, _) => false,
+        }
     }
 }
 
 // Whether the first is an operator.
 pub(crate) fn begins_with_operator(prefixes: &[Prefix]) -> bool
-    ensures { result ≡ spec.begin_with_operator prefixes.now }
+    ensures { result ≡ spec.is_operator (spec.fronts (seen.prefixes_of prefixes.now) spec.None_before) }
 {
-    match prefixes.first() {
-        Some(Prefix::Operator(_)) => true,
-        _ => false,
-    }
+    let Some(first) = prefixes.first() else {
+        return false;
+    };
+    first.is_operator()
 }

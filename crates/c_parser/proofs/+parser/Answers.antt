@@ -1,14 +1,21 @@
-use Rattle.std.proofs.Common.{ap, sym, ◌∙◌, subst, arith, ◌+◌, ◌≤◌, ◌<◌, ◌≡◌}
+use Rattle.c_parser.proofs.Abstract.{no_group, group_fails, group_left_open, group_found, group_same, static_fails, static_found, static_same, unsized_found, unsized_same, last_static_fails, last_static_found, last_static_same, sized_fails, sized_found, sized_same, any_found, any_same, array_fails, array_left_open, array_found, found_deriving_only, nothing_derives, derivings_found, derivings_same, derivings_fail, derivings_push, group_missing, derivings_missing, declaring_found, declaring_same}
+use Rattle.c_parser.proofs.SpecifierLists.{atomic_found, atomic_specified, atomic_fails, specifiers_end, specifiers_only, specifiers_fail, specifiers_push, specifiers_missing, none_specifying, some_specifying, declarator_missing, type_found, name_only}
+use Rattle.c_parser.proofs.Words.{opens_inside, opens_next}
+use Rattle.c_parser.specs.TypeNames.{FoundGrouping, FoundBound, FoundDeriving, FoundDeclaring}
+use Rattle.tree_data.specs.Trees.{Atomic_of, Type_of}
+use Rattle.tree_data.specs.Seen.{declarator_of}
+use Rattle.c_parser.specs.declared.before.Begun.TheVariants.{Literal}
+use Rattle.std.proofs.Common.{ap, sym, ◌∙◌, subst, arith, ◌+◌, ◌≤◌, ◌<◌, ◌≡◌, refl, length, ◌==◌}
 use Rattle.c_parser.specs.Beginnings.{start_of}
-use Rattle.c_parser.specs.Kinds.{level_of, is_word, is_designating}
-use Rattle.c_parser.specs.Reading.{Reads, Found, FoundBehind, FoundBraces, FoundInitial, FoundDesignator, FoundAssociation}
+use Rattle.c_parser.specs.Kinds.{level_of, is_word, is_designating, is_prefix, is_deriving}
+use Rattle.c_parser.specs.Reading.{Reads, Found, FoundBehind, FoundBraces, FoundInitial, FoundDesignator, FoundAssociation, FoundFront, FoundType}
 use Rattle.c_parser.proofs.Fronts.{value_fails, no_place, places_end, test_fails, middle_fails, no_colon, tests_end, unary_fails, operand_of_fails, unary_found}
 use Rattle.c_parser.proofs.Marks.{is_step, member_none}
 use Rattle.c_parser.proofs.Generics.{default_found, default_only, default_unparted, default_fails, typed_found, typed_only, type_first_fails, typed_unparted, typed_fails, choices_found, choices_only, choices_fail, generic_unopened, control_fails, nothing_chosen, choices_of_fail, generic_left_open, generic_found, steps_found, steps_only, steps_fail, offset_unopened, offset_type_fails, offset_unparted, offset_unnamed, offset_steps_fail, offset_left_open, offset_found}
 use Rattle.c_parser.proofs.Initials.{field_found, found_designator_only, field_unnamed, element_opens, element_fails, element_left_open, element_found, value_found, value_only, init_fails, list_only, list_fails, plain_only, plain_fails, designated_only, designator_fails, designators_fail, unequal, designated_fails, braces_found, found_braces_only, first_piece_fails, more_pieces_fail, braces_left_open, row_found, row_only, row_found_comma, row_only_comma, row_fails, path_found, path_only, path_fails}
-use Rattle.c_parser.proofs.Openings.{fails_by_first, plain_fits, literal_fails}
+use Rattle.c_parser.proofs.Openings.{fails_by_first, plain_fits, literal_fails, cast_found, type_inside, type_opens, cast_fails, casts_not, operator_found, prefixes_end, prefixes_only, prefixes_fail, size_inside, size_typed, size_fails, size_begun, align_fails}
 use Rattle.c_parser.proofs.Parsing.{paren_fails, paren_left_open, paren_found, other_fails, found_only, found_behind_only, found_behinds_only, first_fails, more_fails, binary_found, postfix_found, loop_ends, loop_fails, operand_fails, index_found, index_fails, index_left_open, empty_found, call_found, call_first_fails, call_more_fails, call_left_open, step_found}
-use Rattle.c_parser.proofs.Pushes.{associations_push, steps_push, pieces_push, designators_push, operands_push, suffixes_push, choices_push, places_push}
+use Rattle.c_parser.proofs.Pushes.{associations_push, steps_push, pieces_push, designators_push, operands_push, suffixes_push, choices_push, places_push, prefixes_push}
 use Rattle.c_parser.proofs.Views.{binary_view, postfix_view}
 use Rattle.c_parser.proofs.+parser.Goals as goal
 
@@ -612,9 +619,9 @@ pub selections::association-returns-in_default-kind_at : goal.selections::associ
 selections::association-returns-in_default-kind_at t c =
     record { found = tt; only = typed_unparted _ _ _ c.kind_at.ensures.kind c.in_default.not-Default _ _ c.in-Ok.ensures.only _ c.kind_at-2.ensures.kind c.in_default-kind_at.not-Colon }
 
-pub selections::association-returns-in-Ok-level : goal.selections::association-returns-in-Ok-level
-selections::association-returns-in-Ok-level t c =
-    record { found = subst (λ x. FoundAssociation c.args.kinds.now c.args.at x c.in-Ok-level.end) (sym c.typed.ensures) (typed_found _ _ _ _ c.in-Ok.ensures.found (sym c.in-Colon.ensures.kind) _ _ c.in-Ok-level.ensures.found); only = λ x end h s. let same = typed_only _ _ _ _ c.in-Ok.ensures.found (sym c.in-Colon.ensures.kind) _ _ c.in-Ok-level.ensures.found x end h s in (c.typed.ensures ∙ same.0, same.1) }
+pub selections::association-returns-in-Ok-typed : goal.selections::association-returns-in-Ok-typed
+selections::association-returns-in-Ok-typed t c =
+    record { found = subst (λ x. FoundAssociation c.args.kinds.now c.args.at x c.in-Ok-level.end) (sym c.in-Ok-typed.ensures) (typed_found _ _ _ _ c.in-Ok.ensures.found (sym c.in-Colon.ensures.kind) _ _ c.in-Ok-level.ensures.found); only = λ x end h s. let same = typed_only _ _ _ _ c.in-Ok.ensures.found (sym c.in-Colon.ensures.kind) _ _ c.in-Ok-level.ensures.found x end h s in (c.in-Ok-typed.ensures ∙ same.0, same.1) }
 
 pub selections::association-returns-in-Err-level : goal.selections::association-returns-in-Err-level
 selections::association-returns-in-Err-level t c =
@@ -708,3 +715,605 @@ expressions::begun_with-returns-in-Err-compound-clause-none t c =
     end
     (subst (λ x. Reads c.args.kinds.now 16 u (start_of x) end) c.in-Literal.is h)
     s
+
+pub before::cast-returns-in-Err-clause-none : goal.before::cast-returns-in-Err-clause-none
+before::cast-returns-in-Err-clause-none t c = cast_fails _ _ c.requires.kind _ c.in-Err.ensures.only
+
+pub before::cast-returns-then-not-casts_at : goal.before::cast-returns-then-not-casts_at
+before::cast-returns-then-not-casts_at t c = record {
+  found = tt;
+  none =
+      casts_not
+      _
+      _
+      _
+      _
+      _
+      c.in-Ok.ensures.found
+      c.kind_at.ensures.kind
+      c.in_default.not-OpenBrace
+      (sym c.casts_at.ensures ∙ c.if-not-casts_at.true)
+      c.args.at;
+}
+
+pub before::cast-returns-in-Ok-cast : goal.before::cast-returns-in-Ok-cast
+before::cast-returns-in-Ok-cast t c = record {
+  found =
+      subst
+      (λ x. FoundFront c.args.kinds.now 15 c.args.at x (c.in-Ok.found.1 + 1))
+      (sym c.in-Ok-cast.ensures)
+      (cast_found
+      _
+      _
+      _
+      _
+      (sym c.casts_at.ensures ∙ c.if-not-casts_at.false)
+      c.in-Ok.ensures.found
+      (λ x. c.in_default.not-OpenBrace (c.kind_at.ensures.kind ∙ x)));
+  none = tt;
+}
+
+pub before::in_front-returns-then-is_prefix-clause-found : goal.before::in_front-returns-then-is_prefix-clause-found
+before::in_front-returns-then-is_prefix-clause-found t c =
+    subst
+    (λ x. FoundFront c.args.kinds.now 15 c.args.at x (c.args.at + 1))
+    (sym c.operator.ensures)
+    (operator_found
+    _
+    _
+    (ap is_prefix (sym c.kind_at.ensures.kind) ∙ sym c.is_prefix.ensures ∙ c.if-is_prefix.true)
+    (sym c.size_at.ensures ∙ c.if-size_at.false))
+
+pub before::prefixes-returns-in-Ok-Behind-clause-only : goal.before::prefixes-returns-in-Ok-Behind-clause-only
+before::prefixes-returns-in-Ok-Behind-clause-only t c =
+    prefixes_only
+    _
+    _
+    _
+    _
+    c.in-Ok-Behind.begun
+    c.prefixes.invariant
+    (rw c.in-Ok-Behind.field-0-is at c.in-Ok-Behind.ensures.found).0
+    (rw c.in-Ok-Behind.field-0-is at c.in-Ok-Behind.ensures.found).1
+
+pub before::prefixes-returns-in-Ok-SizeOfLiteral-clause-found : goal.before::prefixes-returns-in-Ok-SizeOfLiteral-clause-found
+before::prefixes-returns-in-Ok-SizeOfLiteral-clause-found t c =
+    prefixes_end
+    _
+    _
+    _
+    _
+    (Literal (c.prefixes.end + 1) c.in-Ok-SizeOfLiteral.name c.in-Ok-SizeOfLiteral.closing)
+    (prefixes_push
+    _
+    _
+    _
+    _
+    _
+    _
+    _
+    c.prefixes.invariant
+    (subst
+    (λ x. FoundFront c.args.kinds.now 15 c.prefixes.end x (c.prefixes.end + 1))
+    (sym c.operator.ensures)
+    (rw c.in-Ok-SizeOfLiteral.field-0-is at c.in-Ok-SizeOfLiteral.ensures.found).1)
+    c.in-Ok.ensures.items)
+    refl
+
+pub before::prefixes-returns-in-Ok-SizeOfLiteral-clause-only : goal.before::prefixes-returns-in-Ok-SizeOfLiteral-clause-only
+before::prefixes-returns-in-Ok-SizeOfLiteral-clause-only t c =
+    prefixes_only
+    _
+    _
+    _
+    _
+    (Literal (c.prefixes.end + 1) c.in-Ok-SizeOfLiteral.name c.in-Ok-SizeOfLiteral.closing)
+    (prefixes_push
+    _
+    _
+    _
+    _
+    _
+    _
+    _
+    c.prefixes.invariant
+    (subst
+    (λ x. FoundFront c.args.kinds.now 15 c.prefixes.end x (c.prefixes.end + 1))
+    (sym c.operator.ensures)
+    (rw c.in-Ok-SizeOfLiteral.field-0-is at c.in-Ok-SizeOfLiteral.ensures.found).1)
+    c.in-Ok.ensures.items)
+    refl
+    (rw c.in-Ok-SizeOfLiteral.field-0-is at c.in-Ok-SizeOfLiteral.ensures.found).2
+
+pub before::prefixes-returns-in-Err-clause-only : goal.before::prefixes-returns-in-Err-clause-only
+before::prefixes-returns-in-Err-clause-only t c = prefixes_fail _ _ _ _ _ c.prefixes.invariant c.in-Err.ensures.none
+
+pub before::prefixes-prefixes-preserved : goal.before::prefixes-prefixes-preserved
+before::prefixes-prefixes-preserved t c = prefixes_push _ _ _ _ _ _ _ c.prefixes.invariant (rw c.in-Ok-Before.field-0-is at c.in-Ok-Before.ensures.found) c.in-Ok-push.ensures.items
+
+pub before::size-returns-in-Err-clause-none : goal.before::size-returns-in-Err-clause-none
+before::size-returns-in-Err-clause-none t c = size_fails _ _ c.requires.kind _ c.in-Err.ensures.only
+
+pub before::size-returns-in_default : goal.before::size-returns-in_default
+before::size-returns-in_default t c = record {
+  found = (refl, size_begun _ _ _ _ _ c.requires.kind c.in-Ok.ensures.found c.kind_at.ensures.kind c.in_default.not-OpenBrace);
+  none = tt;
+}
+
+pub before::size-returns-in_default-kind_at : goal.before::size-returns-in_default-kind_at
+before::size-returns-in_default-kind_at t c = record {
+  found = tt;
+  none =
+      align_fails
+      _
+      _
+      c.requires.kind
+      _
+      _
+      c.in-Ok.ensures.found
+      (sym c.in-OpenBrace.ensures.kind)
+      _
+      c.kind_at-2.ensures.kind
+      c.in_default-kind_at.not-SizeOf
+      (c.in-Ok.found.1 + 1);
+}
+
+pub type_names::atomic-returns-in-Ok-atomic : goal.type_names::atomic-returns-in-Ok-atomic
+type_names::atomic-returns-in-Ok-atomic t c = record {
+  found = atomic_found _ _ _ _ _ c.requires.opens c.in-Ok-atomic.ensures c.in-Ok.ensures.found;
+  only = λ u end h k.
+      let same = c.in-Ok.ensures.only u end h k in (
+        c.in-Ok-atomic.ensures
+            ∙ ap (λ x. Atomic_of c.args.at (c.args.at + 1) x c.in-Ok.found.1) same.0
+            ∙ ap (λ x. Atomic_of c.args.at (c.args.at + 1) u x) same.1,
+        ap (λ x. x + 1) same.1,
+      );
+}
+
+pub type_names::specifier-short_specifier-requires-clause-short : goal.type_names::specifier-short_specifier-requires-clause-short
+type_names::specifier-short_specifier-requires-clause-short t c = sym c.atomic_opens.ensures ∙ c.if-not-atomic_opens.true
+
+pub type_names::specifier-returns-in-Ok : goal.type_names::specifier-returns-in-Ok
+type_names::specifier-returns-in-Ok t c = record {
+  found = atomic_specified _ _ _ _ _ (sym c.atomic_opens.ensures ∙ c.if-not-atomic_opens.false) c.in-Ok.ensures.found;
+  fails = tt;
+}
+
+pub type_names::specifier-returns-in-Err : goal.type_names::specifier-returns-in-Err
+type_names::specifier-returns-in-Err t c = record {
+  found = tt;
+  fails = atomic_fails _ _ _ _ (sym c.atomic_opens.ensures ∙ c.if-not-atomic_opens.false) c.in-Err.ensures.only;
+}
+
+pub type_names::specifiers-returns-in-Ok-None : goal.type_names::specifiers-returns-in-Ok-None
+type_names::specifiers-returns-in-Ok-None t c = record {
+  found = specifiers_end _ _ _ _ _ c.specifiers.invariant;
+  only = specifiers_only _ _ _ _ _ c.specifiers.invariant (rw c.in-Ok-None.field-0-is at c.in-Ok-None.ensures.found);
+}
+
+pub type_names::specifiers-returns-in-Err : goal.type_names::specifiers-returns-in-Err
+type_names::specifiers-returns-in-Err t c = record {
+  found = tt;
+  only = specifiers_fail _ _ _ _ _ c.specifiers.invariant _ c.in-Err.ensures.fails;
+}
+
+pub type_names::specifiers-specifiers-preserved : goal.type_names::specifiers-specifiers-preserved
+type_names::specifiers-specifiers-preserved t c =
+    specifiers_push
+    _
+    _
+    _
+    _
+    _
+    _
+    _
+    _
+    _
+    c.specifiers.invariant
+    (rw c.in-Ok-Some.field-0-is at c.in-Ok-Some.ensures.found)
+    c.in-Ok.ensures.items
+
+pub type_names::type_name-returns-in-Err : goal.type_names::type_name-returns-in-Err
+type_names::type_name-returns-in-Err t c = record { found = tt; only = specifiers_missing _ _ _ c.in-Err.ensures.only }
+
+pub type_names::type_name-returns-then-is_empty : goal.type_names::type_name-returns-then-is_empty
+type_names::type_name-returns-then-is_empty t c = record {
+  found = tt;
+  only =
+      none_specifying
+      _
+      _
+      _
+      c.in-Ok.found.0.items
+      (ap (λ xs. length xs == 0) (sym c.as_slice.ensures.value) ∙ sym c.if-is_empty.ensures)
+      c.in-Ok.ensures.only;
+}
+
+pub type_names::type_name-returns-in-Ok-declarator : goal.type_names::type_name-returns-in-Ok-declarator
+type_names::type_name-returns-in-Ok-declarator t c =
+    let is = c.new-in-Ok-declarator.ensures ∙ ap (λ x. Type_of x (declarator_of c.in-Ok-declarator.declarator)) c.new.ensures in
+    record {
+      found =
+          subst
+          (λ x. FoundType c.args.kinds.now c.args.at x c.in-Ok-declarator.end)
+          (sym is)
+          (type_found
+          _
+          _
+          _
+          _
+          _
+          _
+          (some_specifying
+          c.in-Ok.found.0.items
+          (ap (λ xs. length xs == 0) (sym c.as_slice.ensures.value) ∙ sym c.if-is_empty.ensures))
+          c.in-Ok.ensures.found
+          c.in-Ok-declarator.ensures.found);
+      only = λ u end h e.
+          let same = name_only _ _ _ _ _ _ c.in-Ok.ensures.only c.in-Ok-declarator.ensures.only u end h e in
+          (is ∙ same.0, same.1);
+    }
+
+pub type_names::type_name-returns-in-Err-declarator : goal.type_names::type_name-returns-in-Err-declarator
+type_names::type_name-returns-in-Err-declarator t c = record {
+  found = tt;
+  only = declarator_missing _ _ _ _ c.in-Ok.ensures.only _ c.in-Err-declarator.ensures.only;
+}
+
+pub declarators::group-returns-in_default : goal.declarators::group-returns-in_default
+declarators::group-returns-in_default t c =
+    let only = no_group _ _ (λ k. absurd (c.in_default.not-OpenParen (c.kind_at.ensures.kind ∙ k))) in
+    record {
+      found =
+          subst
+          (λ x. FoundGrouping c.args.kinds.now c.args.at x c.args.at)
+          (sym c.none.ensures)
+          (record { reads = refl; forth = omega arith; inside = c.requires.inside });
+      only = λ g m ds end h i e. let same = only g m ds end h i e in (c.none.ensures ∙ same.0, same.1);
+    }
+
+pub declarators::group-returns-in-CloseParen : goal.declarators::group-returns-in-CloseParen
+declarators::group-returns-in-CloseParen t c =
+    let only = no_group _ _ (λ k. sym c.in-CloseParen.ensures.kind) in
+    record {
+      found =
+          subst
+          (λ x. FoundGrouping c.args.kinds.now c.args.at x c.args.at)
+          (sym c.none-in-CloseParen.ensures)
+          (record { reads = refl; forth = omega arith; inside = c.requires.inside });
+      only = λ g m ds end h i e. let same = only g m ds end h i e in (c.none-in-CloseParen.ensures ∙ same.0, same.1);
+    }
+
+pub declarators::group-returns-in-Err : goal.declarators::group-returns-in-Err
+declarators::group-returns-in-Err t c = record {
+  found = tt;
+  only =
+      group_fails
+      _
+      _
+      (sym c.in-OpenParen.ensures.kind)
+      (λ k. c.in_default-kind_at.not-CloseParen (c.kind_at-2.ensures.kind ∙ k))
+      _
+      c.in-Err.ensures.only;
+}
+
+pub declarators::group-returns-in_default-kind_at-2 : goal.declarators::group-returns-in_default-kind_at-2
+declarators::group-returns-in_default-kind_at-2 t c = record {
+  found = tt;
+  only =
+      group_left_open
+      _
+      _
+      (sym c.in-OpenParen.ensures.kind)
+      (λ k. c.in_default-kind_at.not-CloseParen (c.kind_at-2.ensures.kind ∙ k))
+      _
+      _
+      c.in-Ok.ensures.only
+      (λ k. c.in_default-kind_at-2.not-CloseParen (c.kind_at-3.ensures.kind ∙ k))
+      c.args.at;
+}
+
+pub declarators::group-returns-in-Ok-of : goal.declarators::group-returns-in-Ok-of
+declarators::group-returns-in-Ok-of t c =
+    let here = sym c.in-OpenParen.ensures.kind in
+    let only = group_same _ _ here (λ k. c.in_default-kind_at.not-CloseParen (c.kind_at-2.ensures.kind ∙ k)) _ _ c.in-Ok.ensures.only in
+    record {
+      found =
+          subst
+          (λ x. FoundGrouping c.args.kinds.now c.args.at x (c.in-Ok.found.1 + 1))
+          (sym c.in-Ok-of.ensures)
+          (group_found
+          _
+          _
+          here
+          (λ k. c.in_default-kind_at.not-CloseParen (c.kind_at-2.ensures.kind ∙ k))
+          _
+          _
+          c.in-Ok.ensures.found
+          (sym c.in-CloseParen-kind_at.ensures.kind)
+          c.in-CloseParen-kind_at.ensures.inside);
+      only = λ g m ds end h i e. let same = only g m ds end h i e in (c.in-Ok-of.ensures ∙ same.0, same.1);
+    }
+
+pub declarators::static_bound-returns-in-Err-level : goal.declarators::static_bound-returns-in-Err-level
+declarators::static_bound-returns-in-Err-level t c = record {
+  found = tt;
+  only = static_fails _ _ c.requires.kind _ _ c.in-Ok.ensures.found _ c.in-Err-level.ensures.only;
+}
+
+pub declarators::static_bound-returns-in-Ok-static_sized : goal.declarators::static_bound-returns-in-Ok-static_sized
+declarators::static_bound-returns-in-Ok-static_sized t c =
+    let only = static_same _ _ c.requires.kind _ _ c.in-Ok.ensures.found _ _ c.in-Ok-level.ensures.only in
+    record {
+      found =
+          subst
+          (λ x. FoundBound c.args.kinds.now c.args.at x c.in-Ok-level.found.1)
+          (sym c.in-Ok-static_sized.ensures)
+          (static_found _ _ c.requires.kind _ _ c.in-Ok.ensures.found _ _ c.in-Ok-level.ensures.found);
+      only = λ x end h e. let same = only x end h e in (c.in-Ok-static_sized.ensures ∙ same.0, same.1);
+    }
+
+pub declarators::bound_behind-returns-in-CloseBracket : goal.declarators::bound_behind-returns-in-CloseBracket
+declarators::bound_behind-returns-in-CloseBracket t c =
+    let only = unsized_same _ _ _ _ c.requires.found (sym c.in-CloseBracket.ensures.kind) in
+    record {
+      found =
+          subst
+          (λ x. FoundBound c.args.kinds.now c.args.at x c.args.behind)
+          (sym c.unsized_by.ensures)
+          (unsized_found _ _ _ _ c.requires.found);
+      only = λ x end h e. let same = only x end h e in (c.unsized_by.ensures ∙ same.0, same.1);
+    }
+
+pub declarators::bound_behind-returns-in-Err : goal.declarators::bound_behind-returns-in-Err
+declarators::bound_behind-returns-in-Err t c = record {
+  found = tt;
+  only =
+      last_static_fails _ _ c.requires.unstatic _ _ c.requires.found (sym c.in-Static.ensures.kind) _ c.in-Err.ensures.only;
+}
+
+pub declarators::bound_behind-returns-in-Ok-sized_static : goal.declarators::bound_behind-returns-in-Ok-sized_static
+declarators::bound_behind-returns-in-Ok-sized_static t c =
+    let here = sym c.in-Static.ensures.kind in
+    let only = last_static_same _ _ c.requires.unstatic _ _ c.requires.found here _ _ c.in-Ok.ensures.only in
+    record {
+      found =
+          subst
+          (λ x. FoundBound c.args.kinds.now c.args.at x c.in-Ok.found.1)
+          (sym c.in-Ok-sized_static.ensures)
+          (last_static_found _ _ c.requires.unstatic _ _ c.requires.found here _ _ c.in-Ok.ensures.found);
+      only = λ x end h e. let same = only x end h e in (c.in-Ok-sized_static.ensures ∙ same.0, same.1);
+    }
+
+pub declarators::bound_behind-returns-in-Err-level : goal.declarators::bound_behind-returns-in-Err-level
+declarators::bound_behind-returns-in-Err-level t c = record {
+  found = tt;
+  only =
+      sized_fails
+      _
+      _
+      c.requires.unstatic
+      _
+      _
+      c.requires.found
+      (record {
+        sized = λ k. c.in_default.not-CloseBracket (c.kind_at.ensures.kind ∙ k);
+        told = c.requires.told;
+        plain = λ k. c.in_default-kind_at.not-Static (c.kind_at-2.ensures.kind ∙ k);
+      })
+      _
+      c.in-Err-level.ensures.only;
+}
+
+pub declarators::bound_behind-returns-in-Ok-sized : goal.declarators::bound_behind-returns-in-Ok-sized
+declarators::bound_behind-returns-in-Ok-sized t c =
+    let only =
+    sized_same
+    _
+    _
+    c.requires.unstatic
+    _
+    _
+    c.requires.found
+    (record {
+      sized = λ k. c.in_default.not-CloseBracket (c.kind_at.ensures.kind ∙ k);
+      told = c.requires.told;
+      plain = λ k. c.in_default-kind_at.not-Static (c.kind_at-2.ensures.kind ∙ k);
+    })
+    _
+    _
+    c.in-Ok-level.ensures.only in
+    record {
+      found =
+          subst
+          (λ x. FoundBound c.args.kinds.now c.args.at x c.in-Ok-level.found.1)
+          (sym c.in-Ok-sized.ensures)
+          (sized_found _ _ _ _ c.requires.found _ _ c.in-Ok-level.ensures.found);
+      only = λ x end h e. let same = only x end h e in (c.in-Ok-sized.ensures ∙ same.0, same.1);
+    }
+
+pub declarators::bound-returns-then-any_size_at : goal.declarators::bound-returns-then-any_size_at
+declarators::bound-returns-then-any_size_at t c =
+    let told = sym c.any_size_at.ensures ∙ c.if-any_size_at.true in
+    let only = any_same _ _ told in
+    record {
+      found =
+          subst
+          (λ x. FoundBound c.args.kinds.now c.args.at x (c.args.at + 1))
+          (sym c.any_size.ensures)
+          (any_found _ _ told);
+      only = λ x end h e. let same = only x end h e in (c.any_size.ensures ∙ same.0, same.1);
+    }
+
+pub declarators::array-returns-in-Err : goal.declarators::array-returns-in-Err
+declarators::array-returns-in-Err t c = record { found = tt; only = array_fails _ _ c.requires.kind _ c.in-Err.ensures.only }
+
+pub declarators::array-returns-in_default : goal.declarators::array-returns-in_default
+declarators::array-returns-in_default t c = record {
+  found = tt;
+  only =
+      array_left_open
+      _
+      _
+      c.requires.kind
+      _
+      _
+      c.in-Ok.ensures.only
+      (λ k. c.in_default.not-CloseBracket (c.kind_at.ensures.kind ∙ k))
+      c.args.at;
+}
+
+pub declarators::array-returns : goal.declarators::array-returns
+declarators::array-returns t c =
+    let made =
+    subst
+    (λ x. FoundDeriving c.args.kinds.now c.args.at x (c.in-Ok.found.1 + 1))
+    (sym c.array.ensures)
+    (array_found
+    _
+    _
+    c.requires.kind
+    _
+    _
+    c.in-Ok.ensures.found
+    (sym c.in-CloseBracket.ensures.kind)
+    c.in-CloseBracket.ensures.inside) in
+    record { found = made; only = found_deriving_only _ _ _ _ made }
+
+pub declarators::array_or_function-returns-in_default : goal.declarators::array_or_function-returns-in_default
+declarators::array_or_function-returns-in_default t c = record {
+  found = tt;
+  only =
+      nothing_derives
+      _
+      _
+      _
+      c.kind_at.ensures.kind
+      c.requires.kind
+      c.in_default.not-OpenBracket
+      c.in_default.not-OpenParen
+      c.args.at;
+}
+
+pub declarators::derivings-returns-then-not-is_deriving : goal.declarators::derivings-returns-then-not-is_deriving
+declarators::derivings-returns-then-not-is_deriving t c = record {
+  found = derivings_found _ _ _ _ c.derivings.invariant;
+  only =
+      derivings_same
+      _
+      _
+      _
+      _
+      c.derivings.invariant
+      (ap is_deriving (sym c.kind_at.ensures.kind) ∙ sym c.is_deriving.ensures ∙ c.if-not-is_deriving.true);
+}
+
+pub declarators::derivings-returns-in-Err : goal.declarators::derivings-returns-in-Err
+declarators::derivings-returns-in-Err t c = record {
+  found = tt;
+  only =
+      derivings_fail
+      _
+      _
+      _
+      _
+      c.derivings.invariant
+      (ap is_deriving (sym c.kind_at.ensures.kind) ∙ sym c.is_deriving.ensures ∙ c.if-not-is_deriving.false)
+      _
+      c.in-Err.ensures.only;
+}
+
+pub declarators::derivings-derivings-preserved : goal.declarators::derivings-derivings-preserved
+declarators::derivings-derivings-preserved t c =
+    derivings_push
+    _
+    _
+    _
+    _
+    _
+    _
+    _
+    c.derivings.invariant
+    (ap is_deriving (sym c.kind_at.ensures.kind) ∙ sym c.is_deriving.ensures ∙ c.if-not-is_deriving.false)
+    c.in-Ok.ensures.found
+    c.in-Ok.ensures.only
+    c.in-Ok-push.ensures.items
+
+pub declarators::declarator-returns-in-Err-group : goal.declarators::declarator-returns-in-Err-group
+declarators::declarator-returns-in-Err-group t c = record {
+  found = tt;
+  only = group_missing _ _ _ _ c.in-Ok.ensures.found _ c.in-Err-group.ensures.only;
+}
+
+pub declarators::declarator-returns-in-Err-derivings : goal.declarators::declarator-returns-in-Err-derivings
+declarators::declarator-returns-in-Err-derivings t c = record {
+  found = tt;
+  only =
+      derivings_missing
+      _
+      _
+      _
+      _
+      c.in-Ok.ensures.found
+      _
+      _
+      c.in-Ok-group.ensures.only
+      _
+      c.in-Err-derivings.ensures.only;
+}
+
+pub declarators::declarator-returns-in-Ok-derivings : goal.declarators::declarator-returns-in-Ok-derivings
+declarators::declarator-returns-in-Ok-derivings t c =
+    let only =
+    declaring_same
+    _
+    _
+    _
+    _
+    c.in-Ok.ensures.found
+    _
+    _
+    c.in-Ok-group.ensures.only
+    _
+    _
+    c.in-Ok-derivings.ensures.only in
+    record {
+      found =
+          subst
+          (λ x. FoundDeclaring c.args.kinds.now c.args.at x c.in-Ok-derivings.end)
+          (sym c.new.ensures)
+          (declaring_found
+          _
+          _
+          _
+          _
+          c.in-Ok.ensures.found
+          _
+          _
+          c.in-Ok-group.ensures.found
+          _
+          _
+          c.in-Ok-derivings.ensures.found);
+      only = λ d end h e. let same = only d end h e in (c.new.ensures ∙ same.0, same.1);
+    }
+
+pub type_names::atomic-typed-requires : goal.type_names::atomic-typed-requires
+type_names::atomic-typed-requires t c =
+    let here : c.args.at + 1 < length c.args.kinds.now = opens_inside _ _ c.requires.opens in (
+      omega (arith, c.decreases, here),
+      (c.requires.size, (here, opens_next _ _ c.requires.opens)),
+    )
+
+pub before::cast-typed-requires : goal.before::cast-typed-requires
+before::cast-typed-requires t c =
+    let here : c.args.at < length c.args.kinds.now = type_inside _ _ c.requires.kind in (
+      omega (arith, c.decreases, here),
+      (c.requires.size, (here, type_opens _ _ c.requires.kind)),
+    )
+
+pub before::size-typed-requires : goal.before::size-typed-requires
+before::size-typed-requires t c =
+    let here : c.args.at + 1 < length c.args.kinds.now = size_inside _ _ c.requires.kind in (
+      omega (arith, c.decreases, here),
+      (c.requires.size, (here, type_opens _ _ (size_typed _ _ c.requires.kind))),
+    )

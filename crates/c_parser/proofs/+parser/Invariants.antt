@@ -1,10 +1,12 @@
 use Rattle.std.proofs.Common.{◌+◌, ◌-◌, ◌*◌, length}
-use Rattle.tree_data.specs.Seen.{operands_of, suffixes_of, choices_of, lefts_of, pieces_of, designators_of, associations_of}
+use Rattle.tree_data.specs.Seen.{operands_of, suffixes_of, choices_of, lefts_of, pieces_of, designators_of, associations_of, prefixes_of, specifiers_of, derivings_of}
 use Rattle.c_parser.specs.Beginnings.{start_of}
 use Rattle.c_parser.proofs.Fronts.{Fore}
 use Rattle.c_parser.proofs.Generics.{Choices, Steps}
 use Rattle.c_parser.proofs.Initials.{Row, Path}
 use Rattle.c_parser.proofs.Parsing.{Loop}
+use Rattle.c_parser.proofs.Abstract.{Derived}
+use Rattle.c_parser.proofs.SpecifierLists.{Specifiers}
 use Rattle.c_parser.proofs.+parser.Given as goal
 
 abbrev pub decreases-expressions::level : goal.decreases-expressions::level
@@ -138,3 +140,72 @@ invariant-selections::steps-steps l = Steps l.kinds l.fn.at (suffixes_of l.steps
 
 abbrev pub decreases-selections::steps-steps : goal.decreases-selections::steps-steps
 decreases-selections::steps-steps l = length l.kinds - l.end
+
+abbrev pub decreases-before::prefixes : goal.decreases-before::prefixes
+decreases-before::prefixes l = 64 * (length l.kinds.now - l.at) + 11
+
+abbrev pub decreases-before::in_front : goal.decreases-before::in_front
+decreases-before::in_front l = 64 * (length l.kinds.now - l.at) + 10
+
+abbrev pub decreases-before::cast : goal.decreases-before::cast
+decreases-before::cast l = 64 * (length l.kinds.now - l.at) + 9
+
+abbrev pub decreases-before::size : goal.decreases-before::size
+decreases-before::size l = 64 * (length l.kinds.now - l.at) + 9
+
+abbrev pub decreases-before::typed : goal.decreases-before::typed
+decreases-before::typed l = 64 * (length l.kinds.now - l.at) + 8
+
+abbrev pub invariant-before::prefixes-prefixes : goal.invariant-before::prefixes-prefixes
+invariant-before::prefixes-prefixes l = Fore l.kinds 15 l.fn.at (prefixes_of l.prefixes.items) l.end
+
+abbrev pub decreases-before::prefixes-prefixes : goal.decreases-before::prefixes-prefixes
+decreases-before::prefixes-prefixes l = length l.kinds - l.end
+
+abbrev pub invariant-type_names::specifiers-specifiers : goal.invariant-type_names::specifiers-specifiers
+invariant-type_names::specifiers-specifiers l = Specifiers l.kinds l.fn.at (specifiers_of l.specifiers.items) l.end l.typed
+
+abbrev pub decreases-type_names::specifiers-specifiers : goal.decreases-type_names::specifiers-specifiers
+decreases-type_names::specifiers-specifiers l = length l.kinds - l.end
+
+abbrev pub invariant-declarators::derivings-derivings : goal.invariant-declarators::derivings-derivings
+invariant-declarators::derivings-derivings l = Derived l.kinds l.fn.at (derivings_of l.derivings.items) l.end
+
+abbrev pub decreases-declarators::derivings-derivings : goal.decreases-declarators::derivings-derivings
+decreases-declarators::derivings-derivings l = length l.kinds - l.end
+
+abbrev pub decreases-type_names::type_name : goal.decreases-type_names::type_name
+decreases-type_names::type_name l = 64 * (length l.kinds.now - l.at) + 44
+
+abbrev pub decreases-type_names::specifiers : goal.decreases-type_names::specifiers
+decreases-type_names::specifiers l = 64 * (length l.kinds.now - l.at) + 43
+
+abbrev pub decreases-type_names::specifier : goal.decreases-type_names::specifier
+decreases-type_names::specifier l = 64 * (length l.kinds.now - l.at) + 42
+
+abbrev pub decreases-type_names::atomic : goal.decreases-type_names::atomic
+decreases-type_names::atomic l = 64 * (length l.kinds.now - l.at) + 41
+
+abbrev pub decreases-declarators::declarator : goal.decreases-declarators::declarator
+decreases-declarators::declarator l = 64 * (length l.kinds.now - l.at) + 40
+
+abbrev pub decreases-declarators::group : goal.decreases-declarators::group
+decreases-declarators::group l = 64 * (length l.kinds.now - l.at) + 39
+
+abbrev pub decreases-declarators::derivings : goal.decreases-declarators::derivings
+decreases-declarators::derivings l = 64 * (length l.kinds.now - l.at) + 39
+
+abbrev pub decreases-declarators::array_or_function : goal.decreases-declarators::array_or_function
+decreases-declarators::array_or_function l = 64 * (length l.kinds.now - l.at) + 38
+
+abbrev pub decreases-declarators::array : goal.decreases-declarators::array
+decreases-declarators::array l = 64 * (length l.kinds.now - l.at) + 37
+
+abbrev pub decreases-declarators::bound : goal.decreases-declarators::bound
+decreases-declarators::bound l = 64 * (length l.kinds.now - l.at) + 41
+
+abbrev pub decreases-declarators::static_bound : goal.decreases-declarators::static_bound
+decreases-declarators::static_bound l = 64 * (length l.kinds.now - l.at) + 40
+
+abbrev pub decreases-declarators::bound_behind : goal.decreases-declarators::bound_behind
+decreases-declarators::bound_behind l = 64 * (length l.kinds.now - l.behind) + 40

@@ -1,5 +1,5 @@
-use Rattle.std.proofs.Common.{ap, ◌∙◌, subst}
-use Rattle.tree_data.specs.Types.{type_of}
+use Rattle.std.proofs.Common.{ap, sym, ◌∙◌, subst}
+use Rattle.tree_data.specs.Seen.{type_of}
 use Rattle.c_parser.specs.Brackets.{too_deep}
 use Rattle.c_parser.specs.Tokens.{kinds_of}
 use Rattle.c_parser.specs.TypeMeaning.{IsTypeMeaning, IsTypeCause}
@@ -12,13 +12,16 @@ returns-in-Err-clause-cause c = deep_type_cause (kinds_of c.args.names.now c.arg
 pub returns-in-Ok-whole_type-clause-meaning : goal.returns-in-Ok-whole_type-clause-meaning
 returns-in-Ok-whole_type-clause-meaning c =
     subst
+    (λ t. IsTypeMeaning (kinds_of c.args.names.now c.args.tokens.now) t)
+    (sym c.into_parts.ensures)
+    (subst
     (λ ks. IsTypeMeaning ks (type_of c.in-Ok-whole_type.name))
     (c.as_slice.ensures.value ∙ c.in-Ok.ensures.kinds)
     (is_type_meaning
     c.as_slice.result.now
     (type_of c.in-Ok-whole_type.name)
     (ap too_deep c.as_slice.ensures.value ∙ c.in-Ok.ensures.shallow)
-    c.in-Ok-whole_type.ensures.found)
+    c.in-Ok-whole_type.ensures.found))
 
 pub returns-clause-cause : goal.returns-clause-cause
 returns-clause-cause c =

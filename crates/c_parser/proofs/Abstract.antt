@@ -1,0 +1,460 @@
+-- Abstract declarators, as the code reads their parts one behind another.
+use Rattle.std.proofs.Common.{◌≡◌, refl, ap, sym, ◌∙◌, subst, ℕ, zero, suc, ◌+◌, ◌<◌, ◌≤◌, List, [], ◌∷◌, ◌++◌, length, arith, Bool, true, false, true≢false, ◌&&◌}
+use Rattle.std.proofs.lemmas.List.{map-append}
+use Rattle.tree_data.specs.declared.types.Deriving as code
+use Rattle.tree_data.specs.Seen.{deriving_of, derivings_of}
+use Rattle.tree_data.specs.Trees.{Tree, Declaring, Declaring_of, Grouping, No_group, Group_of, Deriving, Array_of, Function_of, Derivings, No_derivings, Deriving_then, derivings, Bound, Unsized_of, Any_size_of, Sized_of, Static_sized_of, Sized_static_of}
+use Rattle.c_parser.specs.declared.answers.Stop.{Stop}
+use Rattle.c_parser.specs.declared.answers.Stop.TheVariants as stop
+use Rattle.c_parser.specs.declared.kinds.Kind.{Kind}
+use Rattle.c_parser.specs.declared.kinds.Kind.TheVariants.{OpenParen, CloseParen, OpenBracket, CloseBracket, Star, Static}
+use Rattle.c_parser.specs.Declarators.{AreThere, IsAbstract}
+use Rattle.c_parser.specs.Kinds.{kind_at, ends_type, is_deriving, any_size_at, is_star, is_closing_bracket}
+use Rattle.c_parser.specs.Reading.{HoldQualifiers, HoldPointers, HoldsDeclaring, HoldsGrouping, HoldsDeriving, HoldDerivings, HoldsBound, Reads, Found, IsWant}
+use Rattle.c_parser.specs.TypeNames.{FoundQualifiers, FoundPointers, FoundDeclaring, FoundGrouping, FoundDeriving, FoundDerivings, FoundBound}
+use Rattle.c_parser.proofs.Marks.{clash, stops_at}
+use Rattle.c_parser.proofs.OneReading.{Only}
+use Rattle.c_parser.proofs.Parsing.{Fails}
+use Rattle.c_parser.proofs.TypeReading.{everywhere, Bounding, first_static, first_others, Behind, nothing, a_star, a_size, a_static, bound_view, bound_only, no_start, no_star, no_qualifier, grouping_begins, closes_next, abstract_begins, deriving_only}
+use Rattle.c_parser.proofs.Types.{between, pointers_only, qualifiers_only}
+use Rattle.c_parser.proofs.Views.{starts}
+use Rattle.c_parser.proofs.Words.{left_of, right_of}
+
+-- what a call has for all that stand there, where it read something and where it stopped
+abbrev pub OnlyDeclaring : List Kind → ℕ → Declaring → ℕ → Type 0
+OnlyDeclaring ks a d c = (d' : Declaring) → (c' : ℕ) → HoldsDeclaring ks d' a c' → ends_type (kind_at ks c') ≡ true → (d ≡ d') × (c ≡ c')
+
+abbrev pub FailsDeclaring : List Kind → ℕ → Stop → Type 0
+FailsDeclaring ks a e = (d : Declaring) → (c : ℕ) → HoldsDeclaring ks d a c → ends_type (kind_at ks c) ≡ true → IsWant e
+
+abbrev pub OnlyGrouping : List Kind → ℕ → Grouping → ℕ → Type 0
+OnlyGrouping ks a g m =
+    (g' : Grouping) → (m' : ℕ) → (ds : Derivings) → (c : ℕ) → HoldsGrouping ks g' a m' → HoldDerivings ks ds m' c
+    → ends_type (kind_at ks c) ≡ true → (g ≡ g') × (m ≡ m')
+
+abbrev pub FailsGrouping : List Kind → ℕ → Stop → Type 0
+FailsGrouping ks a e =
+    (g : Grouping) → (m : ℕ) → (ds : Derivings) → (c : ℕ) → HoldsGrouping ks g a m → HoldDerivings ks ds m c
+    → ends_type (kind_at ks c) ≡ true → IsWant e
+
+abbrev pub OnlyDerivings : List Kind → ℕ → Derivings → ℕ → Type 0
+OnlyDerivings ks a ds c = (ds' : Derivings) → (c' : ℕ) → HoldDerivings ks ds' a c' → ends_type (kind_at ks c') ≡ true → (ds ≡ ds') × (c ≡ c')
+
+abbrev pub FailsDerivings : List Kind → ℕ → Stop → Type 0
+FailsDerivings ks a e = (ds : Derivings) → (c : ℕ) → HoldDerivings ks ds a c → ends_type (kind_at ks c) ≡ true → IsWant e
+
+abbrev pub OnlyDeriving : List Kind → ℕ → Deriving → ℕ → Type 0
+OnlyDeriving ks a d c = (d' : Deriving) → (c' : ℕ) → HoldsDeriving ks d' a c' → (d ≡ d') × (c ≡ c')
+
+abbrev pub FailsDeriving : List Kind → ℕ → Stop → Type 0
+FailsDeriving ks a e = (d : Deriving) → (c : ℕ) → HoldsDeriving ks d a c → IsWant e
+
+abbrev pub OnlyBound : List Kind → ℕ → Bound → ℕ → Type 0
+OnlyBound ks a x c = (x' : Bound) → (c' : ℕ) → HoldsBound ks x' a c' → kind_at ks c' ≡ CloseBracket → (x ≡ x') × (c ≡ c')
+
+abbrev pub FailsBound : List Kind → ℕ → Stop → Type 0
+FailsBound ks a e = (x : Bound) → (c : ℕ) → HoldsBound ks x a c → kind_at ks c ≡ CloseBracket → IsWant e
+
+-- a declarator
+pointers_same : (ks : List Kind) → (a : ℕ) → (ps : List (ℕ × List ℕ)) → (m : ℕ) → FoundPointers ks a ps m → (ps' : List (ℕ × List ℕ)) → (m' : ℕ)
+    → HoldPointers ks ps' a m' → (g : Grouping) → (ds : Derivings) → (n c : ℕ) → HoldsGrouping ks g m' n → HoldDerivings ks ds n c
+    → ends_type (kind_at ks c) ≡ true → (ps ≡ ps') × (m ≡ m')
+pointers_same ks a ps m x ps' m' h g ds n c i j e =
+    let begun = grouping_begins ks g ds m' n c i j e in
+    let free = no_qualifier ks m' begun in
+    pointers_only ks ps a m x.reads x.no_more (x.unqualified (between ks ps' a m' h free)) ps' m' h (no_star ks m' begun) free
+
+pub group_missing : (ks : List Kind) → (a : ℕ) → (ps : List (ℕ × List ℕ)) → (m : ℕ) → FoundPointers ks a ps m → (e : Stop) → FailsGrouping ks m e
+    → FailsDeclaring ks a e
+group_missing ks a ps m x e fails (Declaring_of ps' g ds) c h f =
+    let same = pointers_same ks a ps m x ps' h.0 h.2 g ds h.1 c h.3 h.4 f in
+    fails g h.1 ds c (subst (λ y. HoldsGrouping ks g y h.1) (sym same.1) h.3) h.4 f
+
+pub derivings_missing : (ks : List Kind) → (a : ℕ) → (ps : List (ℕ × List ℕ)) → (m : ℕ) → FoundPointers ks a ps m → (g : Grouping) → (n : ℕ)
+    → OnlyGrouping ks m g n → (e : Stop) → FailsDerivings ks n e → FailsDeclaring ks a e
+derivings_missing ks a ps m x g n only e fails (Declaring_of ps' g' ds) c h f =
+    let same = pointers_same ks a ps m x ps' h.0 h.2 g' ds h.1 c h.3 h.4 f in
+    let more = only g' h.1 ds c (subst (λ y. HoldsGrouping ks g' y h.1) (sym same.1) h.3) h.4 f in
+    fails ds c (subst (λ y. HoldDerivings ks ds y c) (sym more.1) h.4) f
+
+pub declaring_found : (ks : List Kind) → (a : ℕ) → (ps : List (ℕ × List ℕ)) → (m : ℕ) → FoundPointers ks a ps m → (g : Grouping) → (n : ℕ)
+    → FoundGrouping ks m g n → (ds : Derivings) → (b : ℕ) → FoundDerivings ks n ds b → FoundDeclaring ks a (Declaring_of ps g ds) b
+declaring_found ks a ps m x g n y ds b z =
+    let one : a ≤ m = x.forth in
+    let two : m ≤ n = y.forth in
+    let three : n ≤ b = z.forth in
+    record { reads = (m, n, x.reads, y.reads, z.reads); forth = omega arith; inside = z.inside }
+
+pub declaring_same : (ks : List Kind) → (a : ℕ) → (ps : List (ℕ × List ℕ)) → (m : ℕ) → FoundPointers ks a ps m → (g : Grouping) → (n : ℕ)
+    → OnlyGrouping ks m g n → (ds : Derivings) → (b : ℕ) → OnlyDerivings ks n ds b → OnlyDeclaring ks a (Declaring_of ps g ds) b
+declaring_same ks a ps m x g n y ds b z (Declaring_of ps' g' ds') c h f =
+    let one = pointers_same ks a ps m x ps' h.0 h.2 g' ds' h.1 c h.3 h.4 f in
+    let two = y g' h.1 ds' c (subst (λ k. HoldsGrouping ks g' k h.1) (sym one.1) h.3) h.4 f in
+    let three = z ds' c (subst (λ k. HoldDerivings ks ds' k c) (sym two.1) h.4) f in (
+      ap (λ k. Declaring_of k g ds) one.0 ∙ ap (λ k. Declaring_of ps' k ds) two.0 ∙ ap (λ k. Declaring_of ps' g' k) three.0,
+      three.1,
+    )
+
+-- a group
+pub no_group : (ks : List Kind) → (a : ℕ) → (kind_at ks a ≡ OpenParen → kind_at ks (a + 1) ≡ CloseParen) → OnlyGrouping ks a No_group a
+no_group ks a k No_group m ds c h i f = (refl, sym h)
+no_group ks a k (Group_of o d e) m ds c h i f = absurd (abstract_begins ks d (a + 1) e h.2 h.3 (k h.1))
+
+pub group_fails : (ks : List Kind) → (a : ℕ) → kind_at ks a ≡ OpenParen → (kind_at ks (a + 1) ≡ CloseParen → ⊥) → (e : Stop)
+    → FailsDeclaring ks (a + 1) e → FailsGrouping ks a e
+group_fails ks a k n e fails No_group m ds c h i f =
+    absurd (n (closes_next ks ds a c (subst (λ x. HoldDerivings ks ds x c) h i) f k))
+group_fails ks a k n e fails (Group_of o d b) m ds c h i f = fails d b h.3 (ap ends_type h.4)
+
+pub group_left_open : (ks : List Kind) → (a : ℕ) → kind_at ks a ≡ OpenParen → (kind_at ks (a + 1) ≡ CloseParen → ⊥) → (d : Declaring) → (b : ℕ)
+    → OnlyDeclaring ks (a + 1) d b → (kind_at ks b ≡ CloseParen → ⊥) → (n : ℕ) → FailsGrouping ks a (stop.Syntax n)
+group_left_open ks a k n d b only u at No_group m ds c h i f =
+    absurd (n (closes_next ks ds a c (subst (λ x. HoldDerivings ks ds x c) h i) f k))
+group_left_open ks a k n d b only u at (Group_of o d' b') m ds c h i f =
+    u (ap (λ x. kind_at ks x) (only d' b' h.3 (ap ends_type h.4)).1 ∙ h.4)
+
+abstract_by : (ks : List Kind) → (d : Declaring) → (a c : ℕ) → HoldsDeclaring ks d a c → kind_at ks c ≡ CloseParen → (kind_at ks a ≡ CloseParen → ⊥)
+    → IsAbstract d
+abstract_by ks (Declaring_of (p ∷ ps) g ds) a c h e n = tt
+abstract_by ks (Declaring_of [] (Group_of o d b) ds) a c h e n = tt
+abstract_by ks (Declaring_of [] No_group (Deriving_then d ds)) a c h e n = tt
+abstract_by ks (Declaring_of [] No_group No_derivings) a c h e n = n (ap (λ x. kind_at ks x) (sym (h.4 ∙ h.3 ∙ h.2)) ∙ e)
+
+pub group_found : (ks : List Kind) → (a : ℕ) → kind_at ks a ≡ OpenParen → (kind_at ks (a + 1) ≡ CloseParen → ⊥) → (d : Declaring) → (b : ℕ)
+    → FoundDeclaring ks (a + 1) d b → kind_at ks b ≡ CloseParen → b < length ks → FoundGrouping ks a (Group_of a d b) (b + 1)
+group_found ks a k n d b found l i =
+    let one : a + 1 ≤ b = found.forth in
+    record {
+      reads = (refl, k, abstract_by ks d (a + 1) b found.reads l n, found.reads, l, refl);
+      forth = omega arith;
+      inside = omega arith;
+    }
+
+pub group_same : (ks : List Kind) → (a : ℕ) → kind_at ks a ≡ OpenParen → (kind_at ks (a + 1) ≡ CloseParen → ⊥) → (d : Declaring) → (b : ℕ)
+    → OnlyDeclaring ks (a + 1) d b → OnlyGrouping ks a (Group_of a d b) (b + 1)
+group_same ks a k n d b only No_group m ds c h i f =
+    absurd (n (closes_next ks ds a c (subst (λ x. HoldDerivings ks ds x c) h i) f k))
+group_same ks a k n d b only (Group_of o d' b') m ds c h i f =
+    let same = only d' b' h.3 (ap ends_type h.4) in (
+      ap (λ x. Group_of x d b) (sym h.0) ∙ ap (λ x. Group_of o x b) same.0 ∙ ap (λ x. Group_of o d' x) same.1,
+      ap (λ x. x + 1) same.1 ∙ sym h.5,
+    )
+
+-- functions and arrays
+pub function_found : (ks : List Kind) → (a : ℕ) → kind_at ks a ≡ OpenParen → kind_at ks (a + 1) ≡ CloseParen → a + 1 < length ks
+    → FoundDeriving ks a (Function_of a (a + 1)) (a + 2)
+function_found ks a k l i =
+    let two : a + 2 ≡ (a + 1) + 1 = omega arith in
+    record { reads = (refl, k, refl, l, two); forth = omega arith; inside = omega arith }
+
+pub found_deriving_only : (ks : List Kind) → (a : ℕ) → (d : Deriving) → (b : ℕ) → FoundDeriving ks a d b → OnlyDeriving ks a d b
+found_deriving_only ks a d b found = deriving_only ks d a b (everywhere ks a) found.reads
+
+pub function_left_open : (ks : List Kind) → (a : ℕ) → kind_at ks a ≡ OpenParen → (kind_at ks (a + 1) ≡ CloseParen → ⊥) → (n : ℕ)
+    → FailsDeriving ks a (stop.Syntax n)
+function_left_open ks a k u n (Array_of o x c) b h = clash (kind_at ks a) OpenBracket OpenParen h.1 k (λ y. omega (arith, y))
+function_left_open ks a k u n (Function_of o c) b h = u (ap (λ x. kind_at ks x) (sym h.2) ∙ h.3)
+
+pub array_fails : (ks : List Kind) → (a : ℕ) → kind_at ks a ≡ OpenBracket → (e : Stop) → FailsBound ks (a + 1) e → FailsDeriving ks a e
+array_fails ks a k e fails (Array_of o x c) b h = fails x c h.2 h.3
+array_fails ks a k e fails (Function_of o c) b h = clash (kind_at ks a) OpenBracket OpenParen k h.1 (λ y. omega (arith, y))
+
+pub array_left_open : (ks : List Kind) → (a : ℕ) → kind_at ks a ≡ OpenBracket → (x : Bound) → (c : ℕ) → OnlyBound ks (a + 1) x c
+    → (kind_at ks c ≡ CloseBracket → ⊥) → (n : ℕ) → FailsDeriving ks a (stop.Syntax n)
+array_left_open ks a k x c only u n (Array_of o x' c') b h = u (ap (λ y. kind_at ks y) (only x' c' h.2 h.3).1 ∙ h.3)
+array_left_open ks a k x c only u n (Function_of o c') b h = clash (kind_at ks a) OpenBracket OpenParen k h.1 (λ y. omega (arith, y))
+
+pub array_found : (ks : List Kind) → (a : ℕ) → kind_at ks a ≡ OpenBracket → (x : Bound) → (c : ℕ) → FoundBound ks (a + 1) x c
+    → kind_at ks c ≡ CloseBracket → c < length ks → FoundDeriving ks a (Array_of a x c) (c + 1)
+array_found ks a k x c found l i =
+    let one : a + 1 ≤ c = found.forth in
+    record { reads = (refl, k, found.reads, l, refl); forth = omega arith; inside = omega arith }
+
+derives_by : (k : Kind) → is_deriving k ≡ true → (k ≡ OpenBracket → ⊥) → (k ≡ OpenParen → ⊥) → ⊥
+derives_by OpenBracket h u v = u refl
+derives_by OpenParen h u v = v refl
+derives_by _ h u v = true≢false (sym h)
+
+pub nothing_derives : (ks : List Kind) → (a : ℕ) → (k : Kind) → k ≡ kind_at ks a → is_deriving (kind_at ks a) ≡ true → (k ≡ OpenBracket → ⊥)
+    → (k ≡ OpenParen → ⊥) → (n : ℕ) → FailsDeriving ks a (stop.Syntax n)
+nothing_derives ks a k e h u v n d c g = derives_by (kind_at ks a) h (λ x. u (e ∙ x)) (λ x. v (e ∙ x))
+
+-- the loop over them
+derivings_snoc : (done : List Deriving) → (d : Deriving) → (more : Derivings) → derivings (done ++ d ∷ []) more ≡ derivings done (Deriving_then d more)
+derivings_snoc [] d more = refl
+derivings_snoc (x ∷ xs) d more = ap (Deriving_then x) (derivings_snoc xs d more)
+
+pub record DerivingsLeft (ks : List Kind) (done : List Deriving) (at : ℕ) (ds : Derivings) (m : ℕ) : Type 0 where
+  pub left : Derivings
+  pub is : ds ≡ derivings done left
+  pub holds : HoldDerivings ks left at m
+
+pub record Derived (ks : List Kind) (start : ℕ) (done : List Deriving) (at : ℕ) : Type 0 where
+  pub grows : (ds : Derivings) → (b : ℕ) → HoldDerivings ks ds at b → HoldDerivings ks (derivings done ds) start b
+  pub only : (ds : Derivings) → (b : ℕ) → HoldDerivings ks ds start b → ends_type (kind_at ks b) ≡ true → DerivingsLeft ks done at ds b
+  pub forth : start ≤ at
+  pub inside : at ≤ length ks
+
+pub derived_start : (ks : List Kind) → (at : ℕ) → at ≤ length ks → Derived ks at [] at
+derived_start ks at i = record {
+  grows = λ ds b h. h;
+  only = λ ds b h e. record { left = ds; is = refl; holds = h };
+  forth = omega arith;
+  inside = i;
+}
+
+begins_deriving : (ks : List Kind) → (d : Deriving) → (a b : ℕ) → HoldsDeriving ks d a b → is_deriving (kind_at ks a) ≡ true
+begins_deriving ks (Array_of o x c) a b h = ap is_deriving h.1
+begins_deriving ks (Function_of o c) a b h = ap is_deriving h.1
+
+ends_derives_not : {A : Type 0} → (k : Kind) → is_deriving k ≡ true → ends_type k ≡ true → A
+ends_derives_not OpenBracket h e = absurd (true≢false (sym e))
+ends_derives_not OpenParen h e = absurd (true≢false (sym e))
+ends_derives_not _ h e = absurd (true≢false (sym h))
+
+left_turns : (ks : List Kind) → (done : List Deriving) → (at : ℕ) → is_deriving (kind_at ks at) ≡ true → (d : Deriving) → (k : ℕ) → OnlyDeriving ks at d k
+    → (ds left : Derivings) → (m : ℕ) → ds ≡ derivings done left → HoldDerivings ks left at m → ends_type (kind_at ks m) ≡ true
+    → DerivingsLeft ks (done ++ d ∷ []) k ds m
+left_turns ks done at i d k only ds No_derivings m is h e =
+    ends_derives_not (kind_at ks at) i (ap (λ x. ends_type (kind_at ks x)) (sym h) ∙ e)
+left_turns ks done at i d k only ds (Deriving_then d' left) m is h e =
+    let one = only d' h.0 h.1 in
+    record {
+      left = left;
+      is = is ∙ ap (λ x. derivings done (Deriving_then x left)) (sym one.0) ∙ sym (derivings_snoc done d left);
+      holds = subst (λ x. HoldDerivings ks left x m) (sym one.1) h.2;
+    }
+
+derived_turn : (ks : List Kind) → (start : ℕ) → (done : List Deriving) → (at : ℕ) → (d : Deriving) → (m : ℕ) → Derived ks start done at
+    → is_deriving (kind_at ks at) ≡ true → FoundDeriving ks at d m → OnlyDeriving ks at d m → Derived ks start (done ++ d ∷ []) m
+derived_turn ks start done at d m loop i found only =
+    let one : start ≤ at = loop.forth in
+    let two : at < m = found.forth in
+    record {
+      grows = λ ds b h.
+          subst
+          (λ xs. HoldDerivings ks xs start b)
+          (sym (derivings_snoc done d ds))
+          (loop.grows (Deriving_then d ds) b (m, found.reads, h));
+      only = λ ds b h e.
+          let a = loop.only ds b h e in
+          left_turns ks done at i d m only ds a.left b a.is a.holds e;
+      forth = omega arith;
+      inside = found.inside;
+    }
+
+pub derivings_push : (ks : List Kind) → (start : ℕ) → (items more : List code.Deriving) → (at : ℕ) → (d : code.Deriving) → (m : ℕ)
+    → Derived ks start (derivings_of items) at → is_deriving (kind_at ks at) ≡ true → FoundDeriving ks at (deriving_of d) m
+    → OnlyDeriving ks at (deriving_of d) m → more ≡ items ++ d ∷ [] → Derived ks start (derivings_of more) m
+derivings_push ks start items more at d m loop i found only grown =
+    subst
+    (λ xs. Derived ks start xs m)
+    (sym (ap derivings_of grown ∙ map-append deriving_of items (d ∷ [])))
+    (derived_turn ks start (derivings_of items) at (deriving_of d) m loop i found only)
+
+pub derivings_found : (ks : List Kind) → (start : ℕ) → (done : List Deriving) → (at : ℕ) → Derived ks start done at
+    → FoundDerivings ks start (derivings done No_derivings) at
+derivings_found ks start done at loop =
+    record { reads = loop.grows No_derivings at refl; forth = loop.forth; inside = loop.inside }
+
+none_left : (ks : List Kind) → (done : List Deriving) → (at : ℕ) → is_deriving (kind_at ks at) ≡ false → (ds left : Derivings) → (m : ℕ)
+    → ds ≡ derivings done left → HoldDerivings ks left at m → (derivings done No_derivings ≡ ds) × (at ≡ m)
+none_left ks done at n ds No_derivings m is h = (sym is, sym h)
+none_left ks done at n ds (Deriving_then d left) m is h = absurd (true≢false (sym (begins_deriving ks d at h.0 h.1) ∙ n))
+
+pub derivings_same : (ks : List Kind) → (start : ℕ) → (done : List Deriving) → (at : ℕ) → Derived ks start done at → is_deriving (kind_at ks at) ≡ false
+    → OnlyDerivings ks start (derivings done No_derivings) at
+derivings_same ks start done at loop n ds m h e =
+    let a = loop.only ds m h e in
+    none_left ks done at n ds a.left m a.is a.holds
+
+stop_left : (ks : List Kind) → (at : ℕ) → is_deriving (kind_at ks at) ≡ true → (e : Stop) → FailsDeriving ks at e → (left : Derivings) → (m : ℕ)
+    → HoldDerivings ks left at m → ends_type (kind_at ks m) ≡ true → IsWant e
+stop_left ks at i e fails No_derivings m h f = ends_derives_not (kind_at ks at) i (ap (λ x. ends_type (kind_at ks x)) (sym h) ∙ f)
+stop_left ks at i e fails (Deriving_then d left) m h f = fails d h.0 h.1
+
+pub derivings_fail : (ks : List Kind) → (start : ℕ) → (done : List Deriving) → (at : ℕ) → Derived ks start done at → is_deriving (kind_at ks at) ≡ true
+    → (e : Stop) → FailsDeriving ks at e → FailsDerivings ks start e
+derivings_fail ks start done at loop i e fails ds m h f =
+    let a = loop.only ds m h f in
+    stop_left ks at i e fails a.left m a.holds f
+
+-- what stands in the brackets
+star_is : (k : Kind) → is_star k ≡ true → k ≡ Star
+star_is Star h = refl
+star_is _ h = absurd (true≢false (sym h))
+
+bracket_is : (k : Kind) → is_closing_bracket k ≡ true → k ≡ CloseBracket
+bracket_is CloseBracket h = refl
+bracket_is _ h = absurd (true≢false (sym h))
+
+any_star : (ks : List Kind) → (a : ℕ) → any_size_at ks a ≡ true → kind_at ks a ≡ Star
+unfolding any_size_at
+any_star ks a h = star_is (kind_at ks a) (left_of (is_star (kind_at ks a)) (is_closing_bracket (kind_at ks (a + 1))) h)
+
+any_closes : (ks : List Kind) → (a : ℕ) → any_size_at ks a ≡ true → kind_at ks (a + 1) ≡ CloseBracket
+unfolding any_size_at
+any_closes ks a h = bracket_is (kind_at ks (a + 1)) (right_of (is_star (kind_at ks a)) (is_closing_bracket (kind_at ks (a + 1))) h)
+
+both_true : (p q : Bool) → p ≡ true → q ≡ true → (p && q) ≡ true
+both_true true q h g = g
+both_true false q h g = absurd (true≢false (sym h))
+
+any_both : (ks : List Kind) → (a : ℕ) → kind_at ks a ≡ Star → kind_at ks (a + 1) ≡ CloseBracket → any_size_at ks a ≡ true
+unfolding any_size_at
+any_both ks a k l =
+    both_true (is_star (kind_at ks a)) (is_closing_bracket (kind_at ks (a + 1))) (ap is_star k) (ap is_closing_bracket l)
+
+star_inside : (ks : List Kind) → (a : ℕ) → is_star (kind_at ks a) ≡ true → a < length ks
+star_inside [] a h = absurd (true≢false (sym h))
+star_inside (k ∷ ks) zero h = omega arith
+star_inside (k ∷ ks) (suc a) h = omega (arith, star_inside ks a h)
+
+pub any_found : (ks : List Kind) → (a : ℕ) → any_size_at ks a ≡ true → FoundBound ks a (Any_size_of a) (a + 1)
+any_found ks a h =
+    let here : a < length ks = star_inside ks a (ap is_star (any_star ks a h)) in
+    record { reads = (refl, any_star ks a h, refl); forth = omega arith; inside = omega arith }
+
+pub any_same : (ks : List Kind) → (a : ℕ) → any_size_at ks a ≡ true → OnlyBound ks a (Any_size_of a) (a + 1)
+any_same ks a h = bound_only ks (Any_size_of a) a (a + 1) (everywhere ks a) (refl, any_star ks a h, refl) (any_closes ks a h)
+
+-- with `static` first
+pub static_found : (ks : List Kind) → (a : ℕ) → kind_at ks a ≡ Static → (ns : List ℕ) → (k : ℕ) → FoundQualifiers ks (a + 1) ns k → (t : Tree) → (c : ℕ)
+    → Found ks 2 k t c → FoundBound ks a (Static_sized_of a ns t) c
+static_found ks a s ns k x t c y =
+    let one : a + 1 ≤ k = x.forth in
+    let two : k < c = y.forth in
+    record { reads = (k, refl, s, x.reads, y.reads.0, y.reads.1); forth = omega arith; inside = y.inside }
+
+static_by : (ks : List Kind) → (a : ℕ) → kind_at ks a ≡ Static → (ns : List ℕ) → (k : ℕ) → FoundQualifiers ks (a + 1) ns k → (t : Tree) → (c : ℕ)
+    → Only ks 2 k t c → (x' : Bound) → (c' : ℕ) → kind_at ks c' ≡ CloseBracket → Bounding ks x' a c' → (Static_sized_of a ns t ≡ x') × (c ≡ c')
+static_by ks a s ns k x t c only x' c' e (first_static ns' k' t' i s' h n r) =
+    let one = qualifiers_only ks ns (a + 1) k x.reads x.no_more ns' k' h n in
+    let two = only t' c' (subst (λ y. Reads ks 2 t' y c') (sym one.1) r) (stops_at ks 2 c' CloseBracket e (omega arith)) in
+    (ap (λ y. Static_sized_of a y t) one.0 ∙ ap (λ y. Static_sized_of a ns' y) two.0 ∙ sym i, two.1)
+static_by ks a s ns k x t c only x' c' e (first_others ns' k' h n u v) = absurd (u s)
+
+pub static_same : (ks : List Kind) → (a : ℕ) → kind_at ks a ≡ Static → (ns : List ℕ) → (k : ℕ) → FoundQualifiers ks (a + 1) ns k → (t : Tree) → (c : ℕ)
+    → Only ks 2 k t c → OnlyBound ks a (Static_sized_of a ns t) c
+static_same ks a s ns k x t c only x' c' h e = static_by ks a s ns k x t c only x' c' e (bound_view ks x' a c' h e)
+
+static_none : (ks : List Kind) → (a : ℕ) → kind_at ks a ≡ Static → (ns : List ℕ) → (k : ℕ) → FoundQualifiers ks (a + 1) ns k → (e : Stop) → Fails ks 2 k e
+    → (x' : Bound) → (c' : ℕ) → kind_at ks c' ≡ CloseBracket → Bounding ks x' a c' → IsWant e
+static_none ks a s ns k x e fails x' c' l (first_static ns' k' t' i s' h n r) =
+    let one = qualifiers_only ks ns (a + 1) k x.reads x.no_more ns' k' h n in
+    fails t' c' (subst (λ y. Reads ks 2 t' y c') (sym one.1) r) (stops_at ks 2 c' CloseBracket l (omega arith))
+static_none ks a s ns k x e fails x' c' l (first_others ns' k' h n u v) = absurd (u s)
+
+pub static_fails : (ks : List Kind) → (a : ℕ) → kind_at ks a ≡ Static → (ns : List ℕ) → (k : ℕ) → FoundQualifiers ks (a + 1) ns k → (e : Stop) → Fails ks 2 k e
+    → FailsBound ks a e
+static_fails ks a s ns k x e fails x' c' h l = static_none ks a s ns k x e fails x' c' l (bound_view ks x' a c' h l)
+
+-- with qualifiers first, or without a word: what stands behind them tells
+behind_of : (ks : List Kind) → (a : ℕ) → (kind_at ks a ≡ Static → ⊥) → (ns : List ℕ) → (k : ℕ) → FoundQualifiers ks a ns k → (x' : Bound) → (c' : ℕ)
+    → Bounding ks x' a c' → Behind ks a k c' ns x'
+behind_of ks a u ns k x x' c' (first_static ns' k' t' i s h n r) = absurd (u s)
+behind_of ks a u ns k x x' c' (first_others ns' k' h n u' v) =
+    let one = qualifiers_only ks ns a k x.reads x.no_more ns' k' h n in
+    subst (λ y. Behind ks a k c' y x') (sym one.0) (subst (λ y. Behind ks a y c' ns' x') (sym one.1) v)
+
+pub unsized_found : (ks : List Kind) → (a : ℕ) → (ns : List ℕ) → (k : ℕ) → FoundQualifiers ks a ns k → FoundBound ks a (Unsized_of ns) k
+unsized_found ks a ns k x = record { reads = x.reads; forth = x.forth; inside = x.inside }
+
+pub unsized_same : (ks : List Kind) → (a : ℕ) → (ns : List ℕ) → (k : ℕ) → FoundQualifiers ks a ns k → kind_at ks k ≡ CloseBracket
+    → OnlyBound ks a (Unsized_of ns) k
+unsized_same ks a ns k x e = bound_only ks (Unsized_of ns) a k (everywhere ks a) x.reads e
+
+words_there : (ks : List Kind) → (ns : List ℕ) → (a k : ℕ) → HoldQualifiers ks ns a k → (kind_at ks a ≡ Static → ⊥) → kind_at ks k ≡ Static → AreThere ns
+words_there ks [] a k h u s = u (ap (λ x. kind_at ks x) (sym h) ∙ s)
+words_there ks (n ∷ ns) a k h u s = tt
+
+pub last_static_found : (ks : List Kind) → (a : ℕ) → (kind_at ks a ≡ Static → ⊥) → (ns : List ℕ) → (k : ℕ) → FoundQualifiers ks a ns k
+    → kind_at ks k ≡ Static → (t : Tree) → (c : ℕ) → Found ks 2 (k + 1) t c → FoundBound ks a (Sized_static_of ns k t) c
+last_static_found ks a u ns k x s t c y =
+    let one : a ≤ k = x.forth in
+    let two : k + 1 < c = y.forth in
+    record {
+      reads = (words_there ks ns a k x.reads u s, x.reads, s, y.reads.0, y.reads.1);
+      forth = omega arith;
+      inside = y.inside;
+    }
+
+last_static_by : (ks : List Kind) → (a : ℕ) → (ns : List ℕ) → (k : ℕ) → kind_at ks k ≡ Static → (t : Tree) → (c : ℕ) → Only ks 2 (k + 1) t c
+    → (x' : Bound) → (c' : ℕ) → kind_at ks c' ≡ CloseBracket → Behind ks a k c' ns x' → (Sized_static_of ns k t ≡ x') × (c ≡ c')
+last_static_by ks a ns k s t c only x' c' e (nothing i f) =
+    clash (kind_at ks k) Static CloseBracket s (ap (λ y. kind_at ks y) (sym f) ∙ e) (λ y. omega (arith, y))
+last_static_by ks a ns k s t c only x' c' e (a_star i n m s' f) = clash (kind_at ks k) Static Star s s' (λ y. omega (arith, y))
+last_static_by ks a ns k s t c only x' c' e (a_size t' i r) = no_start ks k Static (starts ks t' k c' r.1) s refl
+last_static_by ks a ns k s t c only x' c' e (a_static t' i n s' r) =
+    let same = only t' c' r (stops_at ks 2 c' CloseBracket e (omega arith)) in
+    (ap (λ y. Sized_static_of ns k y) same.0 ∙ sym i, same.1)
+
+pub last_static_same : (ks : List Kind) → (a : ℕ) → (kind_at ks a ≡ Static → ⊥) → (ns : List ℕ) → (k : ℕ) → FoundQualifiers ks a ns k
+    → kind_at ks k ≡ Static → (t : Tree) → (c : ℕ) → Only ks 2 (k + 1) t c → OnlyBound ks a (Sized_static_of ns k t) c
+last_static_same ks a u ns k x s t c only x' c' h e =
+    last_static_by ks a ns k s t c only x' c' e (behind_of ks a u ns k x x' c' (bound_view ks x' a c' h e))
+
+last_static_none : (ks : List Kind) → (a : ℕ) → (ns : List ℕ) → (k : ℕ) → kind_at ks k ≡ Static → (e : Stop) → Fails ks 2 (k + 1) e
+    → (x' : Bound) → (c' : ℕ) → kind_at ks c' ≡ CloseBracket → Behind ks a k c' ns x' → IsWant e
+last_static_none ks a ns k s e fails x' c' l (nothing i f) =
+    clash (kind_at ks k) Static CloseBracket s (ap (λ y. kind_at ks y) (sym f) ∙ l) (λ y. omega (arith, y))
+last_static_none ks a ns k s e fails x' c' l (a_star i n m s' f) = clash (kind_at ks k) Static Star s s' (λ y. omega (arith, y))
+last_static_none ks a ns k s e fails x' c' l (a_size t' i r) = no_start ks k Static (starts ks t' k c' r.1) s refl
+last_static_none ks a ns k s e fails x' c' l (a_static t' i n s' r) = fails t' c' r (stops_at ks 2 c' CloseBracket l (omega arith))
+
+pub last_static_fails : (ks : List Kind) → (a : ℕ) → (kind_at ks a ≡ Static → ⊥) → (ns : List ℕ) → (k : ℕ) → FoundQualifiers ks a ns k
+    → kind_at ks k ≡ Static → (e : Stop) → Fails ks 2 (k + 1) e → FailsBound ks a e
+last_static_fails ks a u ns k x s e fails x' c' h l =
+    last_static_none ks a ns k s e fails x' c' l (behind_of ks a u ns k x x' c' (bound_view ks x' a c' h l))
+
+pub sized_found : (ks : List Kind) → (a : ℕ) → (ns : List ℕ) → (k : ℕ) → FoundQualifiers ks a ns k → (t : Tree) → (c : ℕ) → Found ks 2 k t c
+    → FoundBound ks a (Sized_of ns t) c
+sized_found ks a ns k x t c y =
+    let one : a ≤ k = x.forth in
+    let two : k < c = y.forth in
+    record { reads = (k, x.reads, y.reads.0, y.reads.1); forth = omega arith; inside = y.inside }
+
+-- no `]`, `*` with `]` behind it, or `static` stands behind the qualifiers
+pub record IsSize (ks : List Kind) (a k : ℕ) : Type 0 where
+  pub sized : kind_at ks k ≡ CloseBracket → ⊥
+  pub told : any_size_at ks a ≡ false
+  pub plain : kind_at ks k ≡ Static → ⊥
+
+starred : {A : Type 0} → (ks : List Kind) → (a k c : ℕ) → any_size_at ks a ≡ false → k ≡ a → kind_at ks k ≡ Star → c ≡ k + 1
+    → kind_at ks c ≡ CloseBracket → A
+starred ks a k c n m s f e =
+    absurd
+    (true≢false
+    (sym
+    (any_both
+    ks
+    a
+    (ap (λ y. kind_at ks y) (sym m) ∙ s)
+    (ap (λ y. kind_at ks y) (sym (f ∙ ap (λ y. y + 1) m)) ∙ e))
+    ∙ n))
+
+sized_by : (ks : List Kind) → (a : ℕ) → (ns : List ℕ) → (k : ℕ) → IsSize ks a k → (t : Tree) → (c : ℕ) → Only ks 2 k t c
+    → (x' : Bound) → (c' : ℕ) → kind_at ks c' ≡ CloseBracket → Behind ks a k c' ns x' → (Sized_of ns t ≡ x') × (c ≡ c')
+sized_by ks a ns k z t c only x' c' e (nothing i f) = absurd (z.sized (ap (λ y. kind_at ks y) (sym f) ∙ e))
+sized_by ks a ns k z t c only x' c' e (a_star i n m s f) = starred ks a k c' z.told m s f e
+sized_by ks a ns k z t c only x' c' e (a_size t' i r) =
+    let same = only t' c' r (stops_at ks 2 c' CloseBracket e (omega arith)) in
+    (ap (λ y. Sized_of ns y) same.0 ∙ sym i, same.1)
+sized_by ks a ns k z t c only x' c' e (a_static t' i n s r) = absurd (z.plain s)
+
+pub sized_same : (ks : List Kind) → (a : ℕ) → (kind_at ks a ≡ Static → ⊥) → (ns : List ℕ) → (k : ℕ) → FoundQualifiers ks a ns k → IsSize ks a k
+    → (t : Tree) → (c : ℕ) → Only ks 2 k t c → OnlyBound ks a (Sized_of ns t) c
+sized_same ks a u ns k x z t c only x' c' h e =
+    sized_by ks a ns k z t c only x' c' e (behind_of ks a u ns k x x' c' (bound_view ks x' a c' h e))
+
+sized_none : (ks : List Kind) → (a : ℕ) → (ns : List ℕ) → (k : ℕ) → IsSize ks a k → (e : Stop) → Fails ks 2 k e
+    → (x' : Bound) → (c' : ℕ) → kind_at ks c' ≡ CloseBracket → Behind ks a k c' ns x' → IsWant e
+sized_none ks a ns k z e fails x' c' l (nothing i f) = absurd (z.sized (ap (λ y. kind_at ks y) (sym f) ∙ l))
+sized_none ks a ns k z e fails x' c' l (a_star i n m s f) = starred ks a k c' z.told m s f l
+sized_none ks a ns k z e fails x' c' l (a_size t' i r) = fails t' c' r (stops_at ks 2 c' CloseBracket l (omega arith))
+sized_none ks a ns k z e fails x' c' l (a_static t' i n s r) = absurd (z.plain s)
+
+pub sized_fails : (ks : List Kind) → (a : ℕ) → (kind_at ks a ≡ Static → ⊥) → (ns : List ℕ) → (k : ℕ) → FoundQualifiers ks a ns k → IsSize ks a k
+    → (e : Stop) → Fails ks 2 k e → FailsBound ks a e
+sized_fails ks a u ns k x z e fails x' c' h l =
+    sized_none ks a ns k z e fails x' c' l (behind_of ks a u ns k x x' c' (bound_view ks x' a c' h l))

@@ -1,0 +1,50 @@
+-- Parts end no earlier than they begin.
+use Rattle.std.proofs.Common.{ℕ, ◌≤◌, List, Bool}
+use Rattle.tree_data.specs.Trees.{Tree, Behind, Front, Fronts, Piece, Designator, Designators, Association, Specifyings, Naming, Declaring, Grouping, Deriving, Bound}
+use Rattle.c_parser.specs.declared.kinds.Kind.{Kind}
+use Rattle.c_parser.specs.Grammar.{spell, spell_behind, spell_front, spell_fronts, spell_piece, spell_designator, spell_designators, spell_association, spell_specifyings, spell_type, spell_declaring, spell_grouping, spell_deriving, spell_bound}
+use Rattle.c_parser.specs.Reading.{Holds, HoldsBehind, HoldsFront, HoldFronts, HoldsPiece, HoldsDesignator, HoldDesignators, HoldsAssociation, HoldSpecifyings, HoldsType, HoldsDeclaring, HoldsGrouping, HoldsDeriving, HoldsBound}
+use Rattle.c_parser.proofs.Numbers.{spans_forth}
+use Rattle.c_parser.proofs.Spans.{spanned, spanned_behind, spanned_front, spanned_fronts, spanned_piece, spanned_designator, spanned_designators, spanned_association, spanned_specifyings, spanned_type, spanned_declaring, spanned_grouping, spanned_deriving, spanned_bound}
+
+pub tree_forth : (ks : List Kind) → (t : Tree) → (a b : ℕ) → Holds ks t a b → a ≤ b
+tree_forth ks t a b h = spans_forth (spell t) a b (spanned ks t a b h)
+
+pub behind_forth : (ks : List Kind) → (l : ℕ) → (x : Behind) → (a b : ℕ) → HoldsBehind ks l x a b → a ≤ b
+behind_forth ks l x a b h = spans_forth (spell_behind x) a b (spanned_behind ks l x a b h)
+
+pub front_forth : (ks : List Kind) → (l : ℕ) → (x : Front) → (a b : ℕ) → HoldsFront ks l x a b → a ≤ b
+front_forth ks l x a b h = spans_forth (spell_front x) a b (spanned_front ks l x a b h)
+
+pub fronts_forth : (ks : List Kind) → (l : ℕ) → (xs : Fronts) → (a b : ℕ) → HoldFronts ks l xs a b → a ≤ b
+fronts_forth ks l xs a b h = spans_forth (spell_fronts xs) a b (spanned_fronts ks l xs a b h)
+
+pub piece_forth : (ks : List Kind) → (x : Piece) → (a b : ℕ) → HoldsPiece ks x a b → a ≤ b
+piece_forth ks x a b h = spans_forth (spell_piece x) a b (spanned_piece ks x a b h)
+
+pub designator_forth : (ks : List Kind) → (x : Designator) → (a b : ℕ) → HoldsDesignator ks x a b → a ≤ b
+designator_forth ks x a b h = spans_forth (spell_designator x) a b (spanned_designator ks x a b h)
+
+pub designators_forth : (ks : List Kind) → (xs : Designators) → (a b : ℕ) → HoldDesignators ks xs a b → a ≤ b
+designators_forth ks xs a b h = spans_forth (spell_designators xs) a b (spanned_designators ks xs a b h)
+
+pub association_forth : (ks : List Kind) → (x : Association) → (a b : ℕ) → HoldsAssociation ks x a b → a ≤ b
+association_forth ks x a b h = spans_forth (spell_association x) a b (spanned_association ks x a b h)
+
+pub specifyings_forth : (ks : List Kind) → (y : Bool) → (ss : Specifyings) → (a b : ℕ) → HoldSpecifyings ks y ss a b → a ≤ b
+specifyings_forth ks y ss a b h = spans_forth (spell_specifyings ss) a b (spanned_specifyings ks y ss a b h)
+
+pub type_forth : (ks : List Kind) → (t : Naming) → (a b : ℕ) → HoldsType ks t a b → a ≤ b
+type_forth ks t a b h = spans_forth (spell_type t) a b (spanned_type ks t a b h)
+
+pub declaring_forth : (ks : List Kind) → (d : Declaring) → (a b : ℕ) → HoldsDeclaring ks d a b → a ≤ b
+declaring_forth ks d a b h = spans_forth (spell_declaring d) a b (spanned_declaring ks d a b h)
+
+pub grouping_forth : (ks : List Kind) → (g : Grouping) → (a b : ℕ) → HoldsGrouping ks g a b → a ≤ b
+grouping_forth ks g a b h = spans_forth (spell_grouping g) a b (spanned_grouping ks g a b h)
+
+pub deriving_forth : (ks : List Kind) → (d : Deriving) → (a b : ℕ) → HoldsDeriving ks d a b → a ≤ b
+deriving_forth ks d a b h = spans_forth (spell_deriving d) a b (spanned_deriving ks d a b h)
+
+pub bound_forth : (ks : List Kind) → (x : Bound) → (a b : ℕ) → HoldsBound ks x a b → a ≤ b
+bound_forth ks x a b h = spans_forth (spell_bound x) a b (spanned_bound ks x a b h)

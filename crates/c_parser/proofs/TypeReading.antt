@@ -1,0 +1,538 @@
+-- No two names of types stand from one place on, where one may end behind each: by the number of tokens that are left, since what
+-- stands in a name stands behind its first token.
+use Rattle.std.proofs.Common.{◌≡◌, refl, ap, sym, ◌∙◌, subst, ℕ, zero, suc, ◌+◌, ◌<◌, ◌≤◌, List, [], ◌∷◌, length, arith, Bool, true, false, true≢false, ◌||◌}
+use Rattle.tree_data.specs.Trees.{Tree, Name_of, Constant_of, Text_of, Paren_of, Postfix_of, Unary_of, Binary_of, Conditional_of, Assign_of, Of_type, Compound_of, Generic_of, Offset_of, Operator_of, Cast_of, Choice_of, Left_of, Fronts, None_before, Front_then, Specifying, Word_of, Typedef_of, Tag_of, Atomic_of, Specifyings, No_specifiers, Specifier_then, Naming, Type_of, Declaring, Declaring_of, Grouping, No_group, Group_of, Deriving, Array_of, Function_of, Derivings, No_derivings, Deriving_then, Bound, Unsized_of, Any_size_of, Sized_of, Static_sized_of, Sized_static_of}
+use Rattle.c_parser.specs.declared.kinds.Kind.{Kind}
+use Rattle.c_parser.specs.declared.kinds.Kind.TheVariants.{Identifier, Constant, Text, TypeName, Tag, Atomic, Static, Star, OpenParen, CloseParen, OpenBracket, CloseBracket, Generic, OffsetOf, Colon, Comma, End}
+use Rattle.c_parser.specs.Declarators.{AreThere, IsAbstract}
+use Rattle.c_parser.specs.Grammar.{IsBefore, has_type}
+use Rattle.c_parser.specs.Kinds.{kind_at, is_size, starts_type, ends_type, ends_pointers, ends_specifiers, qualifies_at}
+use Rattle.c_parser.specs.Reading.{Holds, HoldFronts, HoldQualifiers, Reads, HoldSpecifying, HoldSpecifyings, HoldsType, HoldsDeclaring, HoldsGrouping, HoldsDeriving, HoldDerivings, HoldsBound}
+use Rattle.c_parser.proofs.OneReading.{placed_only}
+use Rattle.c_parser.proofs.Forth.{type_forth, specifyings_forth, grouping_forth, deriving_forth}
+use Rattle.c_parser.proofs.Marks.{clash, stops_at, is_start, no_type}
+use Rattle.c_parser.proofs.Typed.{Typed, From, later, next}
+use Rattle.c_parser.proofs.Types.{starting, type_starts, pointers_only, pointers_forth, qualifiers_only, qualifiers_forth}
+use Rattle.c_parser.proofs.Views.{starts, front_starts}
+use Rattle.c_parser.proofs.Words.{Qualifies, by_qualifier, by_lone, qualifies_view, qualifies_starts, specifies_not, atomic_not}
+
+-- behind a `*` in front of an operand something begins too
+mutual
+  pub star_starts : (ks : List Kind) → (t : Tree) → (a b : ℕ) → Holds ks t a b → kind_at ks a ≡ Star → is_start (kind_at ks (a + 1)) ≡ true
+  star_starts ks (Name_of n) a b h k = clash (kind_at ks a) Identifier Star h.1 k (λ x. omega (arith, x))
+  star_starts ks (Constant_of n) a b h k = clash (kind_at ks a) Constant Star h.1 k (λ x. omega (arith, x))
+  star_starts ks (Text_of ns) a b h k = clash (kind_at ks a) Text Star h.0 k (λ x. omega (arith, x))
+  star_starts ks (Paren_of o t c) a b h k = clash (kind_at ks a) OpenParen Star h.1 k (λ x. omega (arith, x))
+  star_starts ks (Postfix_of f bs) a b h k = star_starts ks f a h.0 h.3 k
+  star_starts ks (Unary_of fs t) a b h k = star_in_front ks 15 fs a h.0 h.1 h.2 (starts ks t h.0 b h.4) k
+  star_starts ks (Binary_of f bs) a b h k = star_starts ks f a h.0 h.4 k
+  star_starts ks (Conditional_of fs t) a b h k = star_in_front ks 3 fs a h.0 h.1 h.2 (starts ks t h.0 b h.4) k
+  star_starts ks (Assign_of fs t) a b h k = star_in_front ks 2 fs a h.0 h.1 h.2 (starts ks t h.0 b h.4) k
+  star_starts ks (Of_type o p t c) a b h k = absurd (true≢false (sym h.1 ∙ ap is_size k))
+  star_starts ks (Compound_of o t c i) a b h k = clash (kind_at ks a) OpenParen Star h.1 k (λ x. omega (arith, x))
+  star_starts ks (Generic_of g o t gs c) a b h k = clash (kind_at ks a) Generic Star h.2 k (λ x. omega (arith, x))
+  star_starts ks (Offset_of g o t m n bs c) a b h k = clash (kind_at ks a) OffsetOf Star h.1 k (λ x. omega (arith, x))
+
+  star_in_front : (ks : List Kind) → (l : ℕ) → (fs : Fronts) → (a m : ℕ) → IsBefore fs → HoldFronts ks l fs a m → is_start (kind_at ks m) ≡ true
+      → kind_at ks a ≡ Star → is_start (kind_at ks (a + 1)) ≡ true
+  star_in_front ks l None_before a m i h s k = absurd i
+  star_in_front ks l (Front_then (Operator_of o) None_before) a m i h s k =
+      subst (λ x. is_start (kind_at ks x) ≡ true) (h.2 ∙ h.1.3) s
+  star_in_front ks l (Front_then (Operator_of o) (Front_then x xs)) a m i h s k =
+      subst (λ y. is_start (kind_at ks y) ≡ true) h.1.3 (front_starts ks l (Front_then x xs) h.0 m tt h.2)
+  star_in_front ks l (Front_then (Cast_of o t c) xs) a m i h s k = clash (kind_at ks a) OpenParen Star h.1.2 k (λ x. omega (arith, x))
+  star_in_front ks l (Front_then (Choice_of t q e c) xs) a m i h s k = star_starts ks t a q h.1.2 k
+  star_in_front ks l (Front_then (Left_of t o) xs) a m i h s k = star_starts ks t a o h.1.2 k
+
+-- what stands in the brackets of an array: `static` first, or qualifiers, and behind these what isn't one
+pub no_start : {A : Type 0} → (ks : List Kind) → (a : ℕ) → (k : Kind) → is_start (kind_at ks a) ≡ true → kind_at ks a ≡ k → is_start k ≡ false → A
+no_start ks a k s e n = absurd (true≢false (sym s ∙ ap is_start e ∙ n))
+
+start_qualifies_not : (ks : List Kind) → (a : ℕ) → is_start (kind_at ks a) ≡ true → qualifies_at ks a ≡ true → ⊥
+start_qualifies_not ks a s q = true≢false (sym (qualifies_starts ks a q) ∙ no_type (kind_at ks a) s)
+
+pub kind_qualifies_not : (ks : List Kind) → (a : ℕ) → (k : Kind) → kind_at ks a ≡ k → starts_type k ≡ false → qualifies_at ks a ≡ true → ⊥
+kind_qualifies_not ks a k e n q = true≢false (sym (qualifies_starts ks a q) ∙ ap starts_type e ∙ n)
+
+-- what stands behind the qualifiers, up to the `]`
+pub data Behind (ks : List Kind) (a k c : ℕ) (ns : List ℕ) (x : Bound) : Type 0 where
+  nothing : x ≡ Unsized_of ns → c ≡ k → Behind ks a k c ns x
+  a_star : x ≡ Any_size_of a → ns ≡ [] → k ≡ a → kind_at ks k ≡ Star → c ≡ k + 1 → Behind ks a k c ns x
+  a_size : (t : Tree) → x ≡ Sized_of ns t → Reads ks 2 t k c → Behind ks a k c ns x
+  a_static : (t : Tree) → x ≡ Sized_static_of ns k t → AreThere ns → kind_at ks k ≡ Static → Reads ks 2 t (k + 1) c → Behind ks a k c ns x
+
+pub data Bounding (ks : List Kind) (x : Bound) (a c : ℕ) : Type 0 where
+  first_static : (ns : List ℕ) → (k : ℕ) → (t : Tree) → x ≡ Static_sized_of a ns t → kind_at ks a ≡ Static
+      → HoldQualifiers ks ns (a + 1) k → (qualifies_at ks k ≡ true → ⊥) → Reads ks 2 t k c → Bounding ks x a c
+  first_others : (ns : List ℕ) → (k : ℕ) → HoldQualifiers ks ns a k → (qualifies_at ks k ≡ true → ⊥) → (kind_at ks a ≡ Static → ⊥)
+      → Behind ks a k c ns x → Bounding ks x a c
+
+begins_static_not : (ks : List Kind) → (ns : List ℕ) → (a k : ℕ) → HoldQualifiers ks ns a k → (kind_at ks k ≡ Static → ⊥) → kind_at ks a ≡ Static → ⊥
+begins_static_not ks [] a k h n e = n (ap (λ x. kind_at ks x) h ∙ e)
+begins_static_not ks (q ∷ ns) a k h n e = kind_qualifies_not ks a Static e refl h.1
+
+there_static_not : (ks : List Kind) → (ns : List ℕ) → (a k : ℕ) → HoldQualifiers ks ns a k → AreThere ns → kind_at ks a ≡ Static → ⊥
+there_static_not ks [] a k h t e = t
+there_static_not ks (q ∷ ns) a k h t e = kind_qualifies_not ks a Static e refl h.1
+
+pub bound_view : (ks : List Kind) → (x : Bound) → (a c : ℕ) → HoldsBound ks x a c → kind_at ks c ≡ CloseBracket → Bounding ks x a c
+bound_view ks (Unsized_of ns) a c h e =
+    first_others
+    ns
+    c
+    h
+    (kind_qualifies_not ks c CloseBracket e refl)
+    (begins_static_not ks ns a c h (λ x. clash (kind_at ks c) CloseBracket Static e x (λ y. omega (arith, y))))
+    (nothing refl refl)
+bound_view ks (Any_size_of n) a c h e =
+    first_others
+    []
+    a
+    refl
+    (kind_qualifies_not ks a Star h.1 refl)
+    (λ x. clash (kind_at ks a) Star Static h.1 x (λ y. omega (arith, y)))
+    (a_star (ap Any_size_of h.0) refl refl h.1 h.2)
+bound_view ks (Sized_of ns t) a c h e =
+    let s = starts ks t h.0 c h.3 in
+    first_others
+    ns
+    h.0
+    h.1
+    (start_qualifies_not ks h.0 s)
+    (begins_static_not ks ns a h.0 h.1 (λ x. no_start ks h.0 Static s x refl))
+    (a_size t refl (h.2, h.3))
+bound_view ks (Static_sized_of n ns t) a c h e =
+    let s = starts ks t h.0 c h.5 in
+    first_static ns h.0 t (ap (λ x. Static_sized_of x ns t) h.1) h.2 h.3 (start_qualifies_not ks h.0 s) (h.4, h.5)
+bound_view ks (Sized_static_of ns n t) a c h e =
+    first_others
+    ns
+    n
+    h.1
+    (kind_qualifies_not ks n Static h.2 refl)
+    (there_static_not ks ns a n h.1 h.0)
+    (a_static t refl h.0 h.2 (h.3, h.4))
+
+abbrev pub OnlyBound : List Kind → ℕ → Bound → ℕ → Type 0
+OnlyBound ks a x c = (x' : Bound) → (c' : ℕ) → HoldsBound ks x' a c' → kind_at ks c' ≡ CloseBracket → (x ≡ x') × (c ≡ c')
+
+size_only : (ks : List Kind) → (t : Tree) → (a c : ℕ) → From ks a → Reads ks 2 t a c → kind_at ks c ≡ CloseBracket
+    → (t' : Tree) → (c' : ℕ) → Reads ks 2 t' a c' → kind_at ks c' ≡ CloseBracket → (t ≡ t') × (c ≡ c')
+size_only ks t a c w r e t' c' r' e' =
+    placed_only
+    ks
+    2
+    t
+    a
+    c
+    w
+    (omega arith)
+    r
+    (stops_at ks 2 c CloseBracket e (omega arith))
+    t'
+    c'
+    r'
+    (stops_at ks 2 c' CloseBracket e' (omega arith))
+
+-- two at one place
+rest_only : (ks : List Kind) → (a k c : ℕ) → (ns : List ℕ) → (x : Bound) → From ks k → Behind ks a k c ns x → kind_at ks c ≡ CloseBracket
+    → (c' : ℕ) → (x' : Bound) → Behind ks a k c' ns x' → kind_at ks c' ≡ CloseBracket → (x ≡ x') × (c ≡ c')
+rest_only ks a k c ns x w (nothing i f) e c' x' (nothing i' f') e' = (i ∙ sym i', f ∙ sym f')
+rest_only ks a k c ns x w (nothing i f) e c' x' (a_star i' n' m' s' f') e' =
+    clash (kind_at ks k) CloseBracket Star (ap (λ y. kind_at ks y) (sym f) ∙ e) s' (λ y. omega (arith, y))
+rest_only ks a k c ns x w (nothing i f) e c' x' (a_size t' i' r') e' =
+    no_start ks k CloseBracket (starts ks t' k c' r'.1) (ap (λ y. kind_at ks y) (sym f) ∙ e) refl
+rest_only ks a k c ns x w (nothing i f) e c' x' (a_static t' i' n' s' r') e' =
+    clash (kind_at ks k) CloseBracket Static (ap (λ y. kind_at ks y) (sym f) ∙ e) s' (λ y. omega (arith, y))
+rest_only ks a k c ns x w (a_star i n m s f) e c' x' (nothing i' f') e' =
+    clash (kind_at ks k) Star CloseBracket s (ap (λ y. kind_at ks y) (sym f') ∙ e') (λ y. omega (arith, y))
+rest_only ks a k c ns x w (a_star i n m s f) e c' x' (a_star i' n' m' s' f') e' = (i ∙ sym i', f ∙ sym f')
+rest_only ks a k c ns x w (a_star i n m s f) e c' x' (a_size t' i' r') e' =
+    no_start ks (k + 1) CloseBracket (star_starts ks t' k c' r'.1 s) (ap (λ y. kind_at ks y) (sym f) ∙ e) refl
+rest_only ks a k c ns x w (a_star i n m s f) e c' x' (a_static t' i' n' s' r') e' =
+    clash (kind_at ks k) Star Static s s' (λ y. omega (arith, y))
+rest_only ks a k c ns x w (a_size t i r) e c' x' (nothing i' f') e' =
+    no_start ks k CloseBracket (starts ks t k c r.1) (ap (λ y. kind_at ks y) (sym f') ∙ e') refl
+rest_only ks a k c ns x w (a_size t i r) e c' x' (a_star i' n' m' s' f') e' =
+    no_start ks (k + 1) CloseBracket (star_starts ks t k c r.1 s') (ap (λ y. kind_at ks y) (sym f') ∙ e') refl
+rest_only ks a k c ns x w (a_size t i r) e c' x' (a_size t' i' r') e' =
+    let same = size_only ks t k c w r e t' c' r' e' in
+    (i ∙ ap (λ y. Sized_of ns y) same.0 ∙ sym i', same.1)
+rest_only ks a k c ns x w (a_size t i r) e c' x' (a_static t' i' n' s' r') e' = no_start ks k Static (starts ks t k c r.1) s' refl
+rest_only ks a k c ns x w (a_static t i n s r) e c' x' (nothing i' f') e' =
+    clash (kind_at ks k) Static CloseBracket s (ap (λ y. kind_at ks y) (sym f') ∙ e') (λ y. omega (arith, y))
+rest_only ks a k c ns x w (a_static t i n s r) e c' x' (a_star i' n' m' s' f') e' =
+    clash (kind_at ks k) Static Star s s' (λ y. omega (arith, y))
+rest_only ks a k c ns x w (a_static t i n s r) e c' x' (a_size t' i' r') e' = no_start ks k Static (starts ks t' k c' r'.1) s refl
+rest_only ks a k c ns x w (a_static t i n s r) e c' x' (a_static t' i' n' s' r') e' =
+    let same = size_only ks t (k + 1) c (next ks k w) r e t' c' r' e' in
+    (i ∙ ap (λ y. Sized_static_of ns k y) same.0 ∙ sym i', same.1)
+
+views_only : (ks : List Kind) → (a c : ℕ) → (x : Bound) → From ks a → Bounding ks x a c → kind_at ks c ≡ CloseBracket
+    → (c' : ℕ) → (x' : Bound) → Bounding ks x' a c' → kind_at ks c' ≡ CloseBracket → (x ≡ x') × (c ≡ c')
+views_only ks a c x w (first_static ns k t i s h n r) e c' x' (first_static ns' k' t' i' s' h' n' r') e' =
+    let one = qualifiers_only ks ns (a + 1) k h n ns' k' h' n' in
+    let w' = later ks a k (omega (arith, qualifiers_forth ks ns (a + 1) k h)) w in
+    let two = size_only ks t k c w' r e t' c' (subst (λ y. Reads ks 2 t' y c') (sym one.1) r') e' in (
+      i ∙ ap (λ y. Static_sized_of a y t) one.0 ∙ ap (λ y. Static_sized_of a ns' y) two.0 ∙ sym i',
+      two.1,
+    )
+views_only ks a c x w (first_static ns k t i s h n r) e c' x' (first_others ns' k' h' n' u' v') e' = absurd (u' s)
+views_only ks a c x w (first_others ns k h n u v) e c' x' (first_static ns' k' t' i' s' h' n' r') e' = absurd (u s')
+views_only ks a c x w (first_others ns k h n u v) e c' x' (first_others ns' k' h' n' u' v') e' =
+    let one = qualifiers_only ks ns a k h n ns' k' h' n' in
+    rest_only
+    ks
+    a
+    k
+    c
+    ns
+    x
+    (later ks a k (qualifiers_forth ks ns a k h) w)
+    v
+    e
+    c'
+    x'
+    (subst (λ y. Behind ks a k c' y x') (sym one.0) (subst (λ y. Behind ks a y c' ns' x') (sym one.1) v'))
+    e'
+
+pub bound_only : (ks : List Kind) → (x : Bound) → (a c : ℕ) → From ks a → HoldsBound ks x a c → kind_at ks c ≡ CloseBracket → OnlyBound ks a x c
+bound_only ks x a c w h e x' c' h' e' = views_only ks a c x w (bound_view ks x a c h e) e c' x' (bound_view ks x' a c' h' e') e'
+
+-- arrays and functions
+pub deriving_only : (ks : List Kind) → (d : Deriving) → (a b : ℕ) → From ks a → HoldsDeriving ks d a b
+    → (d' : Deriving) → (b' : ℕ) → HoldsDeriving ks d' a b' → (d ≡ d') × (b ≡ b')
+deriving_only ks (Array_of o x c) a b w h (Array_of o' x' c') b' h' =
+    let same = bound_only ks x (a + 1) c (next ks a w) h.2 h.3 x' c' h'.2 h'.3 in (
+      ap (λ y. Array_of y x c) (h.0 ∙ sym h'.0) ∙ ap (λ y. Array_of o' y c) same.0 ∙ ap (λ y. Array_of o' x' y) same.1,
+      h.4 ∙ ap (λ y. y + 1) same.1 ∙ sym h'.4,
+    )
+deriving_only ks (Array_of o x c) a b w h (Function_of o' c') b' h' =
+    clash (kind_at ks a) OpenBracket OpenParen h.1 h'.1 (λ y. omega (arith, y))
+deriving_only ks (Function_of o c) a b w h (Array_of o' x c') b' h' =
+    clash (kind_at ks a) OpenParen OpenBracket h.1 h'.1 (λ y. omega (arith, y))
+deriving_only ks (Function_of o c) a b w h (Function_of o' c') b' h' =
+    let same : c ≡ c' = h.2 ∙ sym h'.2 in
+    (ap (λ y. Function_of y c) (h.0 ∙ sym h'.0) ∙ ap (λ y. Function_of o' y) same, h.4 ∙ ap (λ y. y + 1) same ∙ sym h'.4)
+
+pub deriving_ends_not : {A : Type 0} → (ks : List Kind) → (d : Deriving) → (a b : ℕ) → HoldsDeriving ks d a b → ends_type (kind_at ks a) ≡ true → A
+deriving_ends_not ks (Array_of o x c) a b h e = absurd (true≢false (sym e ∙ ap ends_type h.1))
+deriving_ends_not ks (Function_of o c) a b h e = absurd (true≢false (sym e ∙ ap ends_type h.1))
+
+pub derivings_only : (ks : List Kind) → (ds : Derivings) → (a b : ℕ) → From ks a → HoldDerivings ks ds a b → ends_type (kind_at ks b) ≡ true
+    → (ds' : Derivings) → (b' : ℕ) → HoldDerivings ks ds' a b' → ends_type (kind_at ks b') ≡ true → (ds ≡ ds') × (b ≡ b')
+derivings_only ks No_derivings a b w h e No_derivings b' h' e' = (refl, h ∙ sym h')
+derivings_only ks No_derivings a b w h e (Deriving_then d ds) b' h' e' =
+    deriving_ends_not ks d a h'.0 h'.1 (ap (λ x. ends_type (kind_at ks x)) (sym h) ∙ e)
+derivings_only ks (Deriving_then d ds) a b w h e No_derivings b' h' e' =
+    deriving_ends_not ks d a h.0 h.1 (ap (λ x. ends_type (kind_at ks x)) (sym h') ∙ e')
+derivings_only ks (Deriving_then d ds) a b w h e (Deriving_then d' ds') b' h' e' =
+    let one = deriving_only ks d a h.0 w h.1 d' h'.0 h'.1 in
+    let two =
+    derivings_only
+    ks
+    ds
+    h.0
+    b
+    (later ks a h.0 (deriving_forth ks d a h.0 h.1) w)
+    h.2
+    e
+    ds'
+    b'
+    (subst (λ x. HoldDerivings ks ds' x b') (sym one.1) h'.2)
+    e' in
+    (ap (λ x. Deriving_then x ds) one.0 ∙ ap (λ x. Deriving_then d' x) two.0, two.1)
+
+-- behind pointers a group, an array or a function begins, or the name ends
+ends_more : (k : Kind) → ends_type k ≡ true → ends_pointers k ≡ true
+ends_more CloseParen h = refl
+ends_more Colon h = refl
+ends_more Comma h = refl
+ends_more End h = refl
+ends_more _ h = absurd (true≢false (sym h))
+
+pub derivings_begin : (ks : List Kind) → (ds : Derivings) → (a b : ℕ) → HoldDerivings ks ds a b → ends_type (kind_at ks b) ≡ true
+    → ends_pointers (kind_at ks a) ≡ true
+derivings_begin ks No_derivings a b h e = ends_more (kind_at ks a) (ap (λ x. ends_type (kind_at ks x)) (sym h) ∙ e)
+derivings_begin ks (Deriving_then (Array_of o x c) ds) a b h e = ap ends_pointers h.1.1
+derivings_begin ks (Deriving_then (Function_of o c) ds) a b h e = ap ends_pointers h.1.1
+
+pub grouping_begins : (ks : List Kind) → (g : Grouping) → (ds : Derivings) → (a m b : ℕ) → HoldsGrouping ks g a m → HoldDerivings ks ds m b
+    → ends_type (kind_at ks b) ≡ true → ends_pointers (kind_at ks a) ≡ true
+grouping_begins ks No_group ds a m b h g e =
+    ap (λ x. ends_pointers (kind_at ks x)) (sym h) ∙ derivings_begin ks ds m b g e
+grouping_begins ks (Group_of o d c) ds a m b h g e = ap ends_pointers h.1
+
+pub no_star : (ks : List Kind) → (a : ℕ) → ends_pointers (kind_at ks a) ≡ true → kind_at ks a ≡ Star → ⊥
+no_star ks a h e = true≢false (sym h ∙ ap ends_pointers e)
+
+no_qualifying : (ks : List Kind) → (a : ℕ) → ends_pointers (kind_at ks a) ≡ true → Qualifies ks a → ⊥
+no_qualifying ks a h (by_qualifier e) = true≢false (sym h ∙ ap ends_pointers e)
+no_qualifying ks a h (by_lone e n) = true≢false (sym h ∙ ap ends_pointers e)
+
+pub no_qualifier : (ks : List Kind) → (a : ℕ) → ends_pointers (kind_at ks a) ≡ true → qualifies_at ks a ≡ true → ⊥
+no_qualifier ks a h q = no_qualifying ks a h (qualifies_view ks a q)
+
+-- behind the `(` of a group stands no `)`
+pub abstract_begins : (ks : List Kind) → (d : Declaring) → (a b : ℕ) → IsAbstract d → HoldsDeclaring ks d a b → kind_at ks a ≡ CloseParen → ⊥
+abstract_begins ks (Declaring_of (p ∷ ps) g ds) a b i h e = clash (kind_at ks a) Star CloseParen h.2.2 e (λ x. omega (arith, x))
+abstract_begins ks (Declaring_of [] (Group_of o d c) ds) a b i h e =
+    clash (kind_at ks h.0) OpenParen CloseParen h.3.1 (ap (λ x. kind_at ks x) h.2 ∙ e) (λ x. omega (arith, x))
+abstract_begins ks (Declaring_of [] No_group (Deriving_then (Array_of o x c) ds)) a b i h e =
+    clash (kind_at ks h.1) OpenBracket CloseParen h.4.1.1 (ap (λ x. kind_at ks x) (h.3 ∙ h.2) ∙ e) (λ x. omega (arith, x))
+abstract_begins ks (Declaring_of [] No_group (Deriving_then (Function_of o c) ds)) a b i h e =
+    clash (kind_at ks h.1) OpenParen CloseParen h.4.1.1 (ap (λ x. kind_at ks x) (h.3 ∙ h.2) ∙ e) (λ x. omega (arith, x))
+abstract_begins ks (Declaring_of [] No_group No_derivings) a b i h e = absurd i
+
+-- a `(` that begins no group has a `)` behind it
+pub closes_next : (ks : List Kind) → (ds : Derivings) → (a b : ℕ) → HoldDerivings ks ds a b → ends_type (kind_at ks b) ≡ true
+    → kind_at ks a ≡ OpenParen → kind_at ks (a + 1) ≡ CloseParen
+closes_next ks No_derivings a b h e k = absurd (true≢false (sym e ∙ ap (λ x. ends_type (kind_at ks x)) h ∙ ap ends_type k))
+closes_next ks (Deriving_then (Array_of o x c) ds) a b h e k = clash (kind_at ks a) OpenBracket OpenParen h.1.1 k (λ y. omega (arith, y))
+closes_next ks (Deriving_then (Function_of o c) ds) a b h e k = ap (λ x. kind_at ks x) (sym h.1.2) ∙ h.1.3
+
+mutual
+  pub declaring_only : (ks : List Kind) → (d : Declaring) → (a b : ℕ) → From ks a → HoldsDeclaring ks d a b → ends_type (kind_at ks b) ≡ true
+      → (d' : Declaring) → (b' : ℕ) → HoldsDeclaring ks d' a b' → ends_type (kind_at ks b') ≡ true → (d ≡ d') × (b ≡ b')
+  declaring_only ks (Declaring_of ps g ds) a b w h e (Declaring_of ps' g' ds') b' h' e' =
+      let begun = grouping_begins ks g ds h.0 h.1 b h.3 h.4 e in
+      let begun' = grouping_begins ks g' ds' h'.0 h'.1 b' h'.3 h'.4 e' in
+      let one =
+      pointers_only
+      ks
+      ps
+      a
+      h.0
+      h.2
+      (no_star ks h.0 begun)
+      (no_qualifier ks h.0 begun)
+      ps'
+      h'.0
+      h'.2
+      (no_star ks h'.0 begun')
+      (no_qualifier ks h'.0 begun') in
+      let w' = later ks a h.0 (pointers_forth ks ps a h.0 h.2) w in
+      let two =
+      grouping_only
+      ks
+      g
+      h.0
+      h.1
+      ds
+      b
+      w'
+      h.3
+      h.4
+      e
+      g'
+      h'.1
+      ds'
+      b'
+      (subst (λ x. HoldsGrouping ks g' x h'.1) (sym one.1) h'.3)
+      h'.4
+      e' in
+      let three =
+      derivings_only
+      ks
+      ds
+      h.1
+      b
+      (later ks h.0 h.1 (grouping_forth ks g h.0 h.1 h.3) w')
+      h.4
+      e
+      ds'
+      b'
+      (subst (λ x. HoldDerivings ks ds' x b') (sym two.1) h'.4)
+      e' in (
+        ap (λ x. Declaring_of x g ds) one.0
+            ∙ ap (λ x. Declaring_of ps' x ds) two.0
+            ∙ ap (λ x. Declaring_of ps' g' x) three.0,
+        three.1,
+      )
+
+  pub grouping_only : (ks : List Kind) → (g : Grouping) → (a m : ℕ) → (ds : Derivings) → (b : ℕ) → From ks a → HoldsGrouping ks g a m
+      → HoldDerivings ks ds m b → ends_type (kind_at ks b) ≡ true
+      → (g' : Grouping) → (m' : ℕ) → (ds' : Derivings) → (b' : ℕ) → HoldsGrouping ks g' a m' → HoldDerivings ks ds' m' b'
+      → ends_type (kind_at ks b') ≡ true → (g ≡ g') × (m ≡ m')
+  grouping_only ks No_group a m ds b w h i e No_group m' ds' b' h' i' e' = (refl, h ∙ sym h')
+  grouping_only ks No_group a m ds b w h i e (Group_of o d c) m' ds' b' h' i' e' =
+      absurd (abstract_begins ks d (a + 1) c h'.2 h'.3 (closes_next ks ds a b (subst (λ x. HoldDerivings ks ds x b) h i) e h'.1))
+  grouping_only ks (Group_of o d c) a m ds b w h i e No_group m' ds' b' h' i' e' =
+      absurd (abstract_begins ks d (a + 1) c h.2 h.3 (closes_next ks ds' a b' (subst (λ x. HoldDerivings ks ds' x b') h' i') e' h.1))
+  grouping_only ks (Group_of o d c) a m ds b w h i e (Group_of o' d' c') m' ds' b' h' i' e' =
+      let same = declaring_only ks d (a + 1) c (next ks a w) h.3 (ap ends_type h.4) d' c' h'.3 (ap ends_type h'.4) in (
+        ap (λ x. Group_of x d c) (h.0 ∙ sym h'.0) ∙ ap (λ x. Group_of o' x c) same.0 ∙ ap (λ x. Group_of o' d' x) same.1,
+        h.5 ∙ ap (λ x. x + 1) same.1 ∙ sym h'.5,
+      )
+
+-- specifiers
+pub specifying_only : (ks : List Kind) → (y : Bool) → (s : Specifying) → (a b : ℕ) → From ks (a + 1) → HoldSpecifying ks y s a b
+    → (s' : Specifying) → (b' : ℕ) → HoldSpecifying ks y s' a b' → (s ≡ s') × (b ≡ b')
+specifying_only ks y (Word_of n) a b w h (Word_of n') b' h' = (ap Word_of (h.0 ∙ sym h'.0), h.2 ∙ sym h'.2)
+specifying_only ks y (Word_of n) a b w h (Typedef_of n') b' h' = specifies_not ks a TypeName h.1 h'.2 refl refl
+specifying_only ks y (Word_of n) a b w h (Tag_of k' n') b' h' = specifies_not ks a Tag h.1 h'.1 refl refl
+specifying_only ks y (Word_of n) a b w h (Atomic_of k' o' t' c') b' h' =
+    atomic_not ks a h.1 h'.1 (ap (λ x. kind_at ks x) (sym h'.2) ∙ h'.3)
+specifying_only ks y (Typedef_of n) a b w h (Word_of n') b' h' = specifies_not ks a TypeName h'.1 h.2 refl refl
+specifying_only ks y (Typedef_of n) a b w h (Typedef_of n') b' h' = (ap Typedef_of (h.0 ∙ sym h'.0), h.3 ∙ sym h'.3)
+specifying_only ks y (Typedef_of n) a b w h (Tag_of k' n') b' h' = clash (kind_at ks a) TypeName Tag h.2 h'.1 (λ x. omega (arith, x))
+specifying_only ks y (Typedef_of n) a b w h (Atomic_of k' o' t' c') b' h' =
+    clash (kind_at ks a) TypeName Atomic h.2 h'.1 (λ x. omega (arith, x))
+specifying_only ks y (Tag_of k n) a b w h (Word_of n') b' h' = specifies_not ks a Tag h'.1 h.1 refl refl
+specifying_only ks y (Tag_of k n) a b w h (Typedef_of n') b' h' = clash (kind_at ks a) Tag TypeName h.1 h'.2 (λ x. omega (arith, x))
+specifying_only ks y (Tag_of k n) a b w h (Tag_of k' n') b' h' =
+    let same : n ≡ n' = h.2 ∙ sym h'.2 in
+    (ap (λ x. Tag_of x n) (h.0 ∙ sym h'.0) ∙ ap (λ x. Tag_of k' x) same, h.4 ∙ ap (λ x. x + 1) same ∙ sym h'.4)
+specifying_only ks y (Tag_of k n) a b w h (Atomic_of k' o' t' c') b' h' = clash (kind_at ks a) Tag Atomic h.1 h'.1 (λ x. omega (arith, x))
+specifying_only ks y (Atomic_of k o t c) a b w h (Word_of n') b' h' =
+    atomic_not ks a h'.1 h.1 (ap (λ x. kind_at ks x) (sym h.2) ∙ h.3)
+specifying_only ks y (Atomic_of k o t c) a b w h (Typedef_of n') b' h' =
+    clash (kind_at ks a) Atomic TypeName h.1 h'.2 (λ x. omega (arith, x))
+specifying_only ks y (Atomic_of k o t c) a b w h (Tag_of k' n') b' h' = clash (kind_at ks a) Atomic Tag h.1 h'.1 (λ x. omega (arith, x))
+specifying_only ks y (Atomic_of k o t c) a b w h (Atomic_of k' o' t' c') b' h' =
+    let opening : o ≡ o' = h.2 ∙ sym h'.2 in
+    let same =
+    w
+    (o + 1)
+    (omega (arith, h.2))
+    t
+    c
+    h.4
+    (ap ends_type h.5)
+    t'
+    c'
+    (subst (λ x. HoldsType ks t' (x + 1) c') (sym opening) h'.4)
+    (ap ends_type h'.5) in (
+      ap (λ x. Atomic_of x o t c) (h.0 ∙ sym h'.0)
+          ∙ ap (λ x. Atomic_of k' x t c) opening
+          ∙ ap (λ x. Atomic_of k' o' x c) same.0
+          ∙ ap (λ x. Atomic_of k' o' t' x) same.1,
+      h.6 ∙ ap (λ x. x + 1) same.1 ∙ sym h'.6,
+    )
+
+pub specifying_strict : (ks : List Kind) → (y : Bool) → (s : Specifying) → (a b : ℕ) → HoldSpecifying ks y s a b → a < b
+specifying_strict ks y (Word_of n) a b h = omega (arith, h.2)
+specifying_strict ks y (Typedef_of n) a b h = omega (arith, h.3)
+specifying_strict ks y (Tag_of k n) a b h = omega (arith, h.4, h.2)
+specifying_strict ks y (Atomic_of k o t c) a b h = omega (arith, h.6, h.2, type_forth ks t (o + 1) c h.4)
+
+ends_none : (k : Kind) → ends_specifiers k ≡ true → starts_type k ≡ false
+ends_none Star h = refl
+ends_none OpenParen h = refl
+ends_none OpenBracket h = refl
+ends_none CloseParen h = refl
+ends_none Colon h = refl
+ends_none Comma h = refl
+ends_none End h = refl
+ends_none _ h = absurd (true≢false (sym h))
+
+pub no_specifying : {A : Type 0} → (ks : List Kind) → (y : Bool) → (s : Specifying) → (a b : ℕ) → HoldSpecifying ks y s a b
+    → ends_specifiers (kind_at ks a) ≡ true → A
+no_specifying ks y s a b h e = absurd (true≢false (sym (starting ks y s a b h) ∙ ends_none (kind_at ks a) e))
+
+after : (ks : List Kind) → (a b : ℕ) → a ≤ b → From ks (a + 1) → From ks (b + 1)
+after ks a b le w = later ks (a + 1) (b + 1) (omega (arith, le)) w
+
+pub specifyings_only : (ks : List Kind) → (y : Bool) → (ss : Specifyings) → (a m : ℕ) → From ks (a + 1) → HoldSpecifyings ks y ss a m
+    → ends_specifiers (kind_at ks m) ≡ true → (ss' : Specifyings) → (m' : ℕ) → HoldSpecifyings ks y ss' a m'
+    → ends_specifiers (kind_at ks m') ≡ true → (ss ≡ ss') × (m ≡ m')
+specifyings_only ks y No_specifiers a m w h e No_specifiers m' h' e' = (refl, h ∙ sym h')
+specifyings_only ks y No_specifiers a m w h e (Specifier_then s ss) m' h' e' =
+    no_specifying ks y s a h'.0 h'.1 (ap (λ x. ends_specifiers (kind_at ks x)) (sym h) ∙ e)
+specifyings_only ks y (Specifier_then s ss) a m w h e No_specifiers m' h' e' =
+    no_specifying ks y s a h.0 h.1 (ap (λ x. ends_specifiers (kind_at ks x)) (sym h') ∙ e')
+specifyings_only ks y (Specifier_then s ss) a m w h e (Specifier_then s' ss') m' h' e' =
+    let one = specifying_only ks y s a h.0 w h.1 s' h'.0 h'.1 in
+    let forth = specifying_strict ks y s a h.0 h.1 in
+    let more =
+    specifyings_only
+    ks
+    (has_type ks s || y)
+    ss
+    h.0
+    m
+    (after ks a h.0 (omega (arith, forth)) w)
+    h.2
+    e
+    ss'
+    m'
+    (subst
+    (λ x. HoldSpecifyings ks (has_type ks x || y) ss' h.0 m')
+    (sym one.0)
+    (subst (λ x. HoldSpecifyings ks (has_type ks s' || y) ss' x m') (sym one.1) h'.2))
+    e' in
+    (ap (λ x. Specifier_then x ss) one.0 ∙ ap (λ xs. Specifier_then s' xs) more.0, more.1)
+
+-- the whole name
+ends_wider : (k : Kind) → ends_pointers k ≡ true → ends_specifiers k ≡ true
+ends_wider OpenParen h = refl
+ends_wider OpenBracket h = refl
+ends_wider CloseParen h = refl
+ends_wider Colon h = refl
+ends_wider Comma h = refl
+ends_wider End h = refl
+ends_wider _ h = absurd (true≢false (sym h))
+
+pub declaring_begins : (ks : List Kind) → (d : Declaring) → (a b : ℕ) → HoldsDeclaring ks d a b → ends_type (kind_at ks b) ≡ true
+    → ends_specifiers (kind_at ks a) ≡ true
+declaring_begins ks (Declaring_of [] g ds) a b h e =
+    ends_wider
+    (kind_at ks a)
+    (ap (λ x. ends_pointers (kind_at ks x)) (sym h.2) ∙ grouping_begins ks g ds h.0 h.1 b h.3 h.4 e)
+declaring_begins ks (Declaring_of (p ∷ ps) g ds) a b h e = ap ends_specifiers h.2.2
+
+outside : (ks : List Kind) → (p : ℕ) → length ks ≤ p → kind_at ks p ≡ End
+outside [] p h = refl
+outside (k ∷ ks) zero h = absurd (omega (arith, h))
+outside (k ∷ ks) (suc p) h = outside ks p (omega (arith, h))
+
+some_strict : (ks : List Kind) → (y : Bool) → (s : Specifying) → (ss : Specifyings) → (a m : ℕ) → HoldSpecifyings ks y (Specifier_then s ss) a m
+    → a + 1 ≤ m
+some_strict ks y s ss a m h =
+    omega (arith, specifying_strict ks y s a h.0 h.1, specifyings_forth ks (has_type ks s || y) ss h.0 m h.2)
+
+typed_by : (ks : List Kind) → (n p : ℕ) → length ks ≤ p + n → Typed ks p
+typed_by ks zero p le t c h e t' c' h' e' =
+    let end : length ks ≤ p = omega arith in
+    absurd (true≢false (sym (type_starts ks t p c h) ∙ ap starts_type (outside ks p end)))
+typed_by ks (suc n) p le (Type_of No_specifiers d) c h e t' c' h' e' = absurd h.1
+typed_by ks (suc n) p le (Type_of (Specifier_then s ss) d) c h e (Type_of ss' d') c' h' e' =
+    let w : From ks (p + 1) = λ q more. typed_by ks n q (omega (arith, le, more)) in
+    let one =
+    specifyings_only
+    ks
+    false
+    (Specifier_then s ss)
+    p
+    h.0
+    w
+    h.2
+    (declaring_begins ks d h.0 c h.3 e)
+    ss'
+    h'.0
+    h'.2
+    (declaring_begins ks d' h'.0 c' h'.3 e') in
+    let two =
+    declaring_only
+    ks
+    d
+    h.0
+    c
+    (later ks (p + 1) h.0 (some_strict ks false s ss p h.0 h.2) w)
+    h.3
+    e
+    d'
+    c'
+    (subst (λ x. HoldsDeclaring ks d' x c') (sym one.1) h'.3)
+    e' in
+    (ap (λ x. Type_of x d) one.0 ∙ ap (λ x. Type_of ss' x) two.0, two.1)
+
+pub typed_at : (ks : List Kind) → (p : ℕ) → Typed ks p
+typed_at ks p = typed_by ks (length ks) p (omega arith)
+
+pub everywhere : (ks : List Kind) → (a : ℕ) → From ks a
+everywhere ks a p le = typed_at ks p
+
+pub type_only : (ks : List Kind) → (t : Naming) → (a c : ℕ) → HoldsType ks t a c → ends_type (kind_at ks c) ≡ true
+    → (t' : Naming) → (c' : ℕ) → HoldsType ks t' a c' → ends_type (kind_at ks c') ≡ true → (t ≡ t') × (c ≡ c')
+type_only ks t a c = typed_at ks a t c

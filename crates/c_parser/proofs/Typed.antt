@@ -1,0 +1,31 @@
+-- Places at which no two names of types stand. That expressions have one reading takes this of all places behind their own, and
+-- that names of types have one takes it of expressions in them, so that both follow by the number of tokens that are left.
+use Rattle.std.proofs.Common.{◌≡◌, ℕ, ◌+◌, ◌≤◌, List, arith, true}
+use Rattle.tree_data.specs.Trees.{Naming}
+use Rattle.c_parser.specs.declared.kinds.Kind.{Kind}
+use Rattle.c_parser.specs.Kinds.{kind_at, ends_type}
+use Rattle.c_parser.specs.Reading.{HoldsType}
+
+abbrev pub Typed : List Kind → ℕ → Type 0
+Typed ks a =
+    (t : Naming) → (c : ℕ) → HoldsType ks t a c → ends_type (kind_at ks c) ≡ true
+    → (t' : Naming) → (c' : ℕ) → HoldsType ks t' a c' → ends_type (kind_at ks c') ≡ true → (t ≡ t') × (c ≡ c')
+
+-- from this place on
+abbrev pub From : List Kind → ℕ → Type 0
+From ks a = (p : ℕ) → a ≤ p → Typed ks p
+
+pub later : (ks : List Kind) → (a b : ℕ) → a ≤ b → From ks a → From ks b
+later ks a b le u p more = u p (omega (arith, le, more))
+
+pub next : (ks : List Kind) → (a : ℕ) → From ks a → From ks (a + 1)
+next ks a u p more = u p (omega (arith, more))
+
+pub typed_next : (ks : List Kind) → (a : ℕ) → From ks a → Typed ks (a + 1)
+typed_next ks a u = u (a + 1) (omega arith)
+
+pub typed_second : (ks : List Kind) → (a : ℕ) → From ks a → Typed ks (a + 2)
+typed_second ks a u = u (a + 2) (omega arith)
+
+pub second : (ks : List Kind) → (a : ℕ) → From ks a → From ks (a + 2)
+second ks a u p more = u p (omega (arith, more))

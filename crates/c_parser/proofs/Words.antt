@@ -1,0 +1,187 @@
+-- Words among specifiers and qualifiers, told apart by their tokens.
+use Rattle.std.proofs.Common.{◌≡◌, refl, ap, sym, ◌∙◌, ℕ, zero, suc, ◌+◌, ◌<◌, List, [], ◌∷◌, length, arith, ◌⊎◌, inl, inr, Bool, true, false, true≢false, ◌&&◌, ◌||◌, not}
+use Rattle.c_parser.specs.declared.kinds.Kind.{Kind}
+use Rattle.c_parser.specs.declared.kinds.Kind.TheVariants.{TypeWord, Qualifier, OpenParen, Atomic}
+use Rattle.c_parser.specs.Kinds.{kind_at, is_specifying, is_qualifier, is_atomic, is_opening, starts_type, atomic_at, specifies_at, qualifies_at, atomic_opens}
+
+either : (p q : Bool) → (p || q) ≡ true → (p ≡ true) ⊎ (q ≡ true)
+either true q h = inl refl
+either false q h = inr h
+
+pub left_of : (p q : Bool) → (p && q) ≡ true → p ≡ true
+left_of true q h = refl
+left_of false q h = absurd (true≢false (sym h))
+
+pub right_of : (p q : Bool) → (p && q) ≡ true → q ≡ true
+right_of true q h = h
+right_of false q h = absurd (true≢false (sym h))
+
+or_left : (p q : Bool) → p ≡ true → (p || q) ≡ true
+or_left true q h = refl
+or_left false q h = absurd (true≢false (sym h))
+
+or_right : (p q : Bool) → q ≡ true → (p || q) ≡ true
+or_right true q h = refl
+or_right false q h = h
+
+is_word_atomic : (k : Kind) → is_atomic k ≡ true → k ≡ Atomic
+is_word_atomic Atomic h = refl
+is_word_atomic _ h = absurd (true≢false (sym h))
+
+is_word_qualifier : (k : Kind) → is_qualifier k ≡ true → k ≡ Qualifier
+is_word_qualifier Qualifier h = refl
+is_word_qualifier _ h = absurd (true≢false (sym h))
+
+word_starts : (k : Kind) → is_specifying k ≡ true → starts_type k ≡ true
+word_starts TypeWord h = refl
+word_starts Qualifier h = refl
+word_starts _ h = absurd (true≢false (sym h))
+
+atomic_kind : (ks : List Kind) → (a : ℕ) → atomic_at ks a ≡ true → kind_at ks a ≡ Atomic
+unfolding atomic_at
+atomic_kind ks a h = is_word_atomic (kind_at ks a) (left_of (is_atomic (kind_at ks a)) (not (is_opening (kind_at ks (a + 1)))) h)
+
+atomic_alone : (ks : List Kind) → (a : ℕ) → atomic_at ks a ≡ true → kind_at ks (a + 1) ≡ OpenParen → ⊥
+unfolding atomic_at
+atomic_alone ks a h e =
+    true≢false
+    (sym (right_of (is_atomic (kind_at ks a)) (not (is_opening (kind_at ks (a + 1)))) h)
+    ∙ ap (λ k. not (is_opening k)) e)
+
+-- a word among specifiers, and one among qualifiers
+pub data Specifies (ks : List Kind) (a : ℕ) : Type 0 where
+  by_word : is_specifying (kind_at ks a) ≡ true → Specifies ks a
+  by_atomic : kind_at ks a ≡ Atomic → (kind_at ks (a + 1) ≡ OpenParen → ⊥) → Specifies ks a
+
+pub specifies_view : (ks : List Kind) → (a : ℕ) → specifies_at ks a ≡ true → Specifies ks a
+unfolding specifies_at
+specifies_view ks a h =
+    elim (either (is_specifying (kind_at ks a)) (atomic_at ks a) h) [
+      | inl p ↦ by_word p
+      | inr q ↦ by_atomic (atomic_kind ks a q) (atomic_alone ks a q)
+    ]
+
+pub data Qualifies (ks : List Kind) (a : ℕ) : Type 0 where
+  by_qualifier : kind_at ks a ≡ Qualifier → Qualifies ks a
+  by_lone : kind_at ks a ≡ Atomic → (kind_at ks (a + 1) ≡ OpenParen → ⊥) → Qualifies ks a
+
+pub qualifies_view : (ks : List Kind) → (a : ℕ) → qualifies_at ks a ≡ true → Qualifies ks a
+unfolding qualifies_at
+qualifies_view ks a h =
+    elim (either (is_qualifier (kind_at ks a)) (atomic_at ks a) h) [
+      | inl p ↦ by_qualifier (is_word_qualifier (kind_at ks a) p)
+      | inr q ↦ by_lone (atomic_kind ks a q) (atomic_alone ks a q)
+    ]
+
+qualifier_specifies : (k : Kind) → is_qualifier k ≡ true → is_specifying k ≡ true
+qualifier_specifies Qualifier h = refl
+qualifier_specifies _ h = absurd (true≢false (sym h))
+
+pub qualifies_specifies : (ks : List Kind) → (a : ℕ) → qualifies_at ks a ≡ true → specifies_at ks a ≡ true
+unfolding qualifies_at specifies_at
+qualifies_specifies ks a h =
+    elim (either (is_qualifier (kind_at ks a)) (atomic_at ks a) h) [
+      | inl p ↦ or_left (is_specifying (kind_at ks a)) (atomic_at ks a) (qualifier_specifies (kind_at ks a) p)
+      | inr q ↦ or_right (is_specifying (kind_at ks a)) (atomic_at ks a) q
+    ]
+
+starts_by : (ks : List Kind) → (a : ℕ) → Specifies ks a → starts_type (kind_at ks a) ≡ true
+starts_by ks a (by_word p) = word_starts (kind_at ks a) p
+starts_by ks a (by_atomic e n) = ap starts_type e
+
+pub specifies_starts : (ks : List Kind) → (a : ℕ) → specifies_at ks a ≡ true → starts_type (kind_at ks a) ≡ true
+specifies_starts ks a h = starts_by ks a (specifies_view ks a h)
+
+-- no word of another kind is among them
+not_by : {A : Type 0} → (ks : List Kind) → (a : ℕ) → (k : Kind) → Specifies ks a → kind_at ks a ≡ k → is_specifying k ≡ false → is_atomic k ≡ false → A
+not_by ks a k (by_word p) e s n = absurd (true≢false (sym p ∙ ap is_specifying e ∙ s))
+not_by ks a k (by_atomic q m) e s n = absurd (true≢false (sym (ap is_atomic q) ∙ ap is_atomic e ∙ n))
+
+pub specifies_not : {A : Type 0} → (ks : List Kind) → (a : ℕ) → (k : Kind) → specifies_at ks a ≡ true → kind_at ks a ≡ k → is_specifying k ≡ false
+    → is_atomic k ≡ false → A
+specifies_not ks a k h e s n = not_by ks a k (specifies_view ks a h) e s n
+
+pub qualifies_not : {A : Type 0} → (ks : List Kind) → (a : ℕ) → (k : Kind) → qualifies_at ks a ≡ true → kind_at ks a ≡ k → is_specifying k ≡ false
+    → is_atomic k ≡ false → A
+qualifies_not ks a k h e s n = specifies_not ks a k (qualifies_specifies ks a h) e s n
+
+-- `_Atomic` in front of a `(` is none
+atomic_not_by : {A : Type 0} → (ks : List Kind) → (a : ℕ) → Specifies ks a → kind_at ks a ≡ Atomic → kind_at ks (a + 1) ≡ OpenParen → A
+atomic_not_by ks a (by_word p) e o = absurd (true≢false (sym p ∙ ap is_specifying e))
+atomic_not_by ks a (by_atomic q m) e o = absurd (m o)
+
+pub atomic_not : {A : Type 0} → (ks : List Kind) → (a : ℕ) → specifies_at ks a ≡ true → kind_at ks a ≡ Atomic → kind_at ks (a + 1) ≡ OpenParen → A
+atomic_not ks a h e o = atomic_not_by ks a (specifies_view ks a h) e o
+
+pub qualifies_starts : (ks : List Kind) → (a : ℕ) → qualifies_at ks a ≡ true → starts_type (kind_at ks a) ≡ true
+qualifies_starts ks a h = specifies_starts ks a (qualifies_specifies ks a h)
+
+both_true : (p q : Bool) → p ≡ true → q ≡ true → (p && q) ≡ true
+both_true true q h g = g
+both_true false q h g = absurd (true≢false (sym h))
+
+opening_kind : (k : Kind) → is_opening k ≡ true → k ≡ OpenParen
+opening_kind OpenParen h = refl
+opening_kind _ h = absurd (true≢false (sym h))
+
+-- `_Atomic ( type-name )`
+pub opens_kind : (ks : List Kind) → (a : ℕ) → atomic_opens ks a ≡ true → kind_at ks a ≡ Atomic
+unfolding atomic_opens
+opens_kind ks a h = is_word_atomic (kind_at ks a) (left_of (is_atomic (kind_at ks a)) (is_opening (kind_at ks (a + 1))) h)
+
+pub opens_next : (ks : List Kind) → (a : ℕ) → atomic_opens ks a ≡ true → kind_at ks (a + 1) ≡ OpenParen
+unfolding atomic_opens
+opens_next ks a h = opening_kind (kind_at ks (a + 1)) (right_of (is_atomic (kind_at ks a)) (is_opening (kind_at ks (a + 1))) h)
+
+pub opens_both : (ks : List Kind) → (a : ℕ) → kind_at ks a ≡ Atomic → kind_at ks (a + 1) ≡ OpenParen → atomic_opens ks a ≡ true
+unfolding atomic_opens
+opens_both ks a k o = both_true (is_atomic (kind_at ks a)) (is_opening (kind_at ks (a + 1))) (ap is_atomic k) (ap is_opening o)
+
+opening_inside : (ks : List Kind) → (a : ℕ) → is_opening (kind_at ks a) ≡ true → a < length ks
+opening_inside [] a h = absurd (true≢false (sym h))
+opening_inside (k ∷ ks) zero h = omega arith
+opening_inside (k ∷ ks) (suc a) h = omega (arith, opening_inside ks a h)
+
+-- a word, by its kind
+pub word_specifies : (ks : List Kind) → (a : ℕ) → (k : Kind) → kind_at ks a ≡ k → is_specifying k ≡ true → specifies_at ks a ≡ true
+unfolding specifies_at
+word_specifies ks a k e s = or_left (is_specifying (kind_at ks a)) (atomic_at ks a) (ap is_specifying e ∙ s)
+
+atomic_alone_at : (ks : List Kind) → (a : ℕ) → kind_at ks a ≡ Atomic → is_opening (kind_at ks (a + 1)) ≡ false → atomic_at ks a ≡ true
+unfolding atomic_at
+atomic_alone_at ks a k n = both_true (is_atomic (kind_at ks a)) (not (is_opening (kind_at ks (a + 1)))) (ap is_atomic k) (ap not n)
+
+opens_not : (ks : List Kind) → (a : ℕ) → kind_at ks a ≡ Atomic → atomic_opens ks a ≡ false → is_opening (kind_at ks (a + 1)) ≡ false
+unfolding atomic_opens
+opens_not ks a k n = ap (λ x. is_atomic x && is_opening (kind_at ks (a + 1))) (sym k) ∙ n
+
+pub lone_specifies : (ks : List Kind) → (a : ℕ) → kind_at ks a ≡ Atomic → atomic_opens ks a ≡ false → specifies_at ks a ≡ true
+unfolding specifies_at
+lone_specifies ks a k n =
+    or_right (is_specifying (kind_at ks a)) (atomic_at ks a) (atomic_alone_at ks a k (opens_not ks a k n))
+
+-- no word stands where none of their kinds does
+word_by : (k : Kind) → (k ≡ TypeWord → ⊥) → (k ≡ Qualifier → ⊥) → is_specifying k ≡ true → ⊥
+word_by TypeWord w q h = w refl
+word_by Qualifier w q h = q refl
+word_by _ w q h = true≢false (sym h)
+
+none_by : (ks : List Kind) → (a : ℕ) → (k : Kind) → k ≡ kind_at ks a → (k ≡ TypeWord → ⊥) → (k ≡ Qualifier → ⊥) → (k ≡ Atomic → ⊥) → Specifies ks a → ⊥
+none_by ks a k e w q n (by_word p) = word_by k w q (ap is_specifying e ∙ p)
+none_by ks a k e w q n (by_atomic h m) = n (e ∙ h)
+
+pub specifies_none : (ks : List Kind) → (a : ℕ) → (k : Kind) → k ≡ kind_at ks a → (k ≡ TypeWord → ⊥) → (k ≡ Qualifier → ⊥) → (k ≡ Atomic → ⊥)
+    → specifies_at ks a ≡ true → ⊥
+specifies_none ks a k e w q n h = none_by ks a k e w q n (specifies_view ks a h)
+
+starts_inside : (ks : List Kind) → (a : ℕ) → starts_type (kind_at ks a) ≡ true → a < length ks
+starts_inside [] a h = absurd (true≢false (sym h))
+starts_inside (k ∷ ks) zero h = omega arith
+starts_inside (k ∷ ks) (suc a) h = omega (arith, starts_inside ks a h)
+
+-- a qualifier is a token
+pub qualifies_inside : (ks : List Kind) → (a : ℕ) → qualifies_at ks a ≡ true → a < length ks
+qualifies_inside ks a h = starts_inside ks a (qualifies_starts ks a h)
+
+pub opens_inside : (ks : List Kind) → (a : ℕ) → atomic_opens ks a ≡ true → a + 1 < length ks
+opens_inside ks a h = opening_inside ks (a + 1) (ap is_opening (opens_next ks a h))

@@ -1,0 +1,75 @@
+use Rattle.std.proofs.Common.{ap, sym, ◌∙◌, refl, ◌||◌}
+use Rattle.c_parser.specs.Kinds.{is_type_word, is_word}
+use Rattle.c_parser.proofs.SpecifierLists.{word_found, typedef_hides, untagged, no_kind}
+use Rattle.c_parser.proofs.Words.{word_specifies, lone_specifies}
+use Rattle.c_parser.proofs.type_names.short_specifier.Goals as goal
+
+pub returns-then-typed : goal.returns-then-typed
+returns-then-typed c = typedef_hides _ _ _ c.requires.short (sym c.in-TypeName.ensures.kind) c.if-typed.true
+
+pub returns-then-not-is_word : goal.returns-then-not-is_word
+returns-then-not-is_word c =
+    untagged
+    _
+    _
+    _
+    c.requires.short
+    (sym c.in-Tag.ensures.kind)
+    (ap is_word (sym c.kind_at-in-Tag.ensures.kind) ∙ sym c.is_word.ensures ∙ c.if-not-is_word.true)
+
+pub returns-in-TypeWord : goal.returns-in-TypeWord
+returns-in-TypeWord c =
+    let here = sym c.in-TypeWord.ensures.kind in
+    word_found
+    _
+    _
+    _
+    _
+    _
+    c.word.ensures
+    (word_specifies _ _ _ here refl)
+    c.in-TypeWord.ensures.inside
+    (ap (λ k. is_type_word k || c.args.typed) (sym here))
+
+pub returns-in-Qualifier : goal.returns-in-Qualifier
+returns-in-Qualifier c =
+    let here = sym c.in-Qualifier.ensures.kind in
+    word_found
+    _
+    _
+    _
+    _
+    _
+    c.word-in-Qualifier.ensures
+    (word_specifies _ _ _ here refl)
+    c.in-Qualifier.ensures.inside
+    (ap (λ k. is_type_word k || c.args.typed) (sym here))
+
+pub returns-in-Atomic : goal.returns-in-Atomic
+returns-in-Atomic c =
+    let here = sym c.in-Atomic.ensures.kind in
+    word_found
+    _
+    _
+    _
+    _
+    _
+    c.word-in-Atomic.ensures
+    (lone_specifies _ _ here c.requires.short)
+    c.in-Atomic.ensures.inside
+    (ap (λ k. is_type_word k || c.args.typed) (sym here))
+
+pub returns-in_default : goal.returns-in_default
+returns-in_default c =
+    no_kind
+    _
+    _
+    _
+    _
+    c.requires.short
+    c.kind_at.ensures.kind
+    c.in_default.not-TypeWord
+    c.in_default.not-Qualifier
+    c.in_default.not-Atomic
+    c.in_default.not-TypeName
+    c.in_default.not-Tag

@@ -1,0 +1,32 @@
+-- Parts of declarators that hold no expression (ISO C11 6.7.6, 6.7.7): qualifiers and pointers.
+use Rattle.std.specs.Prelude.{◌≡◌, ℕ, List, [], ◌∷◌, ◌++◌, true}
+use Rattle.tree_data.specs.Trees.{Declaring, Declaring_of, No_group, Group_of, No_derivings, Deriving_then}
+use Rattle.c_parser.specs.declared.kinds.Kind.{Kind}
+use Rattle.c_parser.specs.declared.kinds.Kind.TheVariants.{Star}
+use Rattle.c_parser.specs.Kinds.{kind_at, qualifies_at}
+
+abbrev pub spell_pointers : List (ℕ × List ℕ) → List ℕ
+spell_pointers [] = []
+spell_pointers (p ∷ ps) = p.0 ∷ (p.1 ++ spell_pointers ps)
+
+-- 6.7.6 type-qualifier-list : type-qualifier | type-qualifier-list type-qualifier
+abbrev pub AreQualifiers : List Kind → List ℕ → Type 0
+AreQualifiers kinds [] = Unit {0}
+AreQualifiers kinds (n ∷ ns) = (qualifies_at kinds n ≡ true) × AreQualifiers kinds ns
+
+-- 6.7.6 pointer : * type-qualifier-list opt pointer opt
+abbrev pub ArePointers : List Kind → List (ℕ × List ℕ) → Type 0
+ArePointers kinds [] = Unit {0}
+ArePointers kinds (p ∷ ps) = (kind_at kinds p.0 ≡ Star) × AreQualifiers kinds p.1 × ArePointers kinds ps
+
+-- a list that isn't left out
+abbrev pub AreThere : List ℕ → Type 0
+AreThere [] = ⊥
+AreThere (n ∷ ns) = Unit {0}
+
+-- something stands in the declarator
+abbrev pub IsAbstract : Declaring → Type 0
+IsAbstract (Declaring_of (p ∷ ps) g ds) = Unit {0}
+IsAbstract (Declaring_of [] (Group_of o d c) ds) = Unit {0}
+IsAbstract (Declaring_of [] No_group (Deriving_then d ds)) = Unit {0}
+IsAbstract (Declaring_of [] No_group No_derivings) = ⊥

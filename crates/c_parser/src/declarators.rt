@@ -1,0 +1,280 @@
+// Abstract declarators (ISO C11 6.7.7): pointers, a declarator in parentheses, arrays and functions.
+ghost use Rattle.std.specs.Prelude.{◌≡◌, true, false, ℕ, ◌+◌, ◌<◌, ◌≤◌, length, IfOk, IfErr};
+ghost use Rattle.tree_data.specs.Seen.{pointers_of, declarator_of, group_of, deriving_of, derivings_of, bound_of};
+ghost use Rattle.tree_data.specs.Trees as tree;
+ghost use Rattle.tree_data.specs.Trees.{Declaring, Grouping, Derivings, No_derivings};
+ghost use Rattle.c_parser.specs.declared.kinds.Kind.TheVariants.{OpenParen, OpenBracket, CloseBracket, Static};
+ghost use Rattle.c_parser.specs.Kinds as spec;
+ghost use Rattle.c_parser.specs.Reading.{HoldsDeclaring, HoldsGrouping, HoldsDeriving, HoldDerivings, HoldsBound, MustGive};
+ghost use Rattle.c_parser.specs.TypeNames.{FoundQualifiers, FoundPointers, FoundDeclaring, FoundGrouping, FoundDeriving, FoundDerivings, FoundBound};
+
+use crate::answers::Stop;
+use crate::expressions::{ASSIGNMENT, level};
+use crate::kinds::{Kind, any_size_at, kind_at, qualifies_at};
+use std::alloc::Global;
+use tree_data::{Bound, Declarator, Deriving, Group, Pointer};
+
+// All qualifiers that stand here.
+fn qualifiers(alloc: Global, kinds: &[Kind], at: u32) -> Result<(Vec<u32>, u32), Stop>
+    requires size { length kinds.now ≤ 2000000 }
+    requires inside { at ≤ length kinds.now }
+    ensures found { IfOk result (λ r. FoundQualifiers kinds.now at r.0.items r.1) }
+    ensures memory { IfErr result (λ e. e ≡ Stop.NoMemory) }
+{
+    let mut qualifiers = Vec::new(alloc);
+    let mut end = at;
+    'qualifiers: loop {
+        if !qualifies_at(kinds, end) {
+            return Ok((qualifiers, end));
+        }
+        let Ok(()) = qualifiers.push(end) else {
+            return Err(Stop::NoMemory);
+        };
+        end += 1;
+    }
+}
+
+// All pointers that stand here.
+fn pointers(alloc: Global, kinds: &[Kind], at: u32) -> Result<(Vec<Pointer>, u32), Stop>
+    requires size { length kinds.now ≤ 2000000 }
+    requires inside { at ≤ length kinds.now }
+    ensures found { IfOk result (λ r. FoundPointers kinds.now at (pointers_of r.0.items) r.1) }
+    ensures memory { IfErr result (λ e. e ≡ Stop.NoMemory) }
+{
+    let mut pointers = Vec::new(alloc);
+    let mut end = at;
+    'pointers: loop {
+        let Kind::Star = kind_at(kinds, end) else {
+            return Ok((pointers, end));
+        };
+        let (qualifiers, next) = match qualifiers(alloc, kinds, end + 1) {
+            Ok(found) => found,
+            Err(stop) => return Err(stop),
+        };
+        let pointer = Pointer {
+            star: end,
+            qualifiers,
+        };
+        let Ok(()) = pointers.push(pointer) else {
+            return Err(Stop::NoMemory);
+        };
+        end = next;
+    }
+}
+
+// A declarator in parentheses, or nothing: a `(` with a `)` behind it opens the parameters of a function.
+#[cycle(parser)]
+fn group(alloc: Global, kinds: &[Kind], at: u32) -> Result<(Group, u32), Stop>
+    requires size { length kinds.now ≤ 2000000 }
+    requires inside { at ≤ length kinds.now }
+    ensures found { IfOk result (λ r. FoundGrouping kinds.now at (group_of r.0) r.1) }
+    ensures only { (g : Grouping) → (m : ℕ) → (ds : Derivings) → (end : ℕ) → HoldsGrouping kinds.now g at m
+        → HoldDerivings kinds.now ds m end → spec.ends_type (spec.kind_at kinds.now end) ≡ true
+        → MustGive result (λ r. (group_of r.0 ≡ g) × (r.1 ≡ m)) }
+{
+    let Kind::OpenParen = kind_at(kinds, at) else {
+        return Ok((Group::none(), at));
+    };
+    if let Kind::CloseParen = kind_at(kinds, at + 1) {
+        return Ok((Group::none(), at));
+    }
+    let (inner, closing) = match declarator(alloc, kinds, at + 1) {
+        Ok(found) => found,
+        Err(stop) => return Err(stop),
+    };
+    let Kind::CloseParen = kind_at(kinds, closing) else {
+        return Err(Stop::Syntax(closing));
+    };
+    match Group::of(alloc, at, inner, closing) {
+        Ok(group) => Ok((group, closing + 1)),
+        Err(_) => Err(Stop::NoMemory),
+    }
+}
+
+// `static`, qualifiers and a size.
+#[cycle(parser)]
+fn static_bound(alloc: Global, kinds: &[Kind], at: u32) -> Result<(Bound, u32), Stop>
+    requires size { length kinds.now ≤ 2000000 }
+    requires inside { at < length kinds.now }
+    requires kind { spec.kind_at kinds.now at ≡ Static }
+    ensures found { IfOk result (λ r. FoundBound kinds.now at (bound_of r.0) r.1) }
+    ensures only { (x : tree.Bound) → (end : ℕ) → HoldsBound kinds.now x at end → spec.kind_at kinds.now end ≡ CloseBracket
+        → MustGive result (λ r. (bound_of r.0 ≡ x) × (r.1 ≡ end)) }
+{
+    let (qualifiers, behind) = match qualifiers(alloc, kinds, at + 1) {
+        Ok(found) => found,
+        Err(stop) => return Err(stop),
+    };
+    let (size, end) = match level(alloc, kinds, ASSIGNMENT, behind) {
+        Ok(found) => found,
+        Err(stop) => return Err(stop),
+    };
+    match Bound::static_sized(alloc, at, qualifiers, size) {
+        Ok(bound) => Ok((bound, end)),
+        Err(_) => Err(Stop::NoMemory),
+    }
+}
+
+// What stands behind the qualifiers of an array: a size, `static` and a size, `*`, or nothing.
+#[cycle(parser)]
+fn bound_behind(
+    alloc: Global,
+    kinds: &[Kind],
+    at: u32,
+    qualifiers: Vec<u32>,
+    behind: u32,
+) -> Result<(Bound, u32), Stop>
+    requires size { length kinds.now ≤ 2000000 }
+    requires found { FoundQualifiers kinds.now at qualifiers.items behind }
+    requires unstatic { spec.kind_at kinds.now at ≡ Static → ⊥ }
+    requires told { spec.any_size_at kinds.now at ≡ false }
+    ensures found { IfOk result (λ r. FoundBound kinds.now at (bound_of r.0) r.1) }
+    ensures only { (x : tree.Bound) → (end : ℕ) → HoldsBound kinds.now x at end → spec.kind_at kinds.now end ≡ CloseBracket
+        → MustGive result (λ r. (bound_of r.0 ≡ x) × (r.1 ≡ end)) }
+{
+    if let Kind::CloseBracket = kind_at(kinds, behind) {
+        return Ok((Bound::unsized_by(qualifiers), behind));
+    }
+    if let Kind::Static = kind_at(kinds, behind) {
+        let (size, end) = match level(alloc, kinds, ASSIGNMENT, behind + 1) {
+            Ok(found) => found,
+            Err(stop) => return Err(stop),
+        };
+        return match Bound::sized_static(alloc, qualifiers, behind, size) {
+            Ok(bound) => Ok((bound, end)),
+            Err(_) => Err(Stop::NoMemory),
+        };
+    }
+    let (size, end) = match level(alloc, kinds, ASSIGNMENT, behind) {
+        Ok(found) => found,
+        Err(stop) => return Err(stop),
+    };
+    match Bound::sized(alloc, qualifiers, size) {
+        Ok(bound) => Ok((bound, end)),
+        Err(_) => Err(Stop::NoMemory),
+    }
+}
+
+// What stands in the brackets of an array, behind which `]` has to stand.
+#[cycle(parser)]
+fn bound(alloc: Global, kinds: &[Kind], at: u32) -> Result<(Bound, u32), Stop>
+    requires size { length kinds.now ≤ 2000000 }
+    requires inside { at ≤ length kinds.now }
+    ensures found { IfOk result (λ r. FoundBound kinds.now at (bound_of r.0) r.1) }
+    ensures only { (x : tree.Bound) → (end : ℕ) → HoldsBound kinds.now x at end → spec.kind_at kinds.now end ≡ CloseBracket
+        → MustGive result (λ r. (bound_of r.0 ≡ x) × (r.1 ≡ end)) }
+{
+    if any_size_at(kinds, at) {
+        return Ok((Bound::any_size(at), at + 1));
+    }
+    if let Kind::Static = kind_at(kinds, at) {
+        return static_bound(alloc, kinds, at);
+    }
+    match qualifiers(alloc, kinds, at) {
+        Ok((qualifiers, behind)) => bound_behind(alloc, kinds, at, qualifiers, behind),
+        Err(stop) => Err(stop),
+    }
+}
+
+// An array.
+#[cycle(parser)]
+fn array(alloc: Global, kinds: &[Kind], at: u32) -> Result<(Deriving, u32), Stop>
+    requires size { length kinds.now ≤ 2000000 }
+    requires inside { at < length kinds.now }
+    requires kind { spec.kind_at kinds.now at ≡ OpenBracket }
+    ensures found { IfOk result (λ r. FoundDeriving kinds.now at (deriving_of r.0) r.1) }
+    ensures only { (d : tree.Deriving) → (end : ℕ) → HoldsDeriving kinds.now d at end
+        → MustGive result (λ r. (deriving_of r.0 ≡ d) × (r.1 ≡ end)) }
+{
+    let (bound, closing) = match bound(alloc, kinds, at + 1) {
+        Ok(found) => found,
+        Err(stop) => return Err(stop),
+    };
+    let Kind::CloseBracket = kind_at(kinds, closing) else {
+        return Err(Stop::Syntax(closing));
+    };
+    Ok((Deriving::array(at, bound, closing), closing + 1))
+}
+
+// A function without parameters.
+fn function(kinds: &[Kind], at: u32) -> Result<(Deriving, u32), Stop>
+    requires size { length kinds.now ≤ 2000000 }
+    requires inside { at < length kinds.now }
+    requires kind { spec.kind_at kinds.now at ≡ OpenParen }
+    ensures found { IfOk result (λ r. FoundDeriving kinds.now at (deriving_of r.0) r.1) }
+    ensures only { (d : tree.Deriving) → (end : ℕ) → HoldsDeriving kinds.now d at end
+        → MustGive result (λ r. (deriving_of r.0 ≡ d) × (r.1 ≡ end)) }
+{
+    let Kind::CloseParen = kind_at(kinds, at + 1) else {
+        return Err(Stop::Syntax(at + 1));
+    };
+    Ok((Deriving::function(at, at + 1), at + 2))
+}
+
+// An array or a function.
+#[cycle(parser)]
+fn array_or_function(alloc: Global, kinds: &[Kind], at: u32) -> Result<(Deriving, u32), Stop>
+    requires size { length kinds.now ≤ 2000000 }
+    requires inside { at ≤ length kinds.now }
+    requires kind { spec.is_deriving (spec.kind_at kinds.now at) ≡ true }
+    ensures found { IfOk result (λ r. FoundDeriving kinds.now at (deriving_of r.0) r.1) }
+    ensures only { (d : tree.Deriving) → (end : ℕ) → HoldsDeriving kinds.now d at end
+        → MustGive result (λ r. (deriving_of r.0 ≡ d) × (r.1 ≡ end)) }
+{
+    match kind_at(kinds, at) {
+        Kind::OpenBracket => array(alloc, kinds, at),
+        Kind::OpenParen => function(kinds, at),
+        _ => Err(Stop::Syntax(at)),
+    }
+}
+
+// The arrays and functions that stand here.
+#[cycle(parser)]
+fn derivings(alloc: Global, kinds: &[Kind], at: u32) -> Result<(Vec<Deriving>, u32), Stop>
+    requires size { length kinds.now ≤ 2000000 }
+    requires inside { at ≤ length kinds.now }
+    ensures found { IfOk result (λ r. FoundDerivings kinds.now at (tree.derivings (derivings_of r.0.items) No_derivings) r.1) }
+    ensures only { (ds : Derivings) → (end : ℕ) → HoldDerivings kinds.now ds at end
+        → spec.ends_type (spec.kind_at kinds.now end) ≡ true
+        → MustGive result (λ r. (tree.derivings (derivings_of r.0.items) No_derivings ≡ ds) × (r.1 ≡ end)) }
+{
+    let mut derivings = Vec::new(alloc);
+    let mut end = at;
+    'derivings: loop {
+        if !kind_at(kinds, end).is_deriving() {
+            return Ok((derivings, end));
+        }
+        let (one, next) = match array_or_function(alloc, kinds, end) {
+            Ok(found) => found,
+            Err(stop) => return Err(stop),
+        };
+        let Ok(()) = derivings.push(one) else {
+            return Err(Stop::NoMemory);
+        };
+        end = next;
+    }
+}
+
+// An abstract declarator, or nothing.
+#[cycle(parser)]
+pub(crate) fn declarator(alloc: Global, kinds: &[Kind], at: u32) -> Result<(Declarator, u32), Stop>
+    requires size { length kinds.now ≤ 2000000 }
+    requires inside { at ≤ length kinds.now }
+    ensures found { IfOk result (λ r. FoundDeclaring kinds.now at (declarator_of r.0) r.1) }
+    ensures only { (d : Declaring) → (end : ℕ) → HoldsDeclaring kinds.now d at end
+        → spec.ends_type (spec.kind_at kinds.now end) ≡ true
+        → MustGive result (λ r. (declarator_of r.0 ≡ d) × (r.1 ≡ end)) }
+{
+    let (pointers, behind) = match pointers(alloc, kinds, at) {
+        Ok(found) => found,
+        Err(stop) => return Err(stop),
+    };
+    let (group, next) = match group(alloc, kinds, behind) {
+        Ok(found) => found,
+        Err(stop) => return Err(stop),
+    };
+    match derivings(alloc, kinds, next) {
+        Ok((derivings, end)) => Ok((Declarator::new(pointers, group, derivings), end)),
+        Err(stop) => Err(stop),
+    }
+}
