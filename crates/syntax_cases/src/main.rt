@@ -13,6 +13,7 @@ use std::alloc::{AllocError, Global};
 use std::io;
 use std::io::Read;
 use tok_data::OutToken;
+use tree_data::TypeName;
 
 // More tokens are no expression.
 const MOST_TOKENS: usize = 2_000_000;
@@ -53,7 +54,8 @@ fn show_type_name(rt: &HostRuntime, names: &NameSet, tokens: &[OutToken]) -> io:
     }
     match parse_type_name(rt.alloc(), tokens, names) {
         Ok((specs, declarator)) => {
-            let text = shown_name(rt.alloc(), tokens, &specs, &declarator)?;
+            let name = TypeName::new(specs, declarator);
+            let text = shown_name(rt.alloc(), tokens, &name)?;
             let text = text.as_str();
             println!(rt; "{text}")
         }

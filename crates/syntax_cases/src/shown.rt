@@ -3,7 +3,7 @@ use std::alloc::{AllocError, Global};
 use tok_data::OutToken;
 use tree_data::{
     Association, Bound, Braces, Choice, Declarator, Deriving, Designator, Expr, Group, Init, Piece,
-    Prefix, Specifier, Specs, Suffix, TypeName,
+    Prefix, Specifier, Suffix, TypeName,
 };
 
 fn spelling(tokens: &[OutToken], at: u32) -> &str {
@@ -111,7 +111,7 @@ fn show_specifier(
         }
         Specifier::Atomic(_, _, name, _) => {
             out.push_str("(atomic ")?;
-            show_name(out, tokens, &name.specs, &name.declarator)?;
+            show_name(out, tokens, name)?;
             out.push_str(")")
         }
     }
@@ -205,19 +205,14 @@ fn show_declarator(
 }
 
 #[cycle(show)]
-fn show_name(
-    out: &mut String,
-    tokens: &[OutToken],
-    specs: &Specs,
-    declarator: &Declarator,
-) -> Result<(), AllocError> {
+fn show_name(out: &mut String, tokens: &[OutToken], name: &TypeName) -> Result<(), AllocError> {
     out.push_str("(type (specs")?;
-    for specifier in &specs.specifiers {
+    for specifier in &name.specs.specifiers {
         out.push_str(" ")?;
         show_specifier(out, tokens, specifier)?;
     }
     out.push_str(") ")?;
-    show_declarator(out, tokens, declarator)?;
+    show_declarator(out, tokens, &name.declarator)?;
     out.push_str(")")
 }
 
@@ -227,7 +222,7 @@ fn open_prefix(out: &mut String, tokens: &[OutToken], prefix: &Prefix) -> Result
         Prefix::Operator(at) => open_unary(out, tokens, *at),
         Prefix::Cast(_, name, _) => {
             out.push_str("(cast ")?;
-            show_name(out, tokens, &name.specs, &name.declarator)?;
+            show_name(out, tokens, name)?;
             out.push_str(" ")
         }
     }
@@ -245,7 +240,7 @@ fn show_of_type(
         true => out.push_str("(sizeof ")?,
         false => out.push_str("(alignof ")?,
     }
-    show_name(out, tokens, &name.specs, &name.declarator)?;
+    show_name(out, tokens, name)?;
     out.push_str(")")
 }
 
@@ -394,7 +389,7 @@ fn show_association(
     match association {
         Association::Typed(name, _, expr) => {
             out.push_str(" (")?;
-            show_name(out, tokens, &name.specs, &name.declarator)?;
+            show_name(out, tokens, name)?;
             out.push_str(" ")?;
             show(out, tokens, expr)?;
             out.push_str(")")
@@ -443,7 +438,7 @@ fn show_offset(out: &mut String, tokens: &[OutToken], expr: &Expr) -> Result<(),
         return Ok(());
     };
     out.push_str("(offsetof ")?;
-    show_name(out, tokens, &name.specs, &name.declarator)?;
+    show_name(out, tokens, name)?;
     out.push_str(" .")?;
     spell(out, tokens, *member)?;
     for step in steps {
@@ -474,7 +469,7 @@ fn show(out: &mut String, tokens: &[OutToken], expr: &Expr) -> Result<(), AllocE
         Expr::OfType(keyword, _, name, _) => show_of_type(out, tokens, *keyword, name),
         Expr::Compound(_, name, _, list) => {
             out.push_str("(compound ")?;
-            show_name(out, tokens, &name.specs, &name.declarator)?;
+            show_name(out, tokens, name)?;
             out.push_str(" ")?;
             show_braces(out, tokens, list)?;
             out.push_str(")")
@@ -504,10 +499,9 @@ pub fn shown(alloc: Global, tokens: &[OutToken], expr: &Expr) -> Result<String, 
 pub fn shown_name(
     alloc: Global,
     tokens: &[OutToken],
-    specs: &Specs,
-    declarator: &Declarator,
+    name: &TypeName,
 ) -> Result<String, AllocError> {
     let mut out = String::new(alloc);
-    show_name(&mut out, tokens, specs, declarator)?;
+    show_name(&mut out, tokens, name)?;
     Ok(out)
 }
