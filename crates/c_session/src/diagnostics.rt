@@ -187,7 +187,7 @@ fn publish_text(
     encoding: Encoding,
     showing: Showing<'_>,
 ) -> Result<String, AllocError>
-    requires short { length showing.text.now ≤ 4194304 }
+    requires short { length showing.text.now ≤ 4290772992 }
     requires within { AreWithin (length showing.text.now) showing.faults.now }
     ensures { IfOk result (λ s. string_bytes s ≡ publish_start ++ items_text false (items_of (map (diagnostic showing.entry.text.now encoding) showing.entry.faults.now))
         ++ publish_end showing.entry.uri.now showing.entry.version) }
@@ -209,7 +209,7 @@ pub(crate) fn push_diagnostics_of(
     encoding: Encoding,
     showing: Showing<'_>,
 ) -> Result<(), AllocError>
-    requires short { length showing.text.now ≤ 4194304 }
+    requires short { length showing.text.now ≤ 4290772992 }
     requires within { AreWithin (length showing.text.now) showing.faults.now }
     ensures { OnOk result (out.new.items ≡ out.old.items ++ publish showing.entry.uri.now showing.entry.version (map (diagnostic showing.entry.text.now encoding) showing.entry.faults.now)) }
 {

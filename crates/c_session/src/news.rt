@@ -83,7 +83,7 @@ fn push_shown(
 /// The text of a file, empty where it has none.
 fn text_of<'a>(docs: &'a Docs, path: &Path) -> &'a str
     ensures text { result.now ≡ unwrap_or (text_at docs.now path.now) [] }
-    ensures short { length result.now ≤ 4194304 }
+    ensures short { length result.now ≤ 4290772992 }
 {
     match docs.text(path) {
         Some(text) => text,

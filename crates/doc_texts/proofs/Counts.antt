@@ -191,4 +191,4 @@ unfolding byte_count
 no_bytes root = λ i. sum_by length (map (λ e. e.1) (nothing_in (List ℕ) i)) + sum_by (λ document. length document.text) (map (λ e. e.1) (nothing_in OpenText i))
 
 pub nothing_counted : (root : Option (List ℕ)) → Counted (texts_under root) 0 0
-nothing_counted root = record { counted = sym (no_files root); summed = sym (no_bytes root); few = omega arith; small = omega arith }
+nothing_counted root = record { counted = sym (no_files root); summed = sym (no_bytes root) }

@@ -2,7 +2,6 @@
 use Rattle.std.proofs.Common.{◌≡◌, ℕ, ◌+◌, ◌-◌, ◌≤◌, true, false, List, length, Option, Some, None, is_some, sym, refl, ap, ◌∙◌, arith, true≢false, cond, zero, suc}
 use Rattle.std.specs.FinMap.{get, get-empty, empty_of_len, contains_key}
 use Rattle.doc_texts.specs.Kept.{Counted}
-use Rattle.doc_texts.specs.Limits.{most_bytes}
 use Rattle.doc_texts.specs.Texts.{Texts, OpenText, shown, text_at, file_count, byte_count, without_disk, with_open, without_open}
 use Rattle.doc_texts.proofs.Counts.{marks, held, files_len, files_with_open, files_without_disk, files_without_disk_open, files_without_open, files_without_open_disk, bytes_without_disk, bytes_without_open}
 use Rattle.doc_texts.proofs.Found.{disk_size_is, disk_size_within, open_size_is, open_size_within}
@@ -48,16 +47,12 @@ module _ (t : Texts) (p : List ℕ) (files bytes : ℕ) (k : Counted t files byt
     disk_dropped shut = record {
       counted = ap (λ all. all - 1) k.counted ∙ sym (files_without_disk t p shut (ap is_some (sym found)));
       summed = disk_gone;
-      few = omega (arith, k.few);
-      small = omega (arith, k.small);
     }
 
     pub hidden_dropped : is_some (get t.opened p) ≡ true → Counted (without_disk t p) files (bytes - n)
     hidden_dropped opened = record {
       counted = k.counted ∙ sym (files_without_disk_open t p opened);
       summed = disk_gone;
-      few = k.few;
-      small = omega (arith, k.small);
     }
 
   module _ (d : OpenText) (found : Some d ≡ get t.opened p) (n : ℕ) (long : n ≡ length d.text) where
@@ -74,25 +69,19 @@ module _ (t : Texts) (p : List ℕ) (files bytes : ℕ) (k : Counted t files byt
     open_dropped gone = record {
       counted = ap (λ all. all - 1) k.counted ∙ sym (files_without_open t p gone (ap is_some (sym found)));
       summed = open_gone;
-      few = omega (arith, k.few);
-      small = omega (arith, k.small);
     }
 
     pub open_uncovers : is_some (get t.disk p) ≡ true → Counted (without_open t p) files (bytes - n)
     open_uncovers on_disk = record {
       counted = k.counted ∙ sym (files_without_open_disk t p on_disk);
       summed = open_gone;
-      few = k.few;
-      small = omega (arith, k.small);
     }
 
 files_again : (t : Texts) (p : List ℕ) (d e : OpenText) → Some d ≡ get t.opened p → file_count (with_open t p e) ≡ file_count t
 files_again t p d e found = files_with_open t p e ∙ ap (λ b. cond b (file_count t) (file_count t + 1)) (is_open t p d found)
 
-pub open_again : (t : Texts) (p : List ℕ) (files bytes : ℕ) → Counted t files bytes → (d e : OpenText) → Some d ≡ get t.opened p → (n : ℕ) → n ≡ byte_count (with_open t p e) → n ≤ most_bytes → Counted (with_open t p e) files n
-open_again t p files bytes k d e found n summed small = record {
+pub open_again : (t : Texts) (p : List ℕ) (files bytes : ℕ) → Counted t files bytes → (d e : OpenText) → Some d ≡ get t.opened p → (n : ℕ) → n ≡ byte_count (with_open t p e) → Counted (with_open t p e) files n
+open_again t p files bytes k d e found n summed = record {
   counted = k.counted ∙ sym (files_again t p d e found);
   summed = summed;
-  few = k.few;
-  small = small;
 }

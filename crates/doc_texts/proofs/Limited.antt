@@ -1,6 +1,7 @@
 -- Texts within the limits, and beyond them.
-use Rattle.std.proofs.Common.{◌≡◌, ℕ, ◌+◌, ◌-◌, ◌≤◌, ℤ, Bool, true, false, cond, List, length, Option, Some, None, IfSome, Result, Ok, Err, nat_lt, sym, refl, ◌∙◌, subst, arith}
+use Rattle.std.proofs.Common.{◌≡◌, ℕ, ◌+◌, ◌-◌, ◌≤◌, ℤ, Bool, true, false, cond, List, length, Option, Some, None, IfSome, Result, Ok, Err, nat_lt, sym, refl, ap, ◌∙◌, subst, arith}
 use Rattle.std.proofs.lemmas.Bool.{ltb-false, le-ltb}
+use Rattle.doc_texts.specs.declared.docs.Counts.{Counts}
 use Rattle.doc_texts.specs.declared.error.DocError.{DocError}
 use Rattle.doc_texts.specs.declared.error.DocError.TheVariants.{TooManyFiles, TooMuchText}
 use Rattle.std.specs.FinMap.{get}
@@ -20,25 +21,31 @@ refused_by true c x y e is = cc is
 refused_by false true x y e is = cc is
 refused_by false false x y e is = absurd (cc is)
 
-both_false : {X : Type 0} (b c : Bool) (x y : X) → Ok y ≡ chain b c x → (b ≡ false) × (c ≡ false)
+both_false : {X : Type 0} (b c : Bool) (x y : X) → Ok y ≡ chain b c x → (b ≡ false) × (c ≡ false) × (y ≡ x)
 both_false true c x y is = absurd (cc is)
 both_false false true x y is = absurd (cc is)
-both_false false false x y is = (refl, refl)
+both_false false false x y is = (refl, refl, cc is)
 
-pub small_enough : (files bytes : ℕ) → ◌≡◌ {A = Result (Unit {0}) DocError} (Ok tt) (allowed files bytes tt) → bytes ≤ most_bytes
-unfolding allowed
-small_enough files bytes is = ltb-false most_bytes bytes (both_false (nat_lt most_files files) (nat_lt most_bytes bytes) tt tt is).1
+-- texts within the limits, and how many files and bytes they are
+pub record Within (t : Texts) (files bytes : ℕ) : Type 0 where
+  pub counted : Counted t files bytes
+  pub few : files ≤ most_files
+  pub small : bytes ≤ most_bytes
 
 module _ (files bytes : ℕ) (t : Texts) (counted : files ≡ file_count t) (summed : bytes ≡ byte_count t) where
-  pub beyond : (e : DocError) → ◌≡◌ {A = Result (Unit {0}) DocError} (Err e) (allowed files bytes tt) → fits t ≡ Err e
+  pub beyond : (e : DocError) → ◌≡◌ {A = Result Counts DocError} (Err e) (allowed files bytes (record { files = files; bytes = bytes })) → fits t ≡ Err e
   unfolding allowed
-  beyond e is = (λ i. allowed (sym counted i) (sym summed i) t) ∙ refused_by (nat_lt most_files files) (nat_lt most_bytes bytes) tt t e is
+  beyond e is = (λ i. allowed (sym counted i) (sym summed i) t) ∙ refused_by (nat_lt most_files files) (nat_lt most_bytes bytes) (record { files = files; bytes = bytes }) t e is
 
-  pub within_limits : ◌≡◌ {A = Result (Unit {0}) DocError} (Ok tt) (allowed files bytes tt) → Counted t files bytes
+  pub within_limits : (counts : Counts) → ◌≡◌ {A = Result Counts DocError} (Ok counts) (allowed files bytes (record { files = files; bytes = bytes })) → Within t counts.files counts.bytes
   unfolding allowed
-  within_limits is =
-      let both = both_false (nat_lt most_files files) (nat_lt most_bytes bytes) tt tt is in
-      record { counted = counted; summed = summed; few = ltb-false most_files files both.0; small = ltb-false most_bytes bytes both.1 }
+  within_limits counts is =
+      let k = both_false (nat_lt most_files files) (nat_lt most_bytes bytes) (record { files = files; bytes = bytes }) counts is in
+      let fewer : files ≤ most_files = ltb-false most_files files k.0 in
+      let smaller : bytes ≤ most_bytes = ltb-false most_bytes bytes k.1 in
+      let same : counts.files ≡ files = ap (λ c. c.files) k.2 in
+      let sum : counts.bytes ≡ bytes = ap (λ c. c.bytes) k.2 in
+      record { counted = record { counted = same ∙ counted; summed = sum ∙ summed }; few = omega (arith, fewer, same); small = omega (arith, smaller, sum) }
 
 pub if_some_at : {X : Type 0} (r s : Option X) (P : X → Type 0) → r ≡ s → IfSome s P → IfSome r P
 if_some_at r s P same h = subst (λ o. IfSome o P) (sym same) h
@@ -61,10 +68,10 @@ pub counted_at : {files bytes : ℕ} (t u : Texts) → t ≡ u → Counted t fil
 counted_at {files} {bytes} t u same k = subst (λ t. Counted t files bytes) same k
 
 -- texts within the limits are taken
-pub taken : (t : Texts) (files bytes : ℕ) → Counted t files bytes → fits t ≡ Ok t
+pub taken : (t : Texts) (files bytes : ℕ) → Within t files bytes → fits t ≡ Ok t
 unfolding allowed
 taken t files bytes k =
-    (λ i. chain (nat_lt most_files (sym k.counted i)) (nat_lt most_bytes (sym k.summed i)) t)
+    (λ i. chain (nat_lt most_files (sym k.counted.counted i)) (nat_lt most_bytes (sym k.counted.summed i)) t)
     ∙ (λ i. chain (le-ltb most_files files k.few i) (le-ltb most_bytes bytes k.small i) t)
 
 -- ---- how many bytes there are after a change

@@ -1,4 +1,4 @@
--- The most files, the most bytes of one text, and the most bytes of all texts.
+-- The most files, the most bytes of one text, and the most bytes of all texts, which are tested where a text comes in.
 use Rattle.std.specs.Prelude.{ℕ}
 
 abbrev pub most_files : ℕ
@@ -9,3 +9,8 @@ longest_text = 4194304
 
 abbrev pub most_bytes : ℕ
 most_bytes = 67108864
+
+-- The most bytes of a text that is kept, whatever was tested: those of the longest text with a name of 1,023 bytes in place of
+-- each byte.
+abbrev pub longest_kept : ℕ
+longest_kept = 4290772992

@@ -81,12 +81,6 @@ byte_count t = sum_by length (values t.disk) + sum_by (λ document. length docum
 abbrev pub texts_under : Option (List ℕ) → Texts
 texts_under root = record { root = root; disk = empty; opened = empty }
 
-abbrev pub no_texts : Texts
-no_texts = texts_under None
-
-abbrev pub rooted : List ℕ → Texts
-rooted root = texts_under (Some root)
-
 -- the texts with another text on disk at a path, and with none there
 abbrev pub with_disk : Texts → List ℕ → List ℕ → Texts
 with_disk t path text = record { root = t.root; disk = insert t.disk path text; opened = t.opened }

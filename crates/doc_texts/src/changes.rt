@@ -4,7 +4,7 @@ ghost use Rattle.std.specs.String.{string_bytes};
 ghost use Rattle.text_lines.specs.declared.edit.Change.{Change};
 ghost use Rattle.doc_texts.specs.declared.error.DocError.TheVariants.{NoMemory};
 ghost use Rattle.doc_texts.specs.Docs.{all_edited, Answers};
-ghost use Rattle.doc_texts.specs.Limits.{longest_text};
+ghost use Rattle.doc_texts.specs.Limits.{longest_kept};
 
 use crate::error::DocError;
 use crate::kept::KeptText;
@@ -20,7 +20,7 @@ pub(crate) fn edited(
     changes: &[Change],
     encoding: Encoding,
 ) -> Result<KeptText, DocError>
-    requires { length text.now ≤ longest_text }
+    requires { length text.now ≤ longest_kept }
     ensures { Answers result (all_edited text.now changes.now encoding) }
 {
     let mut text = String::from_str(alloc, text)?;
@@ -34,9 +34,9 @@ pub(crate) fn edited(
 
 /// Makes one change.
 fn make(text: &mut String, change: &Change, encoding: Encoding) -> Result<(), DocError>
-    requires { length (string_bytes text.old) ≤ longest_text }
+    requires { length (string_bytes text.old) ≤ longest_kept }
     ensures made { (rest : List Change) → MatchResult result (λ _. all_edited (string_bytes text.old) (change.now ∷ rest) encoding ≡ all_edited (string_bytes text.new) rest encoding) (λ e. e ≢ NoMemory → all_edited (string_bytes text.old) (change.now ∷ rest) encoding ≡ Err e) }
-    ensures short { OnOk result (length (string_bytes text.new) ≤ longest_text) }
+    ensures short { OnOk result (length (string_bytes text.new) ≤ longest_kept) }
 {
     match apply(text, change, encoding) {
         Ok(()) => Ok(()),

@@ -1,14 +1,14 @@
 // The texts that stand, and the calls that change them.
-ghost use Rattle.std.specs.Prelude.{◌≡◌, ◌≢◌, ◌≤◌, ◌+◌, ◌-◌, ℕ, length, Err, Some, None, option_map, IfOk, IfSome, OnOk, OnErr};
+ghost use Rattle.std.specs.Prelude.{◌≡◌, ◌≢◌, ◌≤◌, ◌<◌, ◌^◌, ◌+◌, ◌-◌, ℕ, length, Err, Some, None, option_map, IfOk, IfSome, OnOk, OnErr};
 ghost use Rattle.doc_texts.specs.Texts.{text_at, version_at, uri_at, paths_of, file_count, byte_count, texts_under, add_all, with_disk, without_disk, with_open, without_open};
 ghost use Rattle.doc_texts.specs.Docs.{is_outside, allowed, fits, loaded, opened, changed, closed, IsDone};
 ghost use Rattle.doc_texts.specs.Kept.{Counted, files_with, disk_size, open_size};
-ghost use Rattle.doc_texts.specs.Limits.{longest_text, most_bytes};
+ghost use Rattle.doc_texts.specs.Limits.{longest_text, longest_kept};
 ghost use Rattle.std.specs.FinMap.{get, contains_key, keys};
 
 use crate::changes::edited;
 use crate::error::DocError;
-use crate::kept::{KeptText, LONGEST_TEXT, OpenDoc};
+use crate::kept::{KeptText, OpenDoc};
 use crate::path_set::PathSet;
 use std::alloc::{AllocError, Global};
 use std::collections::BTreeMap;
@@ -18,10 +18,20 @@ use text_lines::{Change, Encoding};
 use uri_paths::{Path, under};
 
 /// The most paths that may have a text.
-const MOST_FILES: usize = 4_096;
+const MOST_FILES: u128 = 4_096;
+
+/// The most bytes that a text may have.
+const LONGEST_TEXT: usize = 4_194_304;
 
 /// The most bytes of all texts together.
-const MOST_BYTES: usize = 67_108_864;
+const MOST_BYTES: u128 = 67_108_864;
+
+/// How many paths have a text, and the bytes of all texts.
+#[derive(Clone, Copy, Drop)]
+struct Counts {
+    files: usize,
+    bytes: usize,
+}
 
 /// The texts of files on disk and the open documents, by path. An open text hides that on disk. Contracts see it as `Texts`.
 #[derive(Drop)]
@@ -172,7 +182,7 @@ impl Docs {
     /// of files.
     pub fn text(&self, path: &Path) -> Option<&str>
         ensures text { option_map (λ text. text.now) result ≡ text_at self.now path.now }
-        ensures short { IfSome result (λ text. length text.now ≤ 4194304) }
+        ensures short { IfSome result (λ text. length text.now ≤ 4290772992) }
     {
         match self.opened.get(path) {
             Some(document) => Some(document.text()),
@@ -233,7 +243,7 @@ impl Docs {
     /// A path's text on disk.
     fn disk_text(&self, path: &Path) -> Option<&str>
         ensures text { option_map (λ text. text.now) result ≡ get self.now.disk path.now }
-        ensures short { IfSome result (λ text. length text.now ≤ longest_text) }
+        ensures short { IfSome result (λ text. length text.now ≤ longest_kept) }
     {
         match self.disk.get(path) {
             Some(text) => Some(text.as_str()),
@@ -253,22 +263,21 @@ impl Docs {
     }
 
     /// How many files there are where a path has a text.
-    fn files_with(&self, path: &Path) -> usize
-        ensures files { result ≡ files_with self.now path.now }
-        ensures within { result ≤ 4097 }
+    fn files_with(&self, path: &Path) -> u128
+        ensures { result ≡ files_with self.now path.now }
     {
         if self.text(path).is_some() {
-            return self.files;
+            return self.files as u128;
         }
-        self.files + 1
+        self.files as u128 + 1
     }
 
     /// The bytes of all texts.
-    fn total(&self) -> usize
+    fn total(&self) -> u128
         ensures bytes { result ≡ byte_count self.now }
-        ensures within { result ≤ 67108864 }
+        ensures within { result < 2 ^ 64 }
     {
-        self.bytes
+        self.bytes as u128
     }
 
     /// The allocator.
@@ -281,30 +290,23 @@ impl Docs {
         requires { length text.now ≤ longest_text }
         ensures { IsDone result self.old self.new (fits (with_disk self.old path.now text.now)) }
     {
-        let files = self.files_with(path);
-        let bytes = self.total() - self.disk_len(path) + text.len();
-        check_limits(files, bytes)?;
+        let bytes = self.total() - self.disk_len(path) as u128 + text.len() as u128;
+        let counts = check_limits(self.files_with(path), bytes)?;
         let key = path.share()?;
         let kept = KeptText::from_str(self.alloc(), text)?;
-        self.put_disk(key, kept, files, bytes)?;
+        self.put_disk(key, kept, counts)?;
         Ok(())
     }
 
     /// Keeps a path's text on disk, with which there are so many files and bytes of texts.
-    fn put_disk(
-        &mut self,
-        path: Path,
-        text: KeptText,
-        files: usize,
-        bytes: usize,
-    ) -> Result<(), AllocError>
-        requires { Counted (with_disk self.old path text) files bytes }
+    fn put_disk(&mut self, path: Path, text: KeptText, counts: Counts) -> Result<(), AllocError>
+        requires { Counted (with_disk self.old path text) counts.files counts.bytes }
         ensures ok { OnOk result (self.new ≡ with_disk self.old path text) }
         ensures kept { OnErr result (self.new ≡ self.old) }
     {
         self.disk.insert(path, text)?;
-        self.files = files;
-        self.bytes = bytes;
+        self.files = counts.files;
+        self.bytes = counts.bytes;
         Ok(())
     }
 
@@ -327,30 +329,23 @@ impl Docs {
         requires shut { get self.old.opened path.now ≡ None }
         ensures { IsDone result self.old self.new (fits (with_open self.old path.now (record { uri = uri.now; version = version; text = text.now }))) }
     {
-        let files = self.files_with(path);
-        let bytes = self.total() + text.len();
-        check_limits(files, bytes)?;
+        let bytes = self.total() + text.len() as u128;
+        let counts = check_limits(self.files_with(path), bytes)?;
         let key = path.share()?;
         let document = OpenDoc::new(self.alloc(), uri, version, text)?;
-        self.put_open(key, document, files, bytes)?;
+        self.put_open(key, document, counts)?;
         Ok(())
     }
 
     /// Keeps an open document, with which there are so many files and bytes of texts.
-    fn put_open(
-        &mut self,
-        path: Path,
-        document: OpenDoc,
-        files: usize,
-        bytes: usize,
-    ) -> Result<(), AllocError>
-        requires { Counted (with_open self.old path document) files bytes }
+    fn put_open(&mut self, path: Path, document: OpenDoc, counts: Counts) -> Result<(), AllocError>
+        requires { Counted (with_open self.old path document) counts.files counts.bytes }
         ensures ok { OnOk result (self.new ≡ with_open self.old path document) }
         ensures kept { OnErr result (self.new ≡ self.old) }
     {
         self.opened.insert(path, document)?;
-        self.files = files;
-        self.bytes = bytes;
+        self.files = counts.files;
+        self.bytes = counts.bytes;
         Ok(())
     }
 
@@ -364,7 +359,7 @@ impl Docs {
     /// The text of the document that is open at a path.
     fn open_text(&self, path: &Path) -> Option<&str>
         ensures text { option_map (λ text. text.now) result ≡ option_map (λ document. document.text) (get self.now.opened path.now) }
-        ensures short { IfSome result (λ text. length text.now ≤ longest_text) }
+        ensures short { IfSome result (λ text. length text.now ≤ longest_kept) }
     {
         match self.opened.get(path) {
             Some(document) => Some(document.text()),
@@ -383,16 +378,15 @@ impl Docs {
         requires { open_size self.old path.now ≡ freed }
         ensures { IfSome (get self.old.opened path.now) (λ document. IsDone result self.old self.new (fits (with_open self.old path.now (record { uri = document.uri; version = version; text = text })))) }
     {
-        let bytes = self.total() - freed + text.as_str().len();
-        check_limits(self.files_with(path), bytes)?;
-        self.put_text(path, version, text, bytes);
+        let bytes = self.total() - freed as u128 + text.as_str().len() as u128;
+        let counts = check_limits(self.files_with(path), bytes)?;
+        self.put_text(path, version, text, counts.bytes);
         Ok(())
     }
 
     /// Keeps another text of the document that is open at a path, with which there are so many bytes of texts.
     fn put_text(&mut self, path: &Path, version: i32, text: KeptText, bytes: usize)
-        requires summed { IfSome (get self.old.opened path.now) (λ document. bytes ≡ byte_count (with_open self.old path.now (record { uri = document.uri; version = version; text = text }))) }
-        requires small { bytes ≤ most_bytes }
+        requires { IfSome (get self.old.opened path.now) (λ document. bytes ≡ byte_count (with_open self.old path.now (record { uri = document.uri; version = version; text = text }))) }
         ensures { IfSome (get self.old.opened path.now) (λ document. self.new ≡ with_open self.old path.now (record { uri = document.uri; version = version; text = text })) }
     {
         if let Some(document) = self.opened.get_mut(path) {
@@ -415,10 +409,10 @@ impl Docs {
     }
 }
 
-/// The first limit that so many files, or so many bytes of texts, are beyond.
+/// So many files and bytes of texts, or the first limit that they are beyond.
 #[tactic(auto, unfolding(crate::specs::Docs::allowed))]
-fn check_limits(files: usize, bytes: usize) -> Result<(), DocError>
-    ensures { result ≡ allowed files bytes tt }
+fn check_limits(files: u128, bytes: u128) -> Result<Counts, DocError>
+    ensures { result ≡ allowed files bytes (record { files = files; bytes = bytes }) }
 {
     if files > MOST_FILES {
         return Err(DocError::TooManyFiles);
@@ -426,5 +420,8 @@ fn check_limits(files: usize, bytes: usize) -> Result<(), DocError>
     if bytes > MOST_BYTES {
         return Err(DocError::TooMuchText);
     }
-    Ok(())
+    Ok(Counts {
+        files: files as usize,
+        bytes: bytes as usize,
+    })
 }

@@ -1,15 +1,12 @@
 // A file's text and an open document, as `Docs` keeps them.
 ghost use Rattle.std.specs.Prelude.{◌≡◌, ◌≤◌, ℤ, length, IfOk};
 ghost use Rattle.std.specs.String.{string_bytes};
-ghost use Rattle.doc_texts.specs.Limits.{longest_text};
+ghost use Rattle.doc_texts.specs.Limits.{longest_kept};
 
 use std::alloc::{AllocError, Global};
 use std::marker::Model;
 
-/// The most bytes that a text may have.
-pub(crate) const LONGEST_TEXT: usize = 4_194_304;
-
-/// A text of at most 4,194,304 bytes. Contracts see it as its bytes.
+/// A text of at most 4,290,772,992 bytes, as many as a text may have that is lexed. Contracts see it as its bytes.
 #[derive(Debug, Drop)]
 pub(crate) struct KeptText {
     text: String,
@@ -18,19 +15,19 @@ pub(crate) struct KeptText {
 impl Model for KeptText {
     ghost use Rattle.std.specs.Prelude.{◌≤◌, ℕ, List, length};
     ghost use Rattle.std.specs.String.{string_bytes};
-    ghost use Rattle.doc_texts.specs.Limits.{longest_text};
+    ghost use Rattle.doc_texts.specs.Limits.{longest_kept};
 
     ghost Value = { List ℕ };
 
     ghost view = { λ kept. string_bytes kept.text };
 
-    ghost invariant = { λ kept. length (string_bytes kept.text) ≤ longest_text };
+    ghost invariant = { λ kept. length (string_bytes kept.text) ≤ longest_kept };
 }
 
 impl KeptText {
     /// This text.
     pub(crate) fn from_string(text: String) -> KeptText
-        requires { length (string_bytes text) ≤ longest_text }
+        requires { length (string_bytes text) ≤ longest_kept }
         ensures { result ≡ string_bytes text }
     {
         KeptText { text }
@@ -38,7 +35,7 @@ impl KeptText {
 
     /// A copy of this text.
     pub(crate) fn from_str(alloc: Global, text: &str) -> Result<KeptText, AllocError>
-        requires { length text.now ≤ longest_text }
+        requires { length text.now ≤ longest_kept }
         ensures { IfOk result (λ kept. kept ≡ text.now) }
     {
         let text = String::from_str(alloc, text)?;
@@ -48,7 +45,7 @@ impl KeptText {
     /// The text.
     pub(crate) fn as_str(&self) -> &str
         ensures text { result.now ≡ self.now }
-        ensures short { length self.now ≤ longest_text }
+        ensures short { length self.now ≤ longest_kept }
     {
         self.text.as_str()
     }
@@ -81,7 +78,7 @@ impl OpenDoc {
         version: i32,
         text: &str,
     ) -> Result<OpenDoc, AllocError>
-        requires { length text.now ≤ longest_text }
+        requires { length text.now ≤ longest_kept }
         ensures { IfOk result (λ document. document ≡ record { uri = uri.now; version = version; text = text.now }) }
     {
         let uri = String::from_str(alloc, uri)?;
@@ -92,7 +89,7 @@ impl OpenDoc {
     /// The text.
     pub(crate) fn text(&self) -> &str
         ensures text { result.now ≡ self.now.text }
-        ensures short { length self.now.text ≤ longest_text }
+        ensures short { length self.now.text ≤ longest_kept }
     {
         self.text.as_str()
     }

@@ -1,7 +1,7 @@
 // The texts that some paths had at an earlier moment.
 ghost use Rattle.std.specs.Prelude.{◌≡◌, ◌≤◌, not, length, option_map, OnOk, OnErr, IfOk, IfSome};
 ghost use Rattle.std.specs.FinMap.{empty, keys};
-ghost use Rattle.doc_texts.specs.Limits.{longest_text};
+ghost use Rattle.doc_texts.specs.Limits.{longest_kept};
 ghost use Rattle.doc_texts.specs.Texts.{text_at, same_text};
 ghost use Rattle.doc_texts.specs.Prior.{remembered, is_changed};
 
@@ -104,7 +104,7 @@ fn copy_of(alloc: Global, docs: &Docs, path: &Path) -> Result<Option<KeptText>, 
 /// The text that is kept, if there is one.
 fn lent(kept: &Option<KeptText>) -> Option<&str>
     ensures text { option_map (λ text. text.now) result ≡ kept.now }
-    ensures short { IfSome result (λ text. length text.now ≤ longest_text) }
+    ensures short { IfSome result (λ text. length text.now ≤ longest_kept) }
 {
     match kept {
         Some(text) => Some(text.as_str()),

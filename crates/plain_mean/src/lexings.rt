@@ -29,7 +29,7 @@ impl LexedText {
 }
 
 fn lexed_text(alloc: Global, text: &str) -> Result<LexedText, AllocError>
-    requires { length text.now ≤ 4194304 }
+    requires { length text.now ≤ 4290772992 }
     ensures { IfOk result (λ l. IsLexed text.now l) }
 {
     let lexed = lex(alloc, text)?;
@@ -41,7 +41,7 @@ fn lexed_text(alloc: Global, text: &str) -> Result<LexedText, AllocError>
 
 fn text_in<'a>(docs: &'a Docs, path: &Path) -> &'a str
     ensures text { result.now ≡ text_in docs.now path.now }
-    ensures short { length result.now ≤ 4194304 }
+    ensures short { length result.now ≤ 4290772992 }
 {
     match docs.text(path) {
         Some(text) => text,

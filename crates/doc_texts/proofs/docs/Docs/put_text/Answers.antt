@@ -12,8 +12,8 @@ invariant_of-self c =
     let puts = open_put c.self.inside c.args.self.now c.self.view_is c.args.path.now (c.get_mut.follows.lender c.set.new.self) c.set.new.self (follows.3 (ap is_some (sym c.in-Some.ensures.value))).0 in
     let document = c.set.ensures ∙ same_version c.in-Some.document.now.uri c.args.text _ _ (to_z-of_z {w = w32} c.ranges.version) in
     let k = counted_at _ _ c.self.view_is c.self.invariant in
-    let summed = if_some_from _ _ _ found c.requires.summed in
-    counted_at _ _ (ap (with_open c.args.self.now c.args.path.now) (sym document) ∙ sym puts) (open_again c.args.self.now c.args.path.now _ _ k c.in-Some.document.now _ (sym found) c.args.bytes summed c.requires.small)
+    let summed = if_some_from _ _ _ found c.requires in
+    counted_at _ _ (ap (with_open c.args.self.now c.args.path.now) (sym document) ∙ sym puts) (open_again c.args.self.now c.args.path.now _ _ k c.in-Some.document.now _ (sym found) c.args.bytes summed)
 
 pub returns-in-Some : goal.returns-in-Some
 returns-in-Some c =
