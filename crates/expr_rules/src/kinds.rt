@@ -11,7 +11,8 @@ pub(crate) const UNQUALIFIED: Qual = Qual {
     is_volatile: false,
 };
 
-pub(crate) fn is_bad(ty: &CType) -> bool
+/// The type of what has a fault.
+pub fn is_bad(ty: &CType) -> bool
     ensures { result ≡ spec.is_bad ty.now }
 {
     match ty.node() {

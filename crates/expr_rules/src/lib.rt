@@ -21,4 +21,7 @@ mod selection;
 mod unary;
 
 pub use judging::judge;
+pub use kinds::is_bad;
+pub use members::{deeper, is_inside, most_tags};
+pub use operands::converted;
 pub use parts::{Association, CheckError, Designator, Form, Operator};

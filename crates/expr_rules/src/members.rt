@@ -9,9 +9,9 @@ use crate::kinds::{both_quals, is_array};
 use std::alloc::{AllocError, Global};
 use type_data::{CType, Layout, Member, Node, Qual, TagId, Tags};
 
-/// No text has as many tags.
+/// How deep a walk through members may go: no text has as many tags.
 #[tactic(auto, unfolding(crate::specs::Members::most_tags))]
-pub(crate) fn most_tags() -> u64
+pub fn most_tags() -> u64
     ensures { result ≡ spec.most_tags }
 {
     4_294_967_296
@@ -27,7 +27,8 @@ pub(crate) struct Found<'a> {
     pub place: Option<u128>,
 }
 
-pub(crate) fn is_inside(inside: &[TagId], id: &TagId) -> bool
+/// Whether a walk is inside of this tag already.
+pub fn is_inside(inside: &[TagId], id: &TagId) -> bool
     ensures { result ≡ list_any (same_tag id.now) inside.now }
 {
     inside.iter().any(|other| id == other)
@@ -46,7 +47,7 @@ fn share_all(ids: &[TagId], out: &mut Vec<TagId>) -> Result<(), AllocError>
 }
 
 /// The tags that a walk is inside of, with one more.
-pub(crate) fn deeper(alloc: Global, inside: &[TagId], id: &TagId) -> Result<Vec<TagId>, AllocError>
+pub fn deeper(alloc: Global, inside: &[TagId], id: &TagId) -> Result<Vec<TagId>, AllocError>
     ensures { IfOk result (λ v. v.items ≡ id.now ∷ inside.now) }
 {
     let mut out = Vec::new(alloc);

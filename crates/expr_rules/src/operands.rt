@@ -35,9 +35,9 @@ fn as_operand(integer: Option<IntTy>, constant: Constancy) -> Constancy
     }
 }
 
-/// The operand after its conversion.
+/// An operand after lvalue, array and function conversion (ISO C11 6.3.2.1): a value of its type without qualifiers, or a pointer.
 #[tactic(auto, unfolding(crate::specs::Operands::converted))]
-pub(crate) fn converted(alloc: Global, j: &Judged) -> Result<Judged, AllocError>
+pub fn converted(alloc: Global, j: &Judged) -> Result<Judged, AllocError>
     ensures { IfOk result (λ c. c ≡ spec.converted j.now) }
 {
     match j.ty.node() {
