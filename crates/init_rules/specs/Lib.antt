@@ -1,0 +1,11 @@
+pub mod Accepted
+pub mod Descents
+pub mod Designators
+pub mod Extents
+pub mod Parts
+pub mod Paths
+pub mod Places
+pub mod Shown
+pub mod Stacks
+pub mod Steps
+pub mod Strings

@@ -1,0 +1,56 @@
+-- String literals as initializers of arrays (ISO C11 6.7.9p14, p15).
+use Rattle.std.specs.Prelude.{ℕ, Bool, true, false, not, ◌&&◌, ◌||◌, ◌-◌, ◌==◌, nat_lt, Option, Some, None, if◌then◌else◌}
+use Rattle.type_data.specs.declared.basics.Basic.TheVariants as basic
+use Rattle.type_data.specs.declared.qualifiers.Extent.{Extent}
+use Rattle.type_data.specs.declared.qualifiers.Extent.TheVariants as extent
+use Rattle.type_data.specs.Same.{same_basic}
+use Rattle.type_data.specs.Types.{Ty, Basic_type, Array_of, Bad_type}
+use Rattle.type_rel.specs.Compatible.{compatible}
+use Rattle.init_rules.specs.declared.state.OpenPlace.{OpenPlace}
+
+-- 6.2.5p15: the character types; nothing is shown of a type with a fault
+abbrev pub is_character : Ty → Bool
+is_character (Basic_type b) = same_basic b basic.Char || same_basic b basic.SChar || same_basic b basic.UChar
+is_character Bad_type = true
+is_character t = false
+
+abbrev pub is_char : Ty → Bool
+is_char (Basic_type b) = same_basic b basic.Char
+is_char t = false
+
+-- p14: elements of a character type hold the bytes of a string without a prefix or with `u8`; p15: those of a type that is compatible
+-- with wchar_t, char16_t or char32_t hold the units of a string with its prefix
+abbrev pub holds_units : Ty → Ty → Bool
+holds_units t u = if is_char u then is_character t else compatible t u
+
+abbrev pub takes_text : Ty → Ty → Bool
+takes_text (Array_of t q n) (Array_of u r m) = holds_units t u
+takes_text t u = false
+
+-- the elements of a string literal, the zero at its end among them
+abbrev pub length_of : Ty → ℕ
+length_of (Array_of t q (extent.Size n)) = n
+length_of t = 0
+
+-- p14: the zero at the end is left out where there is no room for it
+abbrev pub is_too_long : Ty → Ty → Bool
+is_too_long (Array_of t q (extent.Size n)) u = nat_lt n (length_of u - 1)
+is_too_long t u = false
+
+-- p14: braces may stand round a string for a whole array: it is the first of its list
+abbrev pub fills_place : Ty → OpenPlace → Bool
+fills_place u p = p.braced && p.next == 0 && takes_text p.ty u
+
+abbrev pub fills : Bool → Ty → Option OpenPlace → Bool
+fills designating u None = false
+fills designating u (Some p) = not designating && fills_place u p
+
+-- p22: an array of unknown size has as many elements as the string
+abbrev pub filled_size : Extent → ℕ → ℕ
+filled_size (extent.Size n) m = n
+filled_size extent.None m = m
+filled_size extent.Unknown m = m
+
+abbrev pub sized_by : Ty → Ty → Ty
+sized_by u (Array_of t q n) = Array_of t q (extent.Size (filled_size n (length_of u)))
+sized_by u t = t

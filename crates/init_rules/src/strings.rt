@@ -1,0 +1,129 @@
+// String literals as initializers of arrays (ISO C11 6.7.9p14, p15).
+ghost use Rattle.std.specs.Prelude.{◌≡◌, IfOk, OnOk, option_map};
+ghost use Rattle.init_rules.specs.Stacks;
+ghost use Rattle.init_rules.specs.Steps;
+ghost use Rattle.init_rules.specs.Strings as spec;
+
+use crate::places::Places;
+use crate::state::OpenPlace;
+use std::alloc::{AllocError, Global};
+use type_data::{Basic, CType, Extent, Node};
+use type_rel::compatible;
+
+fn is_character(ty: &CType) -> bool
+    ensures { result ≡ spec.is_character ty.now }
+{
+    match ty.node() {
+        Node::Basic(basic) => {
+            *basic == Basic::Char || *basic == Basic::SChar || *basic == Basic::UChar
+        }
+        Node::Bad => true,
+        _ => false,
+    }
+}
+
+fn is_char(ty: &CType) -> bool
+    ensures { result ≡ spec.is_char ty.now }
+{
+    match ty.node() {
+        Node::Basic(basic) => *basic == Basic::Char,
+        _ => false,
+    }
+}
+
+fn holds_units(ty: &CType, unit: &CType) -> bool
+    ensures { result ≡ spec.holds_units ty.now unit.now }
+{
+    if is_char(unit) {
+        return is_character(ty);
+    }
+    compatible(ty, unit)
+}
+
+/// An array that a string literal of this type may initialize.
+pub(crate) fn takes_text(ty: &CType, text: &CType) -> bool
+    ensures { result ≡ spec.takes_text ty.now text.now }
+{
+    match (ty.node(), text.node()) {
+        (Node::Array(of, _, _), Node::Array(unit, _, _)) => holds_units(of, unit),
+        _ => false,
+    }
+}
+
+/// The elements of an array whose size is told.
+pub(crate) fn length_of(ty: &CType) -> u64
+    ensures { result ≡ spec.length_of ty.now }
+{
+    match ty.node() {
+        Node::Array(_, _, Extent::Size(count)) => *count,
+        _ => 0,
+    }
+}
+
+/// A string literal that is longer than an array, the zero at its end aside.
+pub(crate) fn is_too_long(ty: &CType, text: &CType) -> bool
+    ensures { result ≡ spec.is_too_long ty.now text.now }
+{
+    match ty.node() {
+        Node::Array(_, _, Extent::Size(count)) => *count < length_of(text).saturating_sub(1),
+        _ => false,
+    }
+}
+
+fn fills_place(text: &CType, p: &OpenPlace) -> bool
+    ensures { result ≡ spec.fills_place text.now p.now }
+{
+    p.braced && p.next == 0 && takes_text(&p.ty, text)
+}
+
+/// A string literal in braces, for a whole array.
+pub(crate) fn fills(designating: bool, text: &CType, places: &Places) -> bool
+    ensures { result ≡ spec.fills designating text.now (Stacks.top places.now) }
+{
+    match places.top() {
+        Some(p) => !designating && fills_place(text, p),
+        None => false,
+    }
+}
+
+fn filled_size(extent: Extent, length: u64) -> u64
+    ensures { result ≡ spec.filled_size extent length }
+{
+    match extent {
+        Extent::Size(count) => count,
+        Extent::None => length,
+        Extent::Unknown => length,
+    }
+}
+
+fn sized_by(alloc: Global, text: &CType, ty: &CType) -> Result<CType, AllocError>
+    ensures { IfOk result (λ t. t ≡ spec.sized_by text.now ty.now) }
+{
+    match ty.node() {
+        Node::Array(of, qual, extent) => {
+            let of = of.share()?;
+            let size = filled_size(*extent, length_of(text));
+            CType::array(alloc, of, *qual, Extent::Size(size))
+        }
+        _ => ty.share(),
+    }
+}
+
+/// Fills the innermost place with a string.
+pub(crate) fn fill(alloc: Global, text: &CType, places: &mut Places) -> Result<(), AllocError>
+    ensures { OnOk result (places.new ≡ Steps.filled text.now places.old) }
+{
+    match places.pop() {
+        Some(p) => {
+            let ty = sized_by(alloc, text, &p.ty)?;
+            let next = length_of(&ty) as u128;
+            places.push(OpenPlace {
+                ty,
+                next,
+                braced: p.braced,
+                overfull: p.overfull,
+            })
+        }
+        None => Ok(()),
+    }
+}
