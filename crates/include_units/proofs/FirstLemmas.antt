@@ -5,9 +5,6 @@ use Rattle.std.proofs.lemmas.Slice.Eq.{bytes_eq-Decides}
 use Rattle.include_units.specs.First.{first_of}
 use Rattle.include_units.specs.Names.{is_one_of}
 
-none_there : {X Y : Type 0} (o : Option X) → o ≡ None → is_some o ≡ true → Y
-none_there o e t = absurd (subst T (sym t ∙ ap is_some e) tt)
-
 turned : (a b : List ℕ) → bytes_eq a b ≡ bytes_eq b a
 turned a b = step (bytes_eq a b) (bytes_eq b a) refl refl
   where

@@ -5,6 +5,7 @@ pub mod HeaderLemmas
 pub mod Lawful
 pub mod ParamLemmas
 pub mod Moving
+pub mod OutputLemmas
 pub mod Resting
 pub mod RoomLemmas
 pub mod Runnings

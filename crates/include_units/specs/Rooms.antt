@@ -1,5 +1,5 @@
 -- A run of text lines of whose expansion no more is kept than the output has room for.
-use Rattle.std.specs.Prelude.{ℕ, ◌+◌, ◌-◌, ◌&&◌, Bool, List, [], length, codes, Option, None, Some, is_some}
+use Rattle.std.specs.Prelude.{ℕ, ◌+◌, ◌-◌, ◌&&◌, ◌||◌, not, nat_le, Bool, List, [], length, codes, Option, None, Some, is_some}
 use Rattle.std.specs.List.{list_any}
 use Rattle.tok_data.specs.declared.sources.TokId.{TokId}
 use Rattle.tok_data.specs.declared.tokens.OutToken.{OutToken}
@@ -11,7 +11,7 @@ use Rattle.asking.specs.Asking.{Gives, and_then}
 use Rattle.include_units.specs.Files.{FromFiles}
 use Rattle.include_units.specs.Texts.{Text}
 use Rattle.include_units.specs.Made.{Made, definitions}
-use Rattle.include_units.specs.Runs.{lines_in, most_tokens}
+use Rattle.include_units.specs.Runs.{lines_in, most_tokens, is_stray}
 
 -- as many tokens as the output has room for, and one more, which tells that there are more
 abbrev pub wanted : Made → ℕ
@@ -33,3 +33,11 @@ within_in text ts room m =
 -- tokens are left out behind what may begin a `_Pragma`
 abbrev pub hides_pragma : Within → Bool
 hides_pragma w = is_some w.left_out && list_any (is_word (codes "_Pragma")) w.expanded.tokens
+
+-- a stray character, or what may begin a `_Pragma`
+abbrev pub is_odd : OutToken → Bool
+is_odd t = is_stray t.kind || is_word (codes "_Pragma") t
+
+-- the output takes these tokens as they stand
+unfoldable pub goes_whole : List OutToken → Made → Bool
+goes_whole ts m = nat_le (length ts) (most_tokens - length m.tokens) && not (list_any is_odd ts)

@@ -1,5 +1,5 @@
 // Text lines (ISO C11 6.10p4 to p7): a run of them is one list that is expanded.
-ghost use Rattle.std.specs.Prelude.{◌≡◌, ◌≤◌, ◌++◌, ◌∷◌, [], IfOk, OnOk, IfSome, length, drop, codes};
+ghost use Rattle.std.specs.Prelude.{◌≡◌, ◌≤◌, ◌-◌, ◌++◌, ◌∷◌, [], IfOk, OnOk, IfSome, length, drop, codes, nat_le, true};
 ghost use Rattle.std.specs.List.{list_any};
 ghost use Rattle.std.specs.FinMap as map;
 ghost use Rattle.macro_expand.specs.Expansion.{expanded};
@@ -247,8 +247,8 @@ fn put_token(alloc: Global, token: &OutToken, made: &mut Made) -> Result<(), All
     drop_token(alloc, token, made)
 }
 
-// Adds what is left of an expansion to the output.
-fn put_output(alloc: Global, tokens: &[OutToken], made: &mut Made) -> Result<(), AllocError>
+// Adds what is left of an expansion to the output, token by token.
+fn put_each(alloc: Global, tokens: &[OutToken], made: &mut Made) -> Result<(), AllocError>
     ensures { OnOk result (made.new ≡ spec.with_output (spec.without_pragmas 0 tokens.now) made.old) }
 {
     let mut skip = 0usize;
@@ -266,6 +266,53 @@ fn put_output(alloc: Global, tokens: &[OutToken], made: &mut Made) -> Result<(),
         put_token(alloc, token, made)?;
     }
     Ok(())
+}
+
+// A stray character, which is a fault, or what may begin a `_Pragma`.
+fn is_odd(token: &OutToken) -> bool
+    ensures { result ≡ rooms.is_odd token.now }
+{
+    is_stray(token.kind) || is_word("_Pragma", token)
+}
+
+fn has_odd(tokens: &[OutToken]) -> bool
+    ensures { result ≡ list_any rooms.is_odd tokens.now }
+{
+    tokens.iter().any(|token| is_odd(token))
+}
+
+fn has_room(count: usize, made: &Made) -> bool
+    ensures { result ≡ nat_le count (spec.most_tokens - length made.now.tokens) }
+{
+    count <= MOST_TOKENS.saturating_sub(made.tokens.as_slice().len())
+}
+
+// The output takes these tokens as they stand.
+#[tactic(auto, unfolding(crate::specs::Rooms::goes_whole))]
+fn goes_whole(tokens: &[OutToken], made: &Made) -> bool
+    ensures { result ≡ rooms.goes_whole tokens.now made.now }
+{
+    has_room(tokens.len(), made) && !has_odd(tokens)
+}
+
+// Moves tokens to the output.
+#[tactic(auto, using(crate::proofs::OutputLemmas::whole_output))]
+fn put_whole(tokens: OutTokens, made: &mut Made) -> Result<(), AllocError>
+    requires { rooms.goes_whole tokens made.old ≡ true }
+    ensures { OnOk result (made.new ≡ spec.with_output (spec.without_pragmas 0 tokens) made.old) }
+{
+    made.tokens.extend(tokens.into_vec())?;
+    Ok(())
+}
+
+// Adds what is left of an expansion to the output.
+fn put_output(alloc: Global, tokens: OutTokens, made: &mut Made) -> Result<(), AllocError>
+    ensures { OnOk result (made.new ≡ spec.with_output (spec.without_pragmas 0 tokens) made.old) }
+{
+    if goes_whole(tokens.as_slice(), made) {
+        return put_whole(tokens, made);
+    }
+    put_each(alloc, tokens.as_slice(), made)
 }
 
 // How many tokens of an expansion the output has room for, and one more, which tells that there are more.
@@ -345,7 +392,7 @@ fn whole_run(
 {
     match expanded_run(alloc, files, text, tokens, made) {
         Ok(output) => {
-            put_output(alloc, output.as_slice(), made)?;
+            put_output(alloc, output, made)?;
             Ok(())
         }
         Err(stop) => Err(stop),
@@ -375,7 +422,7 @@ pub(crate) fn run_of(
                 left_out: _,
             } = within;
             let output = with_expansion(expanded, made)?;
-            put_output(alloc, output.as_slice(), made)?;
+            put_output(alloc, output, made)?;
             Ok(())
         }
         Err(stop) => Err(stop),

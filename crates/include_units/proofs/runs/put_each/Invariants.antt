@@ -1,6 +1,6 @@
 use Rattle.std.proofs.Common.{◌≡◌, length}
 use Rattle.include_units.specs.Runs.{with_output, without_pragmas}
-use Rattle.include_units.proofs.runs.put_output.Given as goal
+use Rattle.include_units.proofs.runs.put_each.Given as goal
 
 abbrev pub invariant-loop-token : goal.invariant-loop-token
 invariant-loop-token l = with_output (without_pragmas l.skip l.rest) l.made ≡ with_output (without_pragmas 0 l.fn.tokens) l.fn.made
