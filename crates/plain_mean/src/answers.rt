@@ -33,19 +33,72 @@ fn tokens_of(lexings: &mut Lexings<'_>, path: Path) -> Result<(Path, FileAnswer)
     Ok((path, FileAnswer::Tokens(lexed.tokens)))
 }
 
-fn answer(lexings: &mut Lexings<'_>, want: Want) -> Result<(Path, FileAnswer), AllocError>
-    ensures answer { IfOk result (λ e. IsTrue lexings.old e) }
+fn is_there(answer: &FileAnswer) -> bool {
+    match answer {
+        FileAnswer::There => true,
+        FileAnswer::Absent => false,
+        FileAnswer::Tokens(_) => false,
+        FileAnswer::Lines(_) => false,
+    }
+}
+
+// Tells a unit the tokens of the text at a path.
+#[tactic(auto, using(crate::proofs::Truth::true_told))]
+fn tell_tokens(lexings: &mut Lexings<'_>, path: Path, unit: &mut Unit) -> Result<(), AllocError>
+    requires { AreTrue lexings.old unit.old.answers }
+    ensures answers { OnOk result (AreTrue lexings.old unit.new.answers) }
     ensures same { lexings.new ≡ lexings.old }
+    ensures conf { OnOk result (unit.new.conf ≡ unit.old.conf) }
+{
+    let (path, answer) = tokens_of(lexings, path)?;
+    unit.tell(path, answer)?;
+    Ok(())
+}
+
+#[tactic(auto, using(crate::proofs::Truth::true_told))]
+fn tell_lines(lexings: &mut Lexings<'_>, path: Path, unit: &mut Unit) -> Result<(), AllocError>
+    requires { AreTrue lexings.old unit.old.answers }
+    ensures answers { OnOk result (AreTrue lexings.old unit.new.answers) }
+    ensures same { lexings.new ≡ lexings.old }
+    ensures conf { OnOk result (unit.new.conf ≡ unit.old.conf) }
+{
+    let (path, answer) = lines_of(lexings, path)?;
+    unit.tell(path, answer)?;
+    Ok(())
+}
+
+// Tells a unit whether a text is held at a path, and where one is, its tokens too, since it asks for them next.
+#[tactic(auto, using(crate::proofs::Truth::true_told))]
+fn tell_held(lexings: &mut Lexings<'_>, path: Path, unit: &mut Unit) -> Result<(), AllocError>
+    requires { AreTrue lexings.old unit.old.answers }
+    ensures answers { OnOk result (AreTrue lexings.old unit.new.answers) }
+    ensures same { lexings.new ≡ lexings.old }
+    ensures conf { OnOk result (unit.new.conf ≡ unit.old.conf) }
+{
+    let (path, answer) = held(lexings.docs(), path);
+    let there = is_there(&answer);
+    let next = path.share()?;
+    unit.tell(path, answer)?;
+    if there {
+        return tell_tokens(lexings, next, unit);
+    }
+    Ok(())
+}
+
+fn tell_answer(lexings: &mut Lexings<'_>, want: Want, unit: &mut Unit) -> Result<(), AllocError>
+    requires { AreTrue lexings.old unit.old.answers }
+    ensures answers { OnOk result (AreTrue lexings.old unit.new.answers) }
+    ensures same { lexings.new ≡ lexings.old }
+    ensures conf { OnOk result (unit.new.conf ≡ unit.old.conf) }
 {
     match want {
-        Want::Exists(path) => Ok(held(lexings.docs(), path)),
-        Want::Text(path) => tokens_of(lexings, path),
-        Want::Lines(path) => lines_of(lexings, path),
+        Want::Exists(path) => tell_held(lexings, path, unit),
+        Want::Text(path) => tell_tokens(lexings, path, unit),
+        Want::Lines(path) => tell_lines(lexings, path, unit),
     }
 }
 
 // Tells a unit an answer to each want.
-#[tactic(auto, using(crate::proofs::Truth::true_told))]
 pub(crate) fn tell_answers(
     lexings: &mut Lexings<'_>,
     wants: Vec<Want>,
@@ -57,8 +110,7 @@ pub(crate) fn tell_answers(
     ensures conf { OnOk result (unit.new.conf ≡ unit.old.conf) }
 {
     'wants: for want in wants {
-        let (path, answer) = answer(lexings, want)?;
-        unit.tell(path, answer)?;
+        tell_answer(lexings, want, unit)?;
     }
     Ok(())
 }
