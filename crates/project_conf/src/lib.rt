@@ -2,9 +2,14 @@
 #![tactic(auto)]
 
 mod command_line;
+mod command_words;
 mod conf;
+mod database;
 mod options;
+mod parting;
+mod settings;
 
 pub use command_line::{WordError, words};
 pub use conf::{Conf, IncludePaths, UnitConf, UnitConfs};
+pub use database::{ConfError, commands};
 pub use options::{Define, Defines, Folder, Folders, Options};

@@ -1,0 +1,16 @@
+use Rattle.std.proofs.Common.{◌≡◌, ◌≤◌, [], length}
+use denote.Text.{Utf8}
+use denote.Shadow.{shadow}
+use Rattle.std.specs.Str.{chars}
+use Rattle.std.specs.String.{string_bytes}
+use Rattle.project_conf.specs.Parting.{parted, all_behind}
+use Rattle.project_conf.specs.declared.parting.Mode.TheVariants.{Plain}
+use Rattle.project_conf.proofs.command_words.word_from.Given as goal
+
+abbrev pub invariant-loop-c : goal.invariant-loop-c
+invariant-loop-c l =
+    shadow (Utf8 l.rest) × (all_behind (string_bytes l.word) (parted l.mode (chars l.rest)) ≡ all_behind [] (parted Plain (chars l.text)))
+    × (length l.rest ≤ length l.text)
+
+abbrev pub decreases-loop-c : goal.decreases-loop-c
+decreases-loop-c l = length l.rest
