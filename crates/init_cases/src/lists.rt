@@ -1,8 +1,8 @@
 // Long lists, one initializer after another.
 use crate::pieces::piece_named;
+use crate::started;
 use crate::tags::{info, tag};
 use crate::types::{plain, type_named};
-use crate::started;
 use init_rules::{InitPiece, InitState, completed, init_step};
 use shared_text::Name;
 use std::alloc::{AllocError, Global};
@@ -26,7 +26,12 @@ fn takes_all(
     true
 }
 
-fn takes(alloc: Global, state: &mut InitState, word: &str, tags: &Tags) -> Result<bool, AllocError> {
+fn takes(
+    alloc: Global,
+    state: &mut InitState,
+    word: &str,
+    tags: &Tags,
+) -> Result<bool, AllocError> {
     let piece = piece_named(alloc, word)?;
     Ok(takes_all(alloc, state, &piece, tags, 1))
 }

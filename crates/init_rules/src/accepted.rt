@@ -48,12 +48,7 @@ fn types_of(alloc: Global, ty: &CType, from: &CType) -> Result<Listing<CType>, A
     Ok(Listing::from_vec(types))
 }
 
-fn mismatched(
-    alloc: Global,
-    at: u32,
-    ty: &CType,
-    from: &CType,
-) -> Result<Option<Fault>, AllocError>
+fn mismatched(alloc: Global, at: u32, ty: &CType, from: &CType) -> Result<Option<Fault>, AllocError>
     ensures { IfOk result (λ f. f ≡ spec.mismatched at ty.now from.now) }
 {
     let types = types_of(alloc, ty, from)?;

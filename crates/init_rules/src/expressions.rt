@@ -139,7 +139,15 @@ fn expressed(
         constant: state.constant,
     };
     let spot = spot(tags, state.designating, &state.open_places)?;
-    let fault = at_spot(alloc, setting, tags, &state.ty, e, &mut state.open_places, &spot)?;
+    let fault = at_spot(
+        alloc,
+        setting,
+        tags,
+        &state.ty,
+        e,
+        &mut state.open_places,
+        &spot,
+    )?;
     let length = whole_length(&state.ty, e, &spot);
     end_step(state, false, length as u128);
     Ok(fault)
