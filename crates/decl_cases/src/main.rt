@@ -5,13 +5,14 @@
 mod notation;
 mod words;
 
-use decl_rules::{CheckError, declare_one};
+use decl_rules::declare_one;
 use notation::shown_type;
 use scope_tables::{Anchor, Entity, EntityKind, Life, Linkage, Scopes};
 use std::alloc::{AllocError, Global};
 use std::io;
 use std::io::Read;
 use type_data::{Fault, Space, Tags};
+use type_rel::CheckError;
 use words::{parts_of, scope_named, tags_of};
 
 fn kind_name(kind: &EntityKind) -> &'static str {

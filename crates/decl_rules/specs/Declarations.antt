@@ -8,8 +8,9 @@ use Rattle.type_data.specs.declared.judged.Fault.{Fault}
 use Rattle.type_data.specs.declared.members.Space.TheVariants.{Ordinary}
 use Rattle.type_data.specs.declared.members.TagInfo.{TagInfo}
 use Rattle.type_data.specs.declared.names.TagId.{TagId}
-use Rattle.decl_rules.specs.declared.faults.CheckError.{CheckError}
-use Rattle.decl_rules.specs.declared.faults.CheckError.TheVariants.{Broken}
+use Rattle.type_rel.specs.declared.checks.CheckError.{CheckError}
+use Rattle.type_rel.specs.declared.checks.CheckError.TheVariants.{Broken}
+use Rattle.type_rel.specs.Kinds.{is_bad}
 use Rattle.decl_rules.specs.declared.parts.DeclParts.{DeclParts}
 use Rattle.decl_rules.specs.Alignment.{has_bad_alignment}
 use Rattle.decl_rules.specs.Entities.{entity}
@@ -17,7 +18,6 @@ use Rattle.decl_rules.specs.Faults.{of_name, of_types}
 use Rattle.decl_rules.specs.Linkages.{linkage_of, clash}
 use Rattle.decl_rules.specs.Redeclared.{redeclared}
 use Rattle.decl_rules.specs.Shapes.{bad_return, misshaped, has_no_function, has_no_name}
-use Rattle.decl_rules.specs.Sorts.{is_bad}
 use Rattle.decl_rules.specs.Storages.{is_misplaced, specifies_no_function, has_bad_thread}
 
 abbrev pub or_else : Option Fault → Option Fault → Option Fault

@@ -7,10 +7,11 @@ use Rattle.scope_tables.specs.declared.entities.Linkage.{Linkage}
 use Rattle.type_data.specs.declared.judged.Fault.{Fault}
 use Rattle.type_data.specs.Same.{same_type, same_qual}
 use Rattle.type_rel.specs.Compatible.{compatible}
+use Rattle.type_rel.specs.Kinds.{is_bad}
 use Rattle.decl_rules.specs.declared.parts.DeclParts.{DeclParts}
 use Rattle.decl_rules.specs.Faults.{of_name}
 use Rattle.scope_tables.specs.Scopes.{is_linked}
-use Rattle.decl_rules.specs.Sorts.{is_typedef, is_bad}
+use Rattle.decl_rules.specs.Sorts.{is_typedef}
 
 abbrev pub is_typedef_name : EntityKind → Bool
 is_typedef_name kind.Typedef = true

@@ -2,7 +2,7 @@
 use Rattle.std.specs.Prelude.{Bool, true, false, ◌&&◌, not}
 use Rattle.scope_tables.specs.declared.entities.ScopeKind.{ScopeKind}
 use Rattle.scope_tables.specs.declared.entities.ScopeKind.TheVariants as scope
-use Rattle.type_data.specs.Types.{Ty, Function_of, Bad_type}
+use Rattle.type_data.specs.Types.{Ty, Function_of}
 use Rattle.decl_rules.specs.declared.parts.Storage.{Storage}
 use Rattle.decl_rules.specs.declared.parts.Storage.TheVariants as storage
 use Rattle.decl_rules.specs.declared.parts.DeclParts.{DeclParts}
@@ -34,10 +34,6 @@ is_parameter k = false
 abbrev pub is_function_type : Ty → Bool
 is_function_type (Function_of t ps p) = true
 is_function_type t = false
-
-abbrev pub is_bad : Ty → Bool
-is_bad Bad_type = true
-is_bad t = false
 
 -- what has a function type and is no typedef name is a function
 abbrev pub is_function : DeclParts → Bool

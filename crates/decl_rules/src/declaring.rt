@@ -1,20 +1,20 @@
 // One declarator or parameter.
 ghost use Rattle.std.specs.Prelude.{◌≡◌, ◌≢◌, Err, IfOk, option_map};
 ghost use Rattle.decl_rules.specs.Declarations as spec;
-ghost use Rattle.decl_rules.specs.declared.faults.CheckError.TheVariants.{NoMemory};
+ghost use Rattle.type_rel.specs.declared.checks.CheckError.TheVariants.{NoMemory};
 
 use crate::alignment::has_bad_alignment;
 use crate::entities::entity;
-use crate::faults::{CheckError, of_name, of_types};
+use crate::faults::{of_name, of_types};
 use crate::linkage::{clash, linkage_of};
 use crate::parts::DeclParts;
 use crate::redeclaring::redeclared;
 use crate::shapes::{bad_return, has_no_function, has_no_name, misshaped};
-use crate::sorts::is_bad;
 use crate::storage::{has_bad_thread, is_misplaced, specifies_no_function};
 use scope_tables::{Entity, Linkage, Scopes};
 use std::alloc::{AllocError, Global};
 use type_data::{Fault, Space, Tags};
+use type_rel::{CheckError, is_bad};
 
 fn misspecified(alloc: Global, decl: &DeclParts, tags: &Tags) -> Option<Fault>
     ensures { result ≡ spec.misspecified decl.now tags.now }

@@ -8,15 +8,6 @@ use shared_text::Name;
 use std::alloc::{AllocError, Global};
 use type_data::{CType, Fault};
 
-/// Why a construct has no meaning.
-#[derive(Drop)]
-pub enum CheckError {
-    /// It breaks a rule.
-    Broken(Fault),
-    /// Memory was refused.
-    NoMemory,
-}
-
 // One whose text prints the name, and types.
 pub(crate) fn of_name(
     alloc: Global,

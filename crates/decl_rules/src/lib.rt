@@ -13,5 +13,4 @@ mod sorts;
 mod storage;
 
 pub use declaring::declare_one;
-pub use faults::CheckError;
 pub use parts::{DeclParts, Storage};

@@ -5,11 +5,11 @@ ghost use Rattle.decl_rules.specs.Redeclared as spec;
 use crate::faults::of_name;
 use crate::linkage::is_linked;
 use crate::parts::DeclParts;
-use crate::sorts::{is_bad, is_typedef};
+use crate::sorts::is_typedef;
 use scope_tables::{Entity, EntityKind, Linkage};
 use std::alloc::{AllocError, Global};
 use type_data::{CType, Fault};
-use type_rel::compatible;
+use type_rel::{compatible, is_bad};
 
 pub(crate) fn is_typedef_name(kind: &EntityKind) -> bool
     ensures { result ≡ spec.is_typedef_name kind.now }

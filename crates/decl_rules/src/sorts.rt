@@ -69,15 +69,6 @@ pub(crate) fn is_function_type(ty: &CType) -> bool
     }
 }
 
-pub(crate) fn is_bad(ty: &CType) -> bool
-    ensures { result ≡ spec.is_bad ty.now }
-{
-    match ty.node() {
-        Node::Bad => true,
-        _ => false,
-    }
-}
-
 pub(crate) fn is_function(decl: &DeclParts) -> bool
     ensures { result ≡ spec.is_function decl.now }
 {

@@ -9,7 +9,7 @@ mod tags;
 mod types;
 mod words;
 
-use expr_rules::{CheckError, Operator, judge};
+use expr_rules::{Operator, judge};
 use forms::form_named;
 use operands::{part_named, shown_part};
 use std::alloc::{AllocError, Global};
@@ -18,6 +18,7 @@ use std::io::Read;
 use tags::tags_of;
 use type_data::{Fault, Judged, Qual, Tags};
 use type_print::print;
+use type_rel::CheckError;
 
 fn shown_fault(alloc: Global, tags: &Tags, fault: &Fault) -> Result<String, AllocError> {
     let rule = fault.rule;

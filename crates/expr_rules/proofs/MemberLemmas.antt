@@ -8,7 +8,7 @@ use Rattle.type_data.specs.declared.members.TagInfo.{TagInfo}
 use Rattle.type_data.specs.declared.names.TagId.{TagId}
 use Rattle.type_data.specs.Same.{same_tag}
 use Rattle.type_data.specs.Types.{Ty}
-use Rattle.expr_rules.specs.Kinds.{Tagging}
+use Rattle.type_rel.specs.Kinds.{Tagging}
 use Rattle.expr_rules.specs.Members.{Found, among, any_const, const_in, info_const, member_in, members_const, of_info, of_members, places_of, type_const}
 
 pub const_step : (n m : ℕ) (tags : Tagging) (inside deep : List TagId) (id : TagId) (info : TagInfo) (ms given : List Member) → n ≡ suc m

@@ -9,12 +9,14 @@ use Rattle.type_data.specs.Same.{same_tag}
 use Rattle.type_rel.specs.Assignable.{assignable, is_void_beside}
 use Rattle.type_rel.specs.Compatible.{compatible}
 use Rattle.type_rel.specs.Composite.{composite}
+use Rattle.type_rel.specs.Kinds.{Tagging}
+use Rattle.type_rel.specs.Conversion.{converted, value}
 use Rattle.c_literals.specs.declared.ops.Op.{Op}
 use Rattle.c_literals.specs.declared.ops.Op.TheVariants as op
 use Rattle.expr_rules.specs.Binary.{are_arithmetic, are_integers, is_moved, is_null_beside, refused}
 use Rattle.expr_rules.specs.Constants.{choice}
-use Rattle.expr_rules.specs.Kinds.{Tagging, both_quals, is_scalar}
-use Rattle.expr_rules.specs.Operands.{Answer, broken, converted, usual_type, value}
+use Rattle.expr_rules.specs.Kinds.{both_quals, is_scalar}
+use Rattle.expr_rules.specs.Operands.{Answer, broken, usual_type}
 use Rattle.expr_rules.specs.Postfix.{is_modifiable}
 
 -- 6.5.15p3, p6: of operands without arithmetic types: pointers to compatible types, or one to void beside one to an object type, give a

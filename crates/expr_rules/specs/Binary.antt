@@ -9,11 +9,13 @@ use Rattle.type_data.specs.declared.basics.Basic.TheVariants as basic
 use Rattle.type_rel.specs.Assignable.{is_arithmetic, is_null_pointer, is_object, is_void_beside}
 use Rattle.type_rel.specs.Compatible.{compatible}
 use Rattle.type_rel.specs.Completeness.{is_complete}
+use Rattle.type_rel.specs.Kinds.{Tagging}
+use Rattle.type_rel.specs.Conversion.{converted, value}
 use Rattle.c_literals.specs.declared.ops.Op.{Op}
 use Rattle.c_literals.specs.declared.ops.Op.TheVariants as op
 use Rattle.expr_rules.specs.Constants as constants
-use Rattle.expr_rules.specs.Kinds.{Tagging, is_integer, is_pointer_to_complete, is_scalar}
-use Rattle.expr_rules.specs.Operands.{Answer, broken, converted, promoted_type, usual_type, value}
+use Rattle.expr_rules.specs.Kinds.{is_integer, is_pointer_to_complete, is_scalar}
+use Rattle.expr_rules.specs.Operands.{Answer, broken, promoted_type, usual_type}
 
 -- the fault prints both operands
 abbrev pub refused : ℕ → ℕ → Judged → Judged → Answer

@@ -8,9 +8,12 @@ use Rattle.type_data.specs.Types.{Ty, Void_type, Pointer_to}
 use Rattle.type_data.specs.declared.integers.IntTy.{IntTy}
 use Rattle.type_data.specs.Same.{same_qual}
 use Rattle.type_rel.specs.Assignable.{is_arithmetic, is_zero}
-use Rattle.expr_rules.specs.Constants.{address_if, arith_if, brought, is_arith, is_told}
-use Rattle.expr_rules.specs.Kinds.{integer_type, is_floating, is_pointer, is_scalar, is_void, unqualified}
-use Rattle.expr_rules.specs.Operands.{Answer, after_reading, broken, converted, value}
+use Rattle.type_rel.specs.Constancies.{is_arith, is_told}
+use Rattle.type_rel.specs.Kinds.{integer_type, unqualified}
+use Rattle.type_rel.specs.Conversion.{after_reading, converted, value}
+use Rattle.expr_rules.specs.Constants.{address_if, arith_if, brought}
+use Rattle.expr_rules.specs.Kinds.{is_floating, is_pointer, is_scalar, is_void}
+use Rattle.expr_rules.specs.Operands.{Answer, broken}
 
 -- p2: to void, or from scalar to scalar
 abbrev pub is_castable : Ty → Ty → Bool

@@ -8,10 +8,11 @@ use Rattle.type_data.specs.declared.judged.Constancy.TheVariants.{No, Int, Arith
 use Rattle.type_data.specs.declared.values.Value.{Value}
 use Rattle.type_data.specs.declared.values.Value.TheVariants.{Known, Unknown, Faulty}
 use Rattle.type_data.specs.Types.{Ty}
+use Rattle.type_rel.specs.Constancies.{is_address, is_arith, is_told}
+use Rattle.type_rel.specs.Kinds.{integer_type}
 use Rattle.c_literals.specs.Conversions.{converted as converted_value}
 use Rattle.c_literals.specs.Operators.{value_of}
 use Rattle.c_literals.specs.declared.ops.Op.{Op}
-use Rattle.expr_rules.specs.Kinds.{integer_type}
 
 -- the value of an operator at operands of a type, and a value brought to a type
 unfoldable pub result_of : Op → IntTy → Value → Value → Value
@@ -27,27 +28,6 @@ int_value No = None
 int_value Arith = None
 int_value Addr = None
 int_value Null = None
-
-abbrev pub is_told : Value → Bool
-is_told (Faulty rule) = false
-is_told (Known n) = true
-is_told Unknown = true
-
--- p8: an operand of an arithmetic constant expression. One that is out of range leaves none.
-abbrev pub is_arith : Constancy → Bool
-is_arith (Int v) = is_told v
-is_arith Arith = true
-is_arith No = false
-is_arith Addr = false
-is_arith Null = false
-
--- p9: an address constant; a null pointer is one
-abbrev pub is_address : Constancy → Bool
-is_address Addr = true
-is_address Null = true
-is_address No = false
-is_address Arith = false
-is_address (Int v) = false
 
 abbrev pub arith_if : Bool → Constancy
 arith_if b = if b then Arith else No

@@ -3,6 +3,7 @@ use Rattle.std.specs.Prelude.{ℕ, Bool, false, ◌||◌, List, [], ◌∷◌, O
 use Rattle.std.specs.List.{list_any}
 use Rattle.type_data.specs.declared.judged.Judged.{Judged}
 use Rattle.type_data.specs.Types.{Ty}
+use Rattle.type_rel.specs.Kinds.{Tagging, is_bad}
 use Rattle.expr_rules.specs.declared.parts.Association.{Association}
 use Rattle.expr_rules.specs.declared.parts.Association.TheVariants as association
 use Rattle.expr_rules.specs.declared.parts.Form.{Form}
@@ -11,7 +12,6 @@ use Rattle.expr_rules.specs.declared.parts.Operator.{Operator}
 use Rattle.expr_rules.specs.Assignments.{assign, assign_by, comma, conditional}
 use Rattle.expr_rules.specs.Binary.{binary}
 use Rattle.expr_rules.specs.Casts.{cast}
-use Rattle.expr_rules.specs.Kinds.{Tagging, is_bad}
 use Rattle.expr_rules.specs.Operands.{Answer, bad, broken}
 use Rattle.expr_rules.specs.Postfix.{arrow, call, compound, dot, index, stepped}
 use Rattle.expr_rules.specs.Primary.{constant, identifier, text}

@@ -1,7 +1,6 @@
 -- Members of structures and unions (ISO C11 6.7.2.1p13: those of an anonymous one are its own).
 use Rattle.std.specs.Prelude.{ℕ, Bool, true, false, ◌||◌, ◌+◌, suc, zero, nat_eq, nat_lt, ◌^◌, List, [], ◌∷◌, Option, Some, None, if◌then◌else◌}
 use Rattle.std.specs.Cmp.Lexicographic.{pointwise}
-use Rattle.std.specs.List.{list_any}
 use Rattle.std.specs.Map.{lookup}
 use Rattle.type_data.specs.declared.members.Member.{Member}
 use Rattle.type_data.specs.declared.members.TagInfo.{TagInfo}
@@ -10,7 +9,9 @@ use Rattle.type_data.specs.declared.qualifiers.Qual.{Qual}
 use Rattle.type_data.specs.Layouts.{Laid}
 use Rattle.type_data.specs.Same.{same_tag}
 use Rattle.type_data.specs.Types.{Ty, Tagged_type, Array_of}
-use Rattle.expr_rules.specs.Kinds.{Tagging, both_quals, is_array}
+use Rattle.type_rel.specs.Inside.{inside_or, most_tags}
+use Rattle.type_rel.specs.Kinds.{Tagging}
+use Rattle.expr_rules.specs.Kinds.{both_quals, is_array}
 
 -- a member that was found: its type, its qualifiers and those of the anonymous structures round it, its width, and its place from
 -- the front in bits where the layouts tell it
@@ -81,19 +82,11 @@ abbrev pub of_info : (TagId → Option Found) → List ℕ → Option TagInfo �
 of_info enter name None = None
 of_info enter name (Some info) = of_members enter name info.members (places_of info.layout)
 
--- what the members of a tag have, seen from inside of others: a tag that it is already inside of has none
-abbrev pub inside_or : {A : Type 0} → List TagId → TagId → A → A → A
-inside_or inside id none others = if list_any (same_tag id) inside then none else others
-
 -- by a bound on how deep tags are inside of one another, which is above their number
 abbrev pub member_in : ℕ → Tagging → List TagId → List ℕ → TagId → Option Found
 member_in zero tags inside name id = None
 member_in (suc n) tags inside name id =
     inside_or inside id None (of_info (λ other. member_in n tags (id ∷ inside) name other) name (lookup (same_tag id) tags))
-
--- no text has as many tags
-unfoldable pub most_tags : ℕ
-most_tags = 4294967296
 
 -- the member of a structure or union with this name
 unfoldable pub member : Tagging → List ℕ → TagId → Option Found

@@ -12,13 +12,15 @@ use Rattle.type_data.specs.declared.qualifiers.Proto.{Proto}
 use Rattle.type_data.specs.declared.qualifiers.Proto.TheVariants as proto
 use Rattle.type_data.specs.Same.{same_tag}
 use Rattle.type_rel.specs.Assignable.{assignable, is_arithmetic}
+use Rattle.type_rel.specs.Completeness.{has_members, is_complete, is_open_array}
+use Rattle.type_rel.specs.Kinds.{Tagging, unqualified}
+use Rattle.type_rel.specs.Conversion.{converted, value}
 use Rattle.scope_tables.specs.declared.entities.ScopeKind.{ScopeKind}
 use Rattle.scope_tables.specs.declared.entities.ScopeKind.TheVariants as scope
 use Rattle.expr_rules.specs.Constants.{address_if, moved}
-use Rattle.expr_rules.specs.Kinds.{Tagging, both_quals, is_array, is_function, is_integer, is_pointer_to_complete, is_void, unqualified}
-use Rattle.type_rel.specs.Completeness.{has_members, is_complete, is_open_array}
+use Rattle.expr_rules.specs.Kinds.{both_quals, is_array, is_function, is_integer, is_pointer_to_complete, is_void}
 use Rattle.expr_rules.specs.Members.{Found, has_const, member, qualified}
-use Rattle.expr_rules.specs.Operands.{Answer, broken, bad, converted, value}
+use Rattle.expr_rules.specs.Operands.{Answer, broken, bad}
 
 -- what a pointer points to: an object, or a function
 unfoldable pub designated : Ty → Qual → Constancy → Judged

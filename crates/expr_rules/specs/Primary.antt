@@ -11,6 +11,8 @@ use Rattle.type_data.specs.declared.values.Value.{Value}
 use Rattle.type_data.specs.declared.values.Value.TheVariants.{Known, Unknown}
 use Rattle.type_data.specs.Types.{Basic_type, Array_of}
 use Rattle.type_rel.specs.Arithmetic.{basic_of}
+use Rattle.type_rel.specs.Kinds.{unqualified}
+use Rattle.type_rel.specs.Conversion.{value}
 use Rattle.c_literals.specs.declared.literal.Literal.{Literal}
 use Rattle.c_literals.specs.declared.literal.Literal.TheVariants as literal
 use Rattle.c_literals.specs.declared.strings.StrValue.{StrValue}
@@ -19,8 +21,7 @@ use Rattle.scope_tables.specs.declared.entities.EntityKind.{EntityKind}
 use Rattle.scope_tables.specs.declared.entities.EntityKind.TheVariants as kind
 use Rattle.scope_tables.specs.declared.entities.Life.{Life}
 use Rattle.scope_tables.specs.declared.entities.Life.TheVariants as life
-use Rattle.expr_rules.specs.Kinds.{unqualified}
-use Rattle.expr_rules.specs.Operands.{Answer, broken, value}
+use Rattle.expr_rules.specs.Operands.{Answer, broken}
 
 -- 6.7.1p6: the address of a register isn't taken
 abbrev pub place_of : Life → Place

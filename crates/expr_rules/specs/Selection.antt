@@ -5,12 +5,13 @@ use Rattle.type_data.specs.declared.judged.Judged.{Judged}
 use Rattle.type_data.specs.Same.{same_qual}
 use Rattle.type_data.specs.Types.{Ty}
 use Rattle.type_rel.specs.Compatible.{compatible}
+use Rattle.type_rel.specs.Completeness.{is_complete}
+use Rattle.type_rel.specs.Kinds.{Tagging, unqualified}
+use Rattle.type_rel.specs.Conversion.{converted}
 use Rattle.expr_rules.specs.declared.parts.Association.{Association}
 use Rattle.expr_rules.specs.declared.parts.Association.TheVariants.{Typed, Default}
 use Rattle.expr_rules.specs.Constants.{settled}
-use Rattle.expr_rules.specs.Kinds.{Tagging, unqualified}
-use Rattle.type_rel.specs.Completeness.{is_complete}
-use Rattle.expr_rules.specs.Operands.{Answer, broken, converted}
+use Rattle.expr_rules.specs.Operands.{Answer, broken}
 
 -- p2: each type is a complete object type
 abbrev pub is_proper : Tagging → Association → Bool

@@ -13,16 +13,18 @@ use Rattle.type_data.specs.declared.values.Value.TheVariants.{Known, Unknown}
 use Rattle.type_data.specs.Same.{same_tag}
 use Rattle.type_rel.specs.Assignable.{is_arithmetic}
 use Rattle.type_rel.specs.Sizes.{Sized, size_align}
+use Rattle.type_rel.specs.Completeness.{has_members, is_complete}
+use Rattle.type_rel.specs.Kinds.{Tagging}
+use Rattle.type_rel.specs.Conversion.{converted, value}
 use Rattle.c_literals.specs.declared.ops.Op.{Op}
 use Rattle.c_literals.specs.declared.ops.Op.TheVariants as op
 use Rattle.expr_rules.specs.declared.parts.Designator.{Designator}
 use Rattle.expr_rules.specs.declared.parts.Designator.TheVariants as designator
 use Rattle.expr_rules.specs.Constants as constants
 use Rattle.expr_rules.specs.Constants.{address_if, brought, result_of}
-use Rattle.expr_rules.specs.Kinds.{Tagging, is_integer, is_pointer, is_scalar}
-use Rattle.type_rel.specs.Completeness.{has_members, is_complete}
+use Rattle.expr_rules.specs.Kinds.{is_integer, is_pointer, is_scalar}
 use Rattle.expr_rules.specs.Members.{Found, member}
-use Rattle.expr_rules.specs.Operands.{Answer, bad, broken, converted, promoted_type, value}
+use Rattle.expr_rules.specs.Operands.{Answer, bad, broken, promoted_type}
 use Rattle.expr_rules.specs.Postfix.{pointed}
 
 -- 6.5.3.2p1: a function designator, or an object that is no bit-field and no register

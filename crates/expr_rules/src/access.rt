@@ -3,18 +3,16 @@ ghost use Rattle.std.specs.Prelude.{◌≡◌, ◌≢◌, Err, IfOk, option_map}
 ghost use Rattle.expr_rules.specs.Members;
 ghost use Rattle.expr_rules.specs.Postfix as spec;
 ghost use Rattle.expr_rules.specs.Shown.{shown};
-ghost use Rattle.expr_rules.specs.declared.parts.CheckError.TheVariants.{NoMemory};
+ghost use Rattle.type_rel.specs.declared.checks.CheckError.TheVariants.{NoMemory};
 
 use crate::answers::{refuse_name, refuse_type};
 use crate::constants::address_if;
-use crate::kinds::{UNQUALIFIED, both_quals, is_array};
+use crate::kinds::{both_quals, is_array};
 use crate::members::{Found, member};
-use crate::operands::converted;
-use crate::parts::CheckError;
 use shared_text::Name;
 use std::alloc::{AllocError, Global};
 use type_data::{CType, Constancy, Judged, Node, Place, Qual, Tags};
-use type_rel::has_members;
+use type_rel::{CheckError, UNQUALIFIED, converted, has_members};
 
 fn qualified(alloc: Global, ty: &CType, qual: Qual) -> Result<CType, AllocError>
     ensures { IfOk result (λ t. t ≡ Members.qualified ty.now qual) }

@@ -1,26 +1,13 @@
 // What a row answers.
 ghost use Rattle.std.specs.Prelude.{◌≡◌, ◌≢◌, [], ◌∷◌, Err, IfOk};
 ghost use Rattle.expr_rules.specs.Operands as spec;
-ghost use Rattle.expr_rules.specs.declared.parts.CheckError.TheVariants.{NoMemory};
+ghost use Rattle.type_rel.specs.declared.checks.CheckError.TheVariants.{NoMemory};
 
-use crate::kinds::UNQUALIFIED;
-use crate::parts::CheckError;
 use shared_list::Listing;
 use shared_text::Name;
 use std::alloc::{AllocError, Global};
-use type_data::{CType, Constancy, Fault, Judged, Node, Place};
-
-/// A value, which has no qualifiers.
-pub(crate) fn value(ty: CType, constant: Constancy) -> Judged
-    ensures { result ≡ spec.value ty constant }
-{
-    Judged {
-        ty,
-        qual: UNQUALIFIED,
-        place: Place::Value,
-        constant,
-    }
-}
+use type_data::{CType, Constancy, Fault, Judged, Node};
+use type_rel::{CheckError, value};
 
 /// What has a fault.
 pub(crate) fn bad() -> Judged

@@ -1,19 +1,16 @@
 // Binary operators (ISO C11 6.5.5 to 6.5.14). Operands are converted ones.
 ghost use Rattle.std.specs.Prelude.{◌≡◌, ◌≢◌, Ok, Err};
 ghost use Rattle.expr_rules.specs.Binary as spec;
-ghost use Rattle.expr_rules.specs.declared.parts.CheckError.TheVariants.{NoMemory};
+ghost use Rattle.type_rel.specs.declared.checks.CheckError.TheVariants.{NoMemory};
 
-use crate::answers::{refuse_types, value};
 use crate::constants;
+use crate::answers::refuse_types;
 use crate::kinds::{is_integer, is_pointer_to_complete, is_scalar};
-use crate::operands::{converted, promoted_type, usual_type};
-use crate::parts::CheckError;
+use crate::operands::{promoted_type, usual_type};
 use c_literals::Op;
 use std::alloc::Global;
 use type_data::{Basic, CType, Constancy, Judged, Node, Tags};
-use type_rel::{
-    compatible, is_arithmetic, is_complete, is_null_pointer, is_object, is_void_beside,
-};
+use type_rel::{CheckError, compatible, converted, is_arithmetic, is_complete, is_null_pointer, is_object, is_void_beside, value};
 
 pub(crate) fn refused(
     alloc: Global,

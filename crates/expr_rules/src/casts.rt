@@ -1,17 +1,15 @@
 // Casts (ISO C11 6.5.4).
 ghost use Rattle.std.specs.Prelude.{◌≡◌, ◌≢◌, Err};
 ghost use Rattle.expr_rules.specs.Casts as spec;
-ghost use Rattle.expr_rules.specs.Kinds;
-ghost use Rattle.expr_rules.specs.declared.parts.CheckError.TheVariants.{NoMemory};
+ghost use Rattle.type_rel.specs.Kinds;
+ghost use Rattle.type_rel.specs.declared.checks.CheckError.TheVariants.{NoMemory};
 
-use crate::answers::{refuse_types, value};
-use crate::constants::{address_if, arith_if, brought, is_arith, is_told};
-use crate::kinds::{UNQUALIFIED, integer_type, is_floating, is_pointer, is_scalar, is_void};
-use crate::operands::{after_reading, converted};
-use crate::parts::CheckError;
+use crate::answers::refuse_types;
+use crate::constants::{address_if, arith_if, brought};
+use crate::kinds::{is_floating, is_pointer, is_scalar, is_void};
 use std::alloc::Global;
 use type_data::{CType, Constancy, IntTy, Judged, Node, Qual};
-use type_rel::{is_arithmetic, is_zero};
+use type_rel::{CheckError, UNQUALIFIED, after_reading, converted, integer_type, is_arith, is_arithmetic, is_told, is_zero, value};
 
 fn is_castable(to: &CType, from: &CType) -> bool
     ensures { result ≡ spec.is_castable to.now from.now }

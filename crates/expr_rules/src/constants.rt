@@ -2,9 +2,9 @@
 ghost use Rattle.std.specs.Prelude.{◌≡◌};
 ghost use Rattle.expr_rules.specs.Constants as spec;
 
-use crate::kinds::integer_type;
 use c_literals::{Op, convert, value_op};
 use type_data::{CType, Constancy, IntTy, Value};
+use type_rel::{integer_type, is_address, is_arith, is_told};
 
 #[tactic(auto, unfolding(crate::specs::Constants::result_of))]
 pub(crate) fn result_of(op: Op, ty: IntTy, left: Value, right: Value) -> Value
@@ -30,40 +30,6 @@ fn int_value(constant: Constancy) -> Option<Value>
         Constancy::Arith => None,
         Constancy::Addr => None,
         Constancy::Null => None,
-    }
-}
-
-pub(crate) fn is_told(value: Value) -> bool
-    ensures { result ≡ spec.is_told value }
-{
-    match value {
-        Value::Faulty(_) => false,
-        Value::Known(_) => true,
-        Value::Unknown => true,
-    }
-}
-
-pub(crate) fn is_arith(constant: Constancy) -> bool
-    ensures { result ≡ spec.is_arith constant }
-{
-    match constant {
-        Constancy::Int(value) => is_told(value),
-        Constancy::Arith => true,
-        Constancy::No => false,
-        Constancy::Addr => false,
-        Constancy::Null => false,
-    }
-}
-
-pub(crate) fn is_address(constant: Constancy) -> bool
-    ensures { result ≡ spec.is_address constant }
-{
-    match constant {
-        Constancy::Addr => true,
-        Constancy::Null => true,
-        Constancy::No => false,
-        Constancy::Arith => false,
-        Constancy::Int(_) => false,
     }
 }
 

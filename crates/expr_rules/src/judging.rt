@@ -1,7 +1,7 @@
 // The row of a construct.
 ghost use Rattle.std.specs.Prelude.{◌≡◌, ◌≢◌, Ok, Err};
 ghost use Rattle.expr_rules.specs.Judgements as spec;
-ghost use Rattle.expr_rules.specs.declared.parts.CheckError.TheVariants.{NoMemory};
+ghost use Rattle.type_rel.specs.declared.checks.CheckError.TheVariants.{NoMemory};
 
 use crate::access::{arrow, dot};
 use crate::answers::{bad, refuse};
@@ -9,16 +9,16 @@ use crate::assignments::{comma, conditional};
 use crate::binary::binary;
 use crate::calls::call;
 use crate::casts::cast;
-use crate::kinds::is_bad;
 use crate::lvalues::{assign, assign_by, stepped};
 use crate::offsets::offset_of;
-use crate::parts::{Association, CheckError, Form, Operator};
+use crate::parts::{Association, Form, Operator};
 use crate::postfix::{compound, index};
 use crate::primary::{constant, identifier, text};
 use crate::selection::{generic, share};
 use crate::unary::{address, align_of, dereference, size_of, size_of_expression, unary};
 use std::alloc::Global;
 use type_data::{CType, Judged, Tags};
+use type_rel::{CheckError, is_bad};
 
 fn is_bad_association(association: &Association) -> bool
     ensures { result ≡ spec.is_bad_association association.now }

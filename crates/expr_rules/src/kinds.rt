@@ -2,24 +2,8 @@
 ghost use Rattle.std.specs.Prelude.{◌≡◌};
 ghost use Rattle.expr_rules.specs.Kinds as spec;
 
-use type_data::{CType, IntTy, Node, Qual, Tags};
-use type_rel::{integer_of, is_arithmetic, is_complete};
-
-pub(crate) const UNQUALIFIED: Qual = Qual {
-    is_const: false,
-    is_restrict: false,
-    is_volatile: false,
-};
-
-/// The type of what has a fault.
-pub fn is_bad(ty: &CType) -> bool
-    ensures { result ≡ spec.is_bad ty.now }
-{
-    match ty.node() {
-        Node::Bad => true,
-        _ => false,
-    }
-}
+use type_data::{CType, Node, Qual, Tags};
+use type_rel::{integer_type, is_arithmetic, is_complete};
 
 pub(crate) fn is_void(ty: &CType) -> bool
     ensures { result ≡ spec.is_void ty.now }
@@ -54,16 +38,6 @@ pub(crate) fn is_pointer(ty: &CType) -> bool
     match ty.node() {
         Node::Pointer(_, _) => true,
         _ => false,
-    }
-}
-
-pub(crate) fn integer_type(ty: &CType) -> Option<IntTy>
-    ensures { result ≡ spec.integer_type ty.now }
-{
-    match ty.node() {
-        Node::Basic(basic) => integer_of(*basic),
-        Node::Enumerated(_) => Some(IntTy::Int),
-        _ => None,
     }
 }
 

@@ -21,7 +21,4 @@ mod selection;
 mod unary;
 
 pub use judging::judge;
-pub use kinds::is_bad;
-pub use members::{deeper, is_inside, most_tags};
-pub use operands::converted;
-pub use parts::{Association, CheckError, Designator, Form, Operator};
+pub use parts::{Association, Designator, Form, Operator};

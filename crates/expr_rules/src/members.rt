@@ -1,21 +1,12 @@
 // Members of structures and unions (ISO C11 6.7.2.1p13): a walk down through the anonymous ones.
-ghost use Rattle.std.specs.Prelude.{◌≡◌, ◌∷◌, ◌++◌, [], ◌≤◌, ◌<◌, IfOk, OnOk, Option, Some, None, option_map};
-ghost use Rattle.std.specs.List.{list_any};
-ghost use Rattle.type_data.specs.Same.{same_tag};
+ghost use Rattle.std.specs.Prelude.{◌≡◌, IfOk, option_map};
 ghost use Rattle.expr_rules.specs.Members as spec;
 ghost use Rattle.expr_rules.specs.Shown.{shown};
 
 use crate::kinds::{both_quals, is_array};
 use std::alloc::{AllocError, Global};
 use type_data::{CType, Layout, Member, Node, Qual, TagId, Tags};
-
-/// How deep a walk through members may go: no text has as many tags.
-#[tactic(auto, unfolding(crate::specs::Members::most_tags))]
-pub fn most_tags() -> u64
-    ensures { result ≡ spec.most_tags }
-{
-    4_294_967_296
-}
+use type_rel::{deeper, is_inside, most_tags};
 
 /// A member that was found: its type, its qualifiers and those of the anonymous structures round it, its width, and its place
 /// from the front in bits where the layouts tell it.
@@ -25,36 +16,6 @@ pub(crate) struct Found<'a> {
     pub qual: Qual,
     pub width: Option<u8>,
     pub place: Option<u128>,
-}
-
-/// Whether a walk is inside of this tag already.
-pub fn is_inside(inside: &[TagId], id: &TagId) -> bool
-    ensures { result ≡ list_any (same_tag id.now) inside.now }
-{
-    inside.iter().any(|other| id == other)
-}
-
-fn share_all(ids: &[TagId], out: &mut Vec<TagId>) -> Result<(), AllocError>
-    ensures { OnOk result (out.new.items ≡ out.old.items ++ ids.now) }
-{
-    let mut rest = ids;
-    while let Some((id, behind)) = rest.split_first() {
-        let id = id.share()?;
-        out.push(id)?;
-        rest = behind;
-    }
-    Ok(())
-}
-
-/// The tags that a walk is inside of, with one more.
-pub fn deeper(alloc: Global, inside: &[TagId], id: &TagId) -> Result<Vec<TagId>, AllocError>
-    ensures { IfOk result (λ v. v.items ≡ id.now ∷ inside.now) }
-{
-    let mut out = Vec::new(alloc);
-    let id = id.share()?;
-    out.push(id)?;
-    share_all(inside, &mut out)?;
-    Ok(out)
 }
 
 fn first_place(places: &[u64]) -> Option<u128>

@@ -67,12 +67,3 @@ pub enum Form {
     AssignOp(Op),
     Comma,
 }
-
-/// Why a construct has no meaning.
-#[derive(Drop)]
-pub enum CheckError {
-    /// It breaks a rule.
-    Broken(Fault),
-    /// Memory was refused.
-    NoMemory,
-}

@@ -2,16 +2,14 @@
 ghost use Rattle.std.specs.Prelude.{◌≡◌, ◌≢◌, ◌≤◌, Err, option_map, length, IfOk};
 ghost use Rattle.std.specs.List.{list_any};
 ghost use Rattle.expr_rules.specs.Selection as spec;
-ghost use Rattle.expr_rules.specs.declared.parts.CheckError.TheVariants.{NoMemory};
+ghost use Rattle.type_rel.specs.declared.checks.CheckError.TheVariants.{NoMemory};
 
 use crate::answers::{refuse, refuse_type};
 use crate::constants::settled;
-use crate::kinds::UNQUALIFIED;
-use crate::operands::converted;
-use crate::parts::{Association, CheckError};
+use crate::parts::Association;
 use std::alloc::{AllocError, Global};
 use type_data::{CType, Judged, Tags};
-use type_rel::{compatible, is_complete};
+use type_rel::{CheckError, UNQUALIFIED, compatible, converted, is_complete};
 
 fn is_proper(tags: &Tags, association: &Association) -> bool
     ensures { result ≡ spec.is_proper tags.now association.now }

@@ -2,19 +2,18 @@
 ghost use Rattle.std.specs.Prelude.{◌≡◌, ◌≢◌, Err, option_map};
 ghost use Rattle.type_rel.specs.Sizes.{size_align};
 ghost use Rattle.expr_rules.specs.Unary as spec;
-ghost use Rattle.expr_rules.specs.declared.parts.CheckError.TheVariants.{NoMemory};
+ghost use Rattle.type_rel.specs.declared.checks.CheckError.TheVariants.{NoMemory};
 
-use crate::answers::{refuse_type, value};
 use crate::constants;
+use crate::answers::refuse_type;
 use crate::constants::address_if;
 use crate::kinds::{is_integer, is_pointer, is_scalar};
-use crate::operands::{converted, promoted_type};
-use crate::parts::CheckError;
+use crate::operands::promoted_type;
 use crate::postfix::pointed;
 use c_literals::Op;
 use std::alloc::Global;
 use type_data::{Basic, CType, Constancy, Judged, Node, Place, Tags, Value};
-use type_rel::{is_arithmetic, is_complete, size_align};
+use type_rel::{CheckError, converted, is_arithmetic, is_complete, size_align, value};
 
 fn has_address(place: Place) -> bool
     ensures { result ≡ spec.has_address place }

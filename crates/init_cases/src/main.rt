@@ -11,7 +11,6 @@ mod pieces;
 mod tags;
 mod types;
 
-use expr_rules::CheckError;
 use init_rules::{InitPiece, InitState, Stack, completed, init_step};
 use lists::{element_list, member_list};
 use pieces::piece_named;
@@ -21,6 +20,7 @@ use std::io::Read;
 use tags::tags_of;
 use type_data::{CType, Fault, Tags};
 use type_print::print;
+use type_rel::CheckError;
 use types::{plain, type_named};
 
 // The state before the first piece.

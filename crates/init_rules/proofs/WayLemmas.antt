@@ -8,11 +8,11 @@ use Rattle.type_data.specs.declared.members.TagInfo.{TagInfo}
 use Rattle.type_data.specs.declared.names.TagId.{TagId}
 use Rattle.type_data.specs.Same.{same_tag}
 use Rattle.type_data.specs.Types.{Ty, Tagged_type}
-use Rattle.expr_rules.specs.Kinds.{Tagging}
+use Rattle.type_rel.specs.Kinds.{Tagging}
+use Rattle.type_rel.specs.Inside.{most_tags}
 use Rattle.init_rules.specs.declared.state.OpenPlace.{OpenPlace}
 use Rattle.init_rules.specs.Descents.{Way, down, down_in, ends_at, to_first}
 use Rattle.init_rules.specs.Parts.{Part, after, of_tag, part_of}
-use Rattle.expr_rules.specs.Members.{most_tags}
 use Rattle.init_rules.specs.Paths.{Path, among, from_next, in_info, of_info, of_members, path, path_in}
 use Rattle.init_rules.specs.Places.{place}
 

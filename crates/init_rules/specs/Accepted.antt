@@ -5,8 +5,8 @@ use Rattle.type_data.specs.declared.judged.Fault.{Fault}
 use Rattle.type_data.specs.declared.judged.Judged.{Judged}
 use Rattle.type_data.specs.Types.{Ty}
 use Rattle.type_rel.specs.Assignable.{assignable}
-use Rattle.expr_rules.specs.Constants.{is_address, is_arith}
-use Rattle.expr_rules.specs.Kinds.{is_bad}
+use Rattle.type_rel.specs.Constancies.{is_address, is_arith}
+use Rattle.type_rel.specs.Kinds.{is_bad}
 use Rattle.init_rules.specs.Places.{is_told}
 use Rattle.init_rules.specs.Strings.{is_too_long, takes_text}
 use Rattle.init_rules.specs.declared.state.OpenPlace.{OpenPlace}

@@ -7,8 +7,8 @@ use Rattle.type_data.specs.declared.qualifiers.Extent.{Extent}
 use Rattle.type_data.specs.declared.qualifiers.Extent.TheVariants as extent
 use Rattle.type_data.specs.Same.{same_tag}
 use Rattle.type_data.specs.Types.{Ty, Tagged_type, Array_of, Bad_type}
-use Rattle.expr_rules.specs.Kinds.{Tagging}
-use Rattle.expr_rules.specs.Members.{inside_or, most_tags}
+use Rattle.type_rel.specs.Kinds.{Tagging}
+use Rattle.type_rel.specs.Inside.{inside_or, most_tags}
 use Rattle.init_rules.specs.declared.state.OpenPlace.{OpenPlace}
 use Rattle.init_rules.specs.Parts.{Part, after, of_tag}
 use Rattle.init_rules.specs.Places.{place, unchecked}

@@ -6,7 +6,7 @@ use Rattle.type_data.specs.declared.qualifiers.Extent.TheVariants as extent
 use Rattle.type_data.specs.declared.values.Value.{Value}
 use Rattle.type_data.specs.declared.values.Value.TheVariants.{Known, Unknown, Faulty}
 use Rattle.type_data.specs.Types.{Ty, Tagged_type, Array_of}
-use Rattle.expr_rules.specs.Kinds.{Tagging, is_bad}
+use Rattle.type_rel.specs.Kinds.{Tagging, is_bad}
 use Rattle.init_rules.specs.declared.state.OpenPlace.{OpenPlace}
 use Rattle.init_rules.specs.declared.spots.Spot.{Spot}
 use Rattle.init_rules.specs.declared.spots.Spot.TheVariants as spot_is

@@ -9,7 +9,7 @@ use Rattle.type_data.specs.declared.qualifiers.Extent.{Extent}
 use Rattle.type_data.specs.declared.qualifiers.Extent.TheVariants as extent
 use Rattle.type_data.specs.Same.{same_tag}
 use Rattle.type_data.specs.Types.{Ty, Tagged_type, Array_of, Bad_type}
-use Rattle.expr_rules.specs.Kinds.{Tagging}
+use Rattle.type_rel.specs.Kinds.{Tagging}
 
 -- a part by its number, with its type
 pub record Part : Type 0 where

@@ -8,8 +8,8 @@ use Rattle.type_data.specs.declared.members.TagInfo.{TagInfo}
 use Rattle.type_data.specs.declared.names.TagId.{TagId}
 use Rattle.type_data.specs.Same.{same_tag}
 use Rattle.type_data.specs.Types.{Ty, Tagged_type}
-use Rattle.expr_rules.specs.Kinds.{Tagging}
-use Rattle.expr_rules.specs.Members.{inside_or, most_tags}
+use Rattle.type_rel.specs.Kinds.{Tagging}
+use Rattle.type_rel.specs.Inside.{inside_or, most_tags}
 use Rattle.init_rules.specs.Parts.{after}
 
 abbrev pub Path : Type 0

@@ -4,7 +4,7 @@ use Rattle.std.specs.Prelude.{ℕ, Bool, true, false, not, ◌&&◌, ◌||◌, �
 use Rattle.type_data.specs.declared.qualifiers.Extent.TheVariants as extent
 use Rattle.type_data.specs.Types.{Ty, Array_of, Bad_type}
 use Rattle.type_rel.specs.Completeness.{is_open_array}
-use Rattle.expr_rules.specs.Kinds.{Tagging, is_bad}
+use Rattle.type_rel.specs.Kinds.{Tagging, is_bad}
 use Rattle.init_rules.specs.declared.state.OpenPlace.{OpenPlace}
 use Rattle.init_rules.specs.declared.spots.Spot.{Spot}
 use Rattle.init_rules.specs.declared.spots.Spot.TheVariants as spot_is

@@ -4,10 +4,10 @@ use Rattle.type_data.specs.declared.judged.Fault.{Fault}
 use Rattle.type_data.specs.declared.judged.Judged.{Judged}
 use Rattle.type_data.specs.declared.values.Value.{Value}
 use Rattle.type_data.specs.Types.{Ty, Bad_type}
-use Rattle.expr_rules.specs.declared.parts.CheckError.{CheckError}
-use Rattle.expr_rules.specs.declared.parts.CheckError.TheVariants.{Broken}
-use Rattle.expr_rules.specs.Kinds.{Tagging, is_bad}
-use Rattle.expr_rules.specs.Operands.{converted}
+use Rattle.type_rel.specs.declared.checks.CheckError.{CheckError}
+use Rattle.type_rel.specs.declared.checks.CheckError.TheVariants.{Broken}
+use Rattle.type_rel.specs.Kinds.{Tagging, is_bad}
+use Rattle.type_rel.specs.Conversion.{converted}
 use Rattle.init_rules.specs.declared.state.InitPiece.{InitPiece}
 use Rattle.init_rules.specs.declared.state.InitPiece.TheVariants as piece
 use Rattle.init_rules.specs.declared.state.InitState.{InitState}

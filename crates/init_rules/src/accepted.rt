@@ -6,11 +6,10 @@ ghost use Rattle.init_rules.specs.Steps;
 
 use crate::places::Places;
 use crate::strings::{is_too_long, takes_text};
-use expr_rules::is_bad;
 use shared_list::Listing;
 use std::alloc::{AllocError, Global};
-use type_data::{CType, Constancy, Fault, Judged, Value};
-use type_rel::assignable;
+use type_data::{CType, Constancy, Fault, Judged};
+use type_rel::{assignable, is_address, is_arith, is_bad};
 
 /// An expression, what it is after its conversion, and whether it is a string literal.
 #[derive(Clone, Copy)]
@@ -73,15 +72,7 @@ pub(crate) fn too_many_if(alloc: Global, at: u32, told: bool) -> Option<Fault>
 fn is_constant(constant: Constancy) -> bool
     ensures { result ≡ spec.is_constant constant }
 {
-    match constant {
-        Constancy::No => false,
-        Constancy::Int(Value::Faulty(_)) => false,
-        Constancy::Int(Value::Known(_)) => true,
-        Constancy::Int(Value::Unknown) => true,
-        Constancy::Arith => true,
-        Constancy::Addr => true,
-        Constancy::Null => true,
-    }
+    is_arith(constant) || is_address(constant)
 }
 
 /// An expression initializes an object of this type as a whole.

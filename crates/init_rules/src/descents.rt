@@ -7,9 +7,9 @@ ghost use Rattle.type_data.specs.Types;
 use crate::accepted::{Expression, takes};
 use crate::parts::{after, of_tag};
 use crate::places::{Places, place, unchecked};
-use expr_rules::{deeper, is_inside, most_tags};
 use std::alloc::{AllocError, Global};
 use type_data::{CType, Extent, Node, TagId, Tags};
+use type_rel::{deeper, is_inside, most_tags};
 
 /// What the way is about: the tags, those that it is inside of, what it is for, and how deep it may still go.
 #[derive(Clone, Copy)]

@@ -11,9 +11,9 @@ use crate::paths::{Path, path};
 use crate::places::{Places, next_is, overfill, place, take, to_list, unchecked};
 use crate::spots::{Spot, Standing};
 use crate::state::OpenPlace;
-use expr_rules::is_bad;
 use std::alloc::{AllocError, Global};
 use type_data::{CType, Extent, Fault, Node, Tags, Value};
+use type_rel::is_bad;
 
 fn aim_in(tags: &Tags, p: &OpenPlace) -> Result<Spot, AllocError>
     ensures { IfOk result (λ s. s ≡ spec.aim_in tags.now p.now) }

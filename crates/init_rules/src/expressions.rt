@@ -1,6 +1,6 @@
 // Expressions and braces in an initializer (ISO C11 6.7.9).
 ghost use Rattle.std.specs.Prelude.{◌≡◌, IfOk, OnOk, option_map, false};
-ghost use Rattle.expr_rules.specs.Operands;
+ghost use Rattle.type_rel.specs.Conversion;
 ghost use Rattle.init_rules.specs.Accepted;
 ghost use Rattle.init_rules.specs.Places as P;
 ghost use Rattle.init_rules.specs.Stacks;
@@ -15,9 +15,9 @@ use crate::places::{Places, overfill, place, spot, take, to_current, unchecked};
 use crate::spots::Spot;
 use crate::state::InitState;
 use crate::strings::{fill, fills, length_of, takes_text};
-use expr_rules::{converted, is_bad};
 use std::alloc::{AllocError, Global};
 use type_data::{CType, Fault, Judged, Node, Tags};
+use type_rel::{converted, is_bad};
 
 fn unknown_in(places: &mut Places, ty: &CType) -> Result<(), AllocError>
     ensures { OnOk result (places.new ≡ spec.unknown_in ty.now places.old) }
@@ -161,8 +161,8 @@ pub(crate) fn express(
     text: bool,
     judged: &Judged,
 ) -> Result<Option<Fault>, AllocError>
-    ensures fault { IfOk result (λ f. f ≡ spec.expressed_fault state.old tags.now text judged.now (Operands.converted judged.now) (spec.here state.old tags.now)) }
-    ensures moves { OnOk result (state.new ≡ spec.expressed state.old tags.now text judged.now (Operands.converted judged.now) (spec.here state.old tags.now)) }
+    ensures fault { IfOk result (λ f. f ≡ spec.expressed_fault state.old tags.now text judged.now (Conversion.converted judged.now) (spec.here state.old tags.now)) }
+    ensures moves { OnOk result (state.new ≡ spec.expressed state.old tags.now text judged.now (Conversion.converted judged.now) (spec.here state.old tags.now)) }
 {
     let after = converted(alloc, judged)?;
     to_current(tags, state.designating, &mut state.open_places);

@@ -5,9 +5,9 @@ ghost use Rattle.init_rules.specs.Paths as spec;
 
 use crate::parts::{after, members_from};
 use crate::stack::Stack;
-use expr_rules::{deeper, is_inside, most_tags};
 use std::alloc::{AllocError, Global};
 use type_data::{Member, Node, TagId, Tags};
+use type_rel::{deeper, is_inside, most_tags};
 
 /// The numbers of the members on the way, the outermost on top.
 pub(crate) type Path = Stack<u128>;

@@ -7,10 +7,9 @@ use crate::parts::{after, part_at};
 use crate::spots::Spot;
 use crate::stack::Stack;
 use crate::state::OpenPlace;
-use expr_rules::is_bad;
 use std::alloc::AllocError;
 use type_data::{CType, Extent, Node, Tags};
-use type_rel::is_open_array;
+use type_rel::{is_bad, is_open_array};
 
 pub(crate) type Places = Stack<OpenPlace>;
 

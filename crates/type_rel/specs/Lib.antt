@@ -3,6 +3,10 @@ pub mod Assignable
 pub mod Compatible
 pub mod Completeness
 pub mod Composite
+pub mod Constancies
+pub mod Conversion
+pub mod Inside
+pub mod Kinds
 pub mod Layout
 pub mod Sizes
 pub mod Steps

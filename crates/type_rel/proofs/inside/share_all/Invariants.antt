@@ -1,5 +1,5 @@
 use Rattle.std.proofs.Common.{◌≡◌, ◌++◌, length}
-use Rattle.expr_rules.proofs.members.share_all.Given as goal
+use Rattle.type_rel.proofs.inside.share_all.Given as goal
 
 abbrev pub invariant-loop-id : goal.invariant-loop-id
 invariant-loop-id l = l.out.items ++ l.rest ≡ l.fn.out.items ++ l.ids
