@@ -21,7 +21,7 @@ use Rattle.init_rules.specs.Extents.{got, greater}
 use Rattle.init_rules.specs.Parts.{has_parts}
 use Rattle.init_rules.specs.Places.{closed, current, overfilled, place, spot, taken, unchecked}
 use Rattle.init_rules.specs.Stacks.{bottom, top}
-use Rattle.init_rules.specs.Strings.{fills, length_of, sized_by, takes_text}
+use Rattle.init_rules.specs.Strings.{filled, filled_length, fills, length_of, takes_text}
 
 -- An expression with a fault takes a scalar; of what has parts it isn't known how many it takes.
 abbrev pub unknown_in : Ty → List OpenPlace → List OpenPlace
@@ -62,10 +62,6 @@ whole_length whole text j spot_is.Full = 0
 whole_length whole text j (spot_is.At n t) = 0
 
 -- a string in braces
-abbrev pub filled : Ty → List OpenPlace → List OpenPlace
-filled u [] = []
-filled u (p ∷ ps) = record p { ty = sized_by u p.ty; next = length_of (sized_by u p.ty) } ∷ ps
-
 abbrev pub filled_fault : ℕ → Ty → Option OpenPlace → Option Fault
 filled_fault at u None = None
 filled_fault at u (Some p) = by_text at p.ty u
@@ -77,7 +73,7 @@ moved s ps designating n = record s { open_places = ps; designating = designatin
 -- by the places that are open where it stands
 abbrev pub expressed : InitState → Tagging → Bool → Judged → Judged → List OpenPlace → InitState
 expressed s tags text j c ps =
-    if text && fills s.designating j.ty (top ps) then moved s (filled j.ty ps) false 0
+    if text && fills s.designating j.ty (top ps) then moved s (filled c.ty ps) false (filled_length j.ty ps)
     else moved s (places_at tags text j c (spot tags s.designating (top ps)) ps) false (whole_length s.ty text j (spot tags s.designating (top ps)))
 
 abbrev pub expressed_fault : InitState → Tagging → Bool → Judged → Judged → List OpenPlace → Option Fault

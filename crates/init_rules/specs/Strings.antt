@@ -1,12 +1,12 @@
 -- String literals as initializers of arrays (ISO C11 6.7.9p14, p15).
-use Rattle.std.specs.Prelude.{ℕ, Bool, true, false, not, ◌&&◌, ◌||◌, ◌-◌, ◌==◌, nat_lt, Option, Some, None, if◌then◌else◌}
+use Rattle.std.specs.Prelude.{ℕ, Bool, true, false, not, ◌&&◌, ◌||◌, ◌-◌, ◌==◌, nat_lt, is_none, List, [], ◌∷◌, Option, Some, None, if◌then◌else◌}
 use Rattle.type_data.specs.declared.basics.Basic.TheVariants as basic
-use Rattle.type_data.specs.declared.qualifiers.Extent.{Extent}
 use Rattle.type_data.specs.declared.qualifiers.Extent.TheVariants as extent
 use Rattle.type_data.specs.Same.{same_basic}
 use Rattle.type_data.specs.Types.{Ty, Basic_type, Array_of, Bad_type}
 use Rattle.type_rel.specs.Compatible.{compatible}
 use Rattle.init_rules.specs.declared.state.OpenPlace.{OpenPlace}
+use Rattle.init_rules.specs.Stacks.{top}
 
 -- 6.2.5p15: the character types; nothing is shown of a type with a fault
 abbrev pub is_character : Ty → Bool
@@ -45,12 +45,12 @@ abbrev pub fills : Bool → Ty → Option OpenPlace → Bool
 fills designating u None = false
 fills designating u (Some p) = not designating && fills_place u p
 
--- p22: an array of unknown size has as many elements as the string
-abbrev pub filled_size : Extent → ℕ → ℕ
-filled_size (extent.Size n) m = n
-filled_size extent.None m = m
-filled_size extent.Unknown m = m
+-- the string then stands there in place of the array, as the one initializer that a scalar takes
+abbrev pub filled : Ty → List OpenPlace → List OpenPlace
+filled t [] = []
+filled t (p ∷ ps) = record p { ty = t; next = 1 } ∷ ps
 
-abbrev pub sized_by : Ty → Ty → Ty
-sized_by u (Array_of t q n) = Array_of t q (extent.Size (filled_size n (length_of u)))
-sized_by u t = t
+-- p22: it tells the number of elements where this is the array that is initialized
+abbrev pub filled_length : Ty → List OpenPlace → ℕ
+filled_length u [] = 0
+filled_length u (p ∷ ps) = if is_none (top ps) then length_of u else 0

@@ -5,6 +5,7 @@ ghost use Rattle.init_rules.specs.Accepted;
 ghost use Rattle.init_rules.specs.Places as P;
 ghost use Rattle.init_rules.specs.Stacks;
 ghost use Rattle.init_rules.specs.Steps as spec;
+ghost use Rattle.init_rules.specs.Strings;
 ghost use Rattle.init_rules.specs.declared.state.InitPiece.TheVariants as piece;
 
 use crate::accepted::{Expression, Setting, by_text, refused, too_many_if};
@@ -114,11 +115,11 @@ fn in_braces(
     e: &Expression<'_>,
 ) -> Result<Option<Fault>, AllocError>
     ensures fault { IfOk result (λ f. f ≡ spec.filled_fault state.old.at e.now.judged.now.ty (Stacks.top state.old.open_places)) }
-    ensures moves { OnOk result (state.new ≡ spec.moved state.old (spec.filled e.now.judged.now.ty state.old.open_places) false 0) }
+    ensures moves { OnOk result (state.new ≡ spec.moved state.old (Strings.filled e.now.converted.now.ty state.old.open_places) false (Strings.filled_length e.now.judged.now.ty state.old.open_places)) }
 {
     let fault = filled_fault(alloc, state.at, &e.judged.ty, &state.open_places);
-    fill(alloc, &e.judged.ty, &mut state.open_places)?;
-    end_step(state, false, 0);
+    let length = fill(&e.judged.ty, &e.converted.ty, &mut state.open_places)?;
+    end_step(state, false, length as u128);
     Ok(fault)
 }
 

@@ -1,12 +1,11 @@
 // String literals as initializers of arrays (ISO C11 6.7.9p14, p15).
 ghost use Rattle.std.specs.Prelude.{◌≡◌, IfOk, OnOk, option_map};
 ghost use Rattle.init_rules.specs.Stacks;
-ghost use Rattle.init_rules.specs.Steps;
 ghost use Rattle.init_rules.specs.Strings as spec;
 
 use crate::places::Places;
 use crate::state::OpenPlace;
-use std::alloc::{AllocError, Global};
+use std::alloc::AllocError;
 use type_data::{Basic, CType, Extent, Node};
 use type_rel::compatible;
 
@@ -86,44 +85,26 @@ pub(crate) fn fills(designating: bool, text: &CType, places: &Places) -> bool
     }
 }
 
-fn filled_size(extent: Extent, length: u64) -> u64
-    ensures { result ≡ spec.filled_size extent length }
-{
-    match extent {
-        Extent::Size(count) => count,
-        Extent::None => length,
-        Extent::Unknown => length,
-    }
-}
-
-fn sized_by(alloc: Global, text: &CType, ty: &CType) -> Result<CType, AllocError>
-    ensures { IfOk result (λ t. t ≡ spec.sized_by text.now ty.now) }
-{
-    match ty.node() {
-        Node::Array(of, qual, extent) => {
-            let of = of.share()?;
-            let size = filled_size(*extent, length_of(text));
-            CType::array(alloc, of, *qual, Extent::Size(size))
-        }
-        _ => ty.share(),
-    }
-}
-
-/// Fills the innermost place with a string.
-pub(crate) fn fill(alloc: Global, text: &CType, places: &mut Places) -> Result<(), AllocError>
-    ensures { OnOk result (places.new ≡ Steps.filled text.now places.old) }
+/// A string literal of a type, which is `pointer` after its conversion, stands in place of the innermost place's array; answers how
+/// many elements it tells.
+pub(crate) fn fill(text: &CType, pointer: &CType, places: &mut Places) -> Result<u64, AllocError>
+    ensures length { IfOk result (λ n. n ≡ spec.filled_length text.now places.old) }
+    ensures places { OnOk result (places.new ≡ spec.filled pointer.now places.old) }
 {
     match places.pop() {
         Some(p) => {
-            let ty = sized_by(alloc, text, &p.ty)?;
-            let next = length_of(&ty) as u128;
+            let length = match places.top() {
+                Some(_) => 0,
+                None => length_of(text),
+            };
             places.push(OpenPlace {
-                ty,
-                next,
+                ty: pointer.share()?,
+                next: 1,
                 braced: p.braced,
                 overfull: p.overfull,
-            })
+            })?;
+            Ok(length)
         }
-        None => Ok(()),
+        None => Ok(0),
     }
 }
