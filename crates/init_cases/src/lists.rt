@@ -46,14 +46,47 @@ fn takes_list(
     Ok(takes_all(alloc, state, &piece, tags, count))
 }
 
-fn listed(
+// The members in order, each by its name.
+fn takes_names(
     alloc: Global,
     state: &mut InitState,
     tags: &Tags,
     count: u32,
 ) -> Result<bool, AllocError> {
+    for number in 0..count {
+        let word = format!(in alloc; ".m{number}")?;
+        if !takes(alloc, state, word.as_str(), tags)? {
+            return Ok(false);
+        }
+        if !takes(alloc, state, "i=1", tags)? {
+            return Ok(false);
+        }
+    }
+    Ok(true)
+}
+
+fn takes_some(
+    alloc: Global,
+    state: &mut InitState,
+    tags: &Tags,
+    count: u32,
+    named: bool,
+) -> Result<bool, AllocError> {
+    if named {
+        return takes_names(alloc, state, tags, count);
+    }
+    takes_list(alloc, state, tags, count)
+}
+
+fn listed(
+    alloc: Global,
+    state: &mut InitState,
+    tags: &Tags,
+    count: u32,
+    named: bool,
+) -> Result<bool, AllocError> {
     let opened = takes(alloc, state, "{", tags)?;
-    let taken = takes_list(alloc, state, tags, count)?;
+    let taken = takes_some(alloc, state, tags, count, named)?;
     let more = takes(alloc, state, "i=1", tags)?;
     let closed = takes(alloc, state, "}", tags)?;
     Ok(opened && taken && closed && !more)
@@ -64,8 +97,9 @@ fn shown(
     state: &mut InitState,
     tags: &Tags,
     count: u32,
+    named: bool,
 ) -> Result<String, AllocError> {
-    let fits = listed(alloc, state, tags, count)?;
+    let fits = listed(alloc, state, tags, count, named)?;
     let ty = completed(alloc, state)?;
     let ty = print(alloc, &ty, plain(), "", tags)?;
     let ty = ty.as_str();
@@ -79,11 +113,12 @@ fn shown(
 pub fn element_list(alloc: Global, tags: &Tags, count: u32) -> Result<String, AllocError> {
     let ty = type_named(alloc, "i_")?;
     let mut state = started(alloc, ty, true);
-    shown(alloc, &mut state, tags, count)
+    shown(alloc, &mut state, tags, count, false)
 }
 
-fn member(alloc: Global) -> Result<Member, AllocError> {
-    let name = Name::from_str(alloc, "m")?;
+fn member(alloc: Global, number: u32) -> Result<Member, AllocError> {
+    let name = format!(in alloc; "m{number}")?;
+    let name = Name::from_str(alloc, name.as_str())?;
     Ok(Member {
         name: Some(name),
         ty: type_named(alloc, "i")?,
@@ -96,8 +131,8 @@ fn member(alloc: Global) -> Result<Member, AllocError> {
 
 fn members(alloc: Global, count: u32) -> Result<Vec<Member>, AllocError> {
     let mut members = Vec::new(alloc);
-    for _ in 0..count {
-        let member = member(alloc)?;
+    for number in 0..count {
+        let member = member(alloc, number)?;
         members.push(member)?;
     }
     Ok(members)
@@ -110,15 +145,15 @@ fn insert_members(alloc: Global, tags: &mut Tags, count: u32) -> Result<(), Allo
     tags.insert(id, info)
 }
 
-fn structure(alloc: Global, tags: &Tags, count: u32) -> Result<String, AllocError> {
+fn structure(alloc: Global, tags: &Tags, count: u32, named: bool) -> Result<String, AllocError> {
     let ty = type_named(alloc, "S")?;
     let mut state = started(alloc, ty, true);
-    shown(alloc, &mut state, tags, count)
+    shown(alloc, &mut state, tags, count, named)
 }
 
-/// A structure of so many members, and one initializer more.
-pub fn member_list(alloc: Global, count: u32) -> Result<String, AllocError> {
+/// A structure of so many members, and one initializer more; the members by their names, or in turn.
+pub fn member_list(alloc: Global, count: u32, named: bool) -> Result<String, AllocError> {
     let mut tags = Tags::new(alloc);
     insert_members(alloc, &mut tags, count)?;
-    structure(alloc, &tags, count)
+    structure(alloc, &tags, count, named)
 }

@@ -1,8 +1,8 @@
 // Initializers, case by case: reads a type, `static` or `auto`, and the pieces of an initializer from each line of standard input, and
 // prints the faults, each behind the number of its piece, and the type that the object has then. A piece is `{`, `}`, `.` and a
 // name, a number in brackets (`[?]` where its value isn't told, `[!R]` where it breaks the rule R), `"` and the type of a string
-// literal, or an expression (`src/operands.rt`); types and tags are those of `src/types.rt` and `src/tags.rt`. `elements N` and
-// `members N` read a list of so many initializers for an array and for a structure.
+// literal, or an expression (`src/operands.rt`); types and tags are those of `src/types.rt` and `src/tags.rt`. `elements N`,
+// `members N` and `names N` read a list of so many initializers for an array, for a structure, and for its members by their names.
 #![tactic(auto)]
 
 mod lists;
@@ -125,7 +125,10 @@ fn shown(alloc: Global, tags: &Tags, line: &str) -> Result<String, AllocError> {
         return element_list(alloc, tags, count);
     }
     if let Some(count) = number_behind(line, "members ") {
-        return member_list(alloc, count);
+        return member_list(alloc, count, false);
+    }
+    if let Some(count) = number_behind(line, "names ") {
+        return member_list(alloc, count, true);
     }
     answer(alloc, tags, line)
 }

@@ -1,5 +1,5 @@
 -- String literals as initializers of arrays (ISO C11 6.7.9p14, p15).
-use Rattle.std.specs.Prelude.{ℕ, Bool, true, false, not, ◌&&◌, ◌||◌, ◌-◌, ◌==◌, nat_lt, is_none, List, [], ◌∷◌, Option, Some, None, if◌then◌else◌}
+use Rattle.std.specs.Prelude.{ℕ, Bool, true, false, not, ◌&&◌, ◌||◌, ◌-◌, ◌==◌, nat_lt, List, [], ◌∷◌, Option, Some, None, if◌then◌else◌}
 use Rattle.type_data.specs.declared.basics.Basic.TheVariants as basic
 use Rattle.type_data.specs.declared.qualifiers.Extent.TheVariants as extent
 use Rattle.type_data.specs.Same.{same_basic}
@@ -50,7 +50,11 @@ abbrev pub filled : Ty → List OpenPlace → List OpenPlace
 filled t [] = []
 filled t (p ∷ ps) = record p { ty = t; next = 1 } ∷ ps
 
--- p22: it tells the number of elements where this is the array that is initialized
+-- p22: it tells the number of elements where no place is round it, so that this is the array that is initialized
+abbrev pub outermost_length : Ty → Option OpenPlace → ℕ
+outermost_length u None = length_of u
+outermost_length u (Some p) = 0
+
 abbrev pub filled_length : Ty → List OpenPlace → ℕ
 filled_length u [] = 0
-filled_length u (p ∷ ps) = if is_none (top ps) then length_of u else 0
+filled_length u (p ∷ ps) = outermost_length u (top ps)

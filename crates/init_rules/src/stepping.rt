@@ -97,11 +97,12 @@ fn answer(fault: Option<Fault>) -> Result<(), CheckError>
 /// designator its `.` or `[` (a fault of its value belongs on the expression, where the caller puts it), of a brace or an expression
 /// its first token.
 ///
-/// `Broken` has the rule with the lowest number that the piece breaks: 425 for the first initializer of a list that is too many,
-/// and for a string that is too long; 426 for a designator that designates nothing; 427 where an initializer isn't constant and
-/// must be; 428 where the object doesn't take it, with the type of the object and that of the expression after its conversion; the
-/// rule of a designator's value that is `Faulty`. After a fault the initializer goes on; behind one of 425, of a designator, or of
-/// an expression of a faulty type for what has parts, nothing is checked up to the next designation of the list or its end.
+/// `Broken` has the rule that the piece breaks: 425 for the first initializer of a list that is too many, and for a string that is
+/// too long; that of a designator's value that is `Faulty`, else 426 for a designator that designates nothing; 427 where an
+/// initializer isn't constant and must be, else 428 where the object doesn't take it, with the type of the object and that of the
+/// expression after its conversion. After a fault the initializer goes on; behind too many, a designator that designates nothing
+/// that is known, and an expression of a faulty type for what has parts, nothing is checked up to the next designation of the list
+/// or its end.
 ///
 /// `NoMemory` comes where memory is refused; the state is of no use then. A step costs a constant beside the types that it copies and
 /// the objects that it opens and leaves; a name is looked for among the members from the next one on.

@@ -85,6 +85,15 @@ pub(crate) fn fills(designating: bool, text: &CType, places: &Places) -> bool
     }
 }
 
+fn outermost_length(text: &CType, round: &Places) -> u64
+    ensures { result ≡ spec.outermost_length text.now (Stacks.top round.now) }
+{
+    match round.top() {
+        Some(_) => 0,
+        None => length_of(text),
+    }
+}
+
 /// A string literal of a type, which is `pointer` after its conversion, stands in place of the innermost place's array; answers how
 /// many elements it tells.
 pub(crate) fn fill(text: &CType, pointer: &CType, places: &mut Places) -> Result<u64, AllocError>
@@ -93,10 +102,7 @@ pub(crate) fn fill(text: &CType, pointer: &CType, places: &mut Places) -> Result
 {
     match places.pop() {
         Some(p) => {
-            let length = match places.top() {
-                Some(_) => 0,
-                None => length_of(text),
-            };
+            let length = outermost_length(text, places);
             places.push(OpenPlace {
                 ty: pointer.share()?,
                 next: 1,
