@@ -3,14 +3,17 @@ ghost use Rattle.std.specs.Prelude.{◌≡◌, ◌≢◌, Ok, Err};
 ghost use Rattle.expr_rules.specs.Binary as spec;
 ghost use Rattle.type_rel.specs.declared.checks.CheckError.TheVariants.{NoMemory};
 
-use crate::constants;
 use crate::answers::refuse_types;
+use crate::constants;
 use crate::kinds::{is_integer, is_pointer_to_complete, is_scalar};
 use crate::operands::{promoted_type, usual_type};
 use c_literals::Op;
 use std::alloc::Global;
 use type_data::{Basic, CType, Constancy, Judged, Node, Tags};
-use type_rel::{CheckError, compatible, converted, is_arithmetic, is_complete, is_null_pointer, is_object, is_void_beside, value};
+use type_rel::{
+    CheckError, compatible, converted, is_arithmetic, is_complete, is_null_pointer, is_object,
+    is_void_beside, value,
+};
 
 pub(crate) fn refused(
     alloc: Global,

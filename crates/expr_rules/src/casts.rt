@@ -9,7 +9,10 @@ use crate::constants::{address_if, arith_if, brought};
 use crate::kinds::{is_floating, is_pointer, is_scalar, is_void};
 use std::alloc::Global;
 use type_data::{CType, Constancy, IntTy, Judged, Node, Qual};
-use type_rel::{CheckError, UNQUALIFIED, after_reading, converted, integer_type, is_arith, is_arithmetic, is_told, is_zero, value};
+use type_rel::{
+    CheckError, UNQUALIFIED, after_reading, converted, integer_type, is_arith, is_arithmetic,
+    is_told, is_zero, value,
+};
 
 fn is_castable(to: &CType, from: &CType) -> bool
     ensures { result ≡ spec.is_castable to.now from.now }

@@ -11,7 +11,9 @@ use crate::kinds::{is_array, is_pointer_to_complete};
 use c_literals::Op;
 use std::alloc::{AllocError, Global};
 use type_data::{CType, Constancy, Judged, Member, Node, Place, TagId, Tags};
-use type_rel::{CheckError, converted, deeper, is_arithmetic, is_complete, is_inside, most_tags, value};
+use type_rel::{
+    CheckError, converted, deeper, is_arithmetic, is_complete, is_inside, most_tags, value,
+};
 
 /// What a walk for a const member is about: the tags, those that it is inside of, and how deep it may still go.
 #[derive(Clone, Copy)]

@@ -4,8 +4,8 @@ ghost use Rattle.type_rel.specs.Sizes.{size_align};
 ghost use Rattle.expr_rules.specs.Unary as spec;
 ghost use Rattle.type_rel.specs.declared.checks.CheckError.TheVariants.{NoMemory};
 
-use crate::constants;
 use crate::answers::refuse_type;
+use crate::constants;
 use crate::constants::address_if;
 use crate::kinds::{is_integer, is_pointer, is_scalar};
 use crate::operands::promoted_type;
