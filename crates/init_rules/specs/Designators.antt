@@ -15,7 +15,7 @@ use Rattle.init_rules.specs.declared.spots.Standing.TheVariants as standing_is
 use Rattle.init_rules.specs.Accepted.{broken, too_many}
 use Rattle.init_rules.specs.Parts.{Part, has_parts, part_at}
 use Rattle.init_rules.specs.Paths.{Path, path}
-use Rattle.init_rules.specs.Places.{listed, next_is, overfilled, place, taken, unchecked}
+use Rattle.init_rules.specs.Places.{listed, next_is, overfilled, passed, place, taken, unchecked}
 use Rattle.init_rules.specs.Stacks.{top}
 
 -- p18: what was designated becomes an open place, of which the next designator speaks
@@ -59,15 +59,6 @@ missed_next p = if has_parts p.ty then p.next else 1
 abbrev pub missed : List OpenPlace → List OpenPlace
 missed [] = []
 missed (p ∷ ps) = unchecked ∷ record p { next = missed_next p } ∷ ps
-
--- more elements than an array has
-unfoldable pub beyond : ℕ
-beyond = 18446744073709551616
-
--- one whose value isn't told
-abbrev pub lost : List OpenPlace → List OpenPlace
-lost [] = []
-lost (p ∷ ps) = unchecked ∷ record p { next = beyond } ∷ ps
 
 -- p6: an array has the element; one of unknown size has every one, but for a flexible array member
 abbrev pub has_element : Bool → ℕ → Extent → Bool
@@ -146,7 +137,7 @@ value_fault at within p (Faulty rule) = broken at rule
 
 abbrev pub value_places : Bool → List OpenPlace → Value → List OpenPlace
 value_places within ps (Known z) = element_or_missed ps (element_of within (top ps) z)
-value_places within ps Unknown = lost ps
+value_places within ps Unknown = passed ps
 value_places within ps (Faulty rule) = missed ps
 
 abbrev pub index_fault : ℕ → Bool → Value → List OpenPlace → Option Fault

@@ -5,7 +5,7 @@ use Rattle.type_data.specs.declared.qualifiers.Extent.TheVariants as extent
 use Rattle.type_data.specs.Types.{Ty, Array_of}
 use Rattle.init_rules.specs.declared.state.InitState.{InitState}
 use Rattle.init_rules.specs.declared.state.OpenPlace.{OpenPlace}
-use Rattle.init_rules.specs.Designators.{beyond}
+use Rattle.init_rules.specs.Places.{beyond}
 
 abbrev pub lesser : ℕ → ℕ → ℕ
 lesser m n = if nat_le m n then m else n

@@ -94,6 +94,18 @@ was_told (Some p) = p.overfull
 abbrev pub is_told : List OpenPlace → Bool
 is_told ps = was_told (top (listed ps))
 
+-- more elements than an array has
+unfoldable pub beyond : ℕ
+beyond = 18446744073709551616
+
+-- how many parts of its object a list is for isn't told, and nothing is checked up to the next designation
+abbrev pub untold : List OpenPlace → List OpenPlace
+untold [] = []
+untold (p ∷ ps) = unchecked ∷ record p { next = beyond } ∷ ps
+
+abbrev pub passed : List OpenPlace → List OpenPlace
+passed ps = untold (listed ps)
+
 -- it is told, and nothing is checked up to the next designation
 abbrev pub tell : List OpenPlace → List OpenPlace
 tell [] = []

@@ -19,7 +19,7 @@ use Rattle.init_rules.specs.Descents.{Way, descent}
 use Rattle.init_rules.specs.Designators.{field_fault, field_places, index_fault, index_places, object}
 use Rattle.init_rules.specs.Extents.{got, greater}
 use Rattle.init_rules.specs.Parts.{has_parts}
-use Rattle.init_rules.specs.Places.{closed, current, overfilled, place, spot, taken, unchecked}
+use Rattle.init_rules.specs.Places.{closed, current, overfilled, passed, place, spot, taken, unchecked}
 use Rattle.init_rules.specs.Stacks.{bottom, top}
 use Rattle.init_rules.specs.Strings.{filled, filled_length, fills, length_of, takes_text}
 
@@ -37,7 +37,7 @@ part_places tags text j c t ps = if is_bad j.ty then unknown_in t ps else (way t
 -- an expression: `c` is what it is after its conversion, and `text` says that it is a string literal
 abbrev pub places_at : Tagging → Bool → Judged → Judged → Spot → List OpenPlace → List OpenPlace
 places_at tags text j c spot_is.Whole ps = ps
-places_at tags text j c spot_is.Unchecked ps = ps
+places_at tags text j c spot_is.Unchecked ps = passed ps
 places_at tags text j c spot_is.Full ps = overfilled ps
 places_at tags text j c (spot_is.At n t) ps = part_places tags text j c t (taken n ps)
 
@@ -84,7 +84,7 @@ expressed_fault s tags text j c ps =
 -- an opening brace
 abbrev pub opened : Ty → Spot → List OpenPlace → List OpenPlace
 opened whole spot_is.Whole ps = place whole 0 true ∷ ps
-opened whole spot_is.Unchecked ps = place Bad_type 0 true ∷ ps
+opened whole spot_is.Unchecked ps = place Bad_type 0 true ∷ passed ps
 opened whole spot_is.Full ps = place Bad_type 0 true ∷ overfilled ps
 opened whole (spot_is.At n t) ps = place t 0 true ∷ taken n ps
 

@@ -8,7 +8,7 @@ ghost use Rattle.init_rules.specs.Stacks;
 use crate::accepted::{broken, too_many_if};
 use crate::parts::{has_parts, part_at};
 use crate::paths::{Path, path};
-use crate::places::{Places, next_is, overfill, place, take, to_list, unchecked};
+use crate::places::{Places, next_is, overfill, pass, place, take, to_list, unchecked};
 use crate::spots::{Spot, Standing};
 use crate::state::OpenPlace;
 use std::alloc::{AllocError, Global};
@@ -105,31 +105,6 @@ fn miss(places: &mut Places) -> Result<(), AllocError>
             places.push(OpenPlace {
                 ty: p.ty,
                 next,
-                braced: p.braced,
-                overfull: p.overfull,
-            })?;
-            places.push(unchecked())
-        }
-        None => Ok(()),
-    }
-}
-
-/// More elements than an array has.
-#[tactic(auto, unfolding(crate::specs::Designators::beyond))]
-pub(crate) fn beyond() -> u128
-    ensures { result ≡ spec.beyond }
-{
-    18_446_744_073_709_551_616
-}
-
-fn lose(places: &mut Places) -> Result<(), AllocError>
-    ensures { OnOk result (places.new ≡ spec.lost places.old) }
-{
-    match places.pop() {
-        Some(p) => {
-            places.push(OpenPlace {
-                ty: p.ty,
-                next: beyond(),
                 braced: p.braced,
                 overfull: p.overfull,
             })?;
@@ -316,7 +291,7 @@ fn by_value(
     match value {
         Value::Known(number) => to_element(alloc, at, within, number, places),
         Value::Unknown => {
-            lose(places)?;
+            pass(places)?;
             Ok(None)
         }
         Value::Faulty(rule) => {

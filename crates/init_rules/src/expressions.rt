@@ -12,7 +12,7 @@ use crate::accepted::{Expression, Setting, by_text, refused, too_many_if};
 use crate::descents::descend;
 use crate::extents::end_step;
 use crate::parts::has_parts;
-use crate::places::{Places, overfill, place, spot, take, to_current, unchecked};
+use crate::places::{Places, overfill, pass, place, spot, take, to_current, unchecked};
 use crate::spots::Spot;
 use crate::state::InitState;
 use crate::strings::{fill, fills, length_of, takes_text};
@@ -71,7 +71,10 @@ fn at_spot(
 {
     match spot {
         Spot::Whole => refused(alloc, setting, whole, e),
-        Spot::Unchecked => Ok(None),
+        Spot::Unchecked => {
+            pass(places)?;
+            Ok(None)
+        }
         Spot::Full => overfilled(alloc, setting.at, places),
         Spot::At(number, ty) => {
             take(places, *number)?;
@@ -192,6 +195,7 @@ fn open_at(
             Ok(None)
         }
         Spot::Unchecked => {
+            pass(places)?;
             places.push(place(CType::of(Node::Bad), 0, true))?;
             Ok(None)
         }

@@ -4,8 +4,7 @@ ghost use Rattle.init_rules.specs.Extents as spec;
 ghost use Rattle.init_rules.specs.Stacks;
 ghost use Rattle.init_rules.specs.Steps;
 
-use crate::designators::beyond;
-use crate::places::Places;
+use crate::places::{Places, beyond};
 use crate::state::InitState;
 use std::alloc::{AllocError, Global};
 use type_data::{CType, Extent, Node};
@@ -53,7 +52,7 @@ pub(crate) fn end_step(state: &mut InitState, designating: bool, length: u128)
     state.designating = designating;
 }
 
-#[tactic(auto, unfolding(crate::specs::Designators::beyond, crate::specs::Extents::extent_of))]
+#[tactic(auto, unfolding(crate::specs::Places::beyond, crate::specs::Extents::extent_of))]
 fn extent_of(count: u128) -> Extent
     ensures { result ≡ spec.extent_of count }
 {
@@ -67,8 +66,8 @@ fn extent_of(count: u128) -> Extent
 }
 
 /// The type of the object that an initializer was read for, behind it (ISO C11 6.7.9p22): an array of unknown size has got its
-/// elements; where these are more than 2^64-1, or a designator of its list has a value that isn't told, its size isn't told. One
-/// that got none, since each of its initializers has a fault, is as it was.
+/// elements; where these are more than 2^64-1, a designator of its list has a value that isn't told, or initializers of its list were
+/// passed over unchecked, its size isn't told. One that got none is as it was.
 pub fn completed(alloc: Global, state: &InitState) -> Result<CType, AllocError>
     ensures { IfOk result (λ t. t ≡ spec.completed state.now) }
 {

@@ -166,6 +166,33 @@ pub(crate) fn spot(tags: &Tags, designating: bool, places: &Places) -> Result<Sp
     }
 }
 
+/// More elements than an array has.
+#[tactic(auto, unfolding(crate::specs::Places::beyond))]
+pub(crate) fn beyond() -> u128
+    ensures { result ≡ spec.beyond }
+{
+    18_446_744_073_709_551_616
+}
+
+/// Passes over what isn't checked: how many parts the list is for isn't told.
+pub(crate) fn pass(places: &mut Places) -> Result<(), AllocError>
+    ensures { OnOk result (places.new ≡ spec.passed places.old) }
+{
+    to_list(places);
+    match places.pop() {
+        Some(p) => {
+            places.push(OpenPlace {
+                ty: p.ty,
+                next: beyond(),
+                braced: p.braced,
+                overfull: p.overfull,
+            })?;
+            places.push(unchecked())
+        }
+        None => Ok(()),
+    }
+}
+
 /// Notes that it was told of a list that it has too many initializers, and answers whether it was told before.
 pub(crate) fn overfill(places: &mut Places) -> Result<bool, AllocError>
     ensures told { IfOk result (λ b. b ≡ spec.is_told places.old) }
