@@ -1,9 +1,9 @@
 -- What an object takes as its initializer, and the rule that another one breaks (ISO C11 6.7.9p4, p11, p13 to p15).
-use Rattle.std.specs.Prelude.{ℕ, Bool, not, ◌&&◌, ◌||◌, List, [], ◌∷◌, Option, Some, None, if◌then◌else◌}
+use Rattle.std.specs.Prelude.{ℕ, Bool, true, false, not, ◌&&◌, ◌||◌, List, [], ◌∷◌, Option, Some, None, if◌then◌else◌}
 use Rattle.type_data.specs.declared.judged.Constancy.{Constancy}
 use Rattle.type_data.specs.declared.judged.Fault.{Fault}
 use Rattle.type_data.specs.declared.judged.Judged.{Judged}
-use Rattle.type_data.specs.Types.{Ty}
+use Rattle.type_data.specs.Types.{Ty, Array_of, Bad_type}
 use Rattle.type_rel.specs.Assignable.{assignable}
 use Rattle.type_rel.specs.Constancies.{is_address, is_arith}
 use Rattle.type_rel.specs.Kinds.{is_bad}
@@ -51,7 +51,12 @@ abbrev pub by_constancy : ℕ → Bool → Bool → Ty → Judged → Judged →
 by_constancy at constant text t j c =
     if constant && not (is_constant c.constant) then broken at 427 else by_type at text t j c
 
--- nothing more is shown of what has a fault
+-- nothing more is shown of what has a fault, or of an array of it
+abbrev pub is_faulty : Ty → Bool
+is_faulty (Array_of t q n) = is_faulty t
+is_faulty Bad_type = true
+is_faulty t = false
+
 abbrev pub refused : ℕ → Bool → Bool → Ty → Judged → Judged → Option Fault
 refused at constant text t j c =
-    if is_bad t || is_bad j.ty then None else by_constancy at constant text t j c
+    if is_faulty t || is_bad j.ty then None else by_constancy at constant text t j c

@@ -21,7 +21,7 @@ use Rattle.init_rules.specs.Extents.{got, greater}
 use Rattle.init_rules.specs.Parts.{has_parts}
 use Rattle.init_rules.specs.Places.{closed, current, overfilled, passed, place, spot, taken, unchecked}
 use Rattle.init_rules.specs.Stacks.{bottom, top}
-use Rattle.init_rules.specs.Strings.{filled, filled_length, fills, length_of, takes_text}
+use Rattle.init_rules.specs.Strings.{filled, filled_length, fills, length_of, may_take_text}
 
 -- An expression with a fault takes a scalar; of what has parts it isn't known how many it takes.
 abbrev pub unknown_in : Ty → List OpenPlace → List OpenPlace
@@ -51,9 +51,9 @@ fault_at at constant whole tags text j c spot_is.Unchecked ps = None
 fault_at at constant whole tags text j c spot_is.Full ps = too_many at ps
 fault_at at constant whole tags text j c (spot_is.At n t) ps = part_fault at constant tags text j c t (taken n ps)
 
--- p14, p22: a string for an array as a whole tells the number of its elements
+-- p14, p22: a string for an array as a whole tells the number of its elements, also where their type has a fault
 abbrev pub text_length : Bool → Ty → Ty → ℕ
-text_length text u t = if text && takes_text t u then length_of u else 0
+text_length text u t = if text && may_take_text t u then length_of u else 0
 
 abbrev pub whole_length : Ty → Bool → Judged → Spot → ℕ
 whole_length whole text j spot_is.Whole = text_length text j.ty whole

@@ -3,15 +3,15 @@ use Rattle.std.specs.Prelude.{ℕ, Bool, true, false, not, ◌&&◌, ◌||◌, �
 use Rattle.type_data.specs.declared.basics.Basic.TheVariants as basic
 use Rattle.type_data.specs.declared.qualifiers.Extent.TheVariants as extent
 use Rattle.type_data.specs.Same.{same_basic}
-use Rattle.type_data.specs.Types.{Ty, Basic_type, Array_of, Bad_type}
+use Rattle.type_data.specs.Types.{Ty, Basic_type, Array_of}
 use Rattle.type_rel.specs.Compatible.{compatible}
+use Rattle.type_rel.specs.Kinds.{is_bad}
 use Rattle.init_rules.specs.declared.state.OpenPlace.{OpenPlace}
 use Rattle.init_rules.specs.Stacks.{top}
 
--- 6.2.5p15: the character types; nothing is shown of a type with a fault
+-- 6.2.5p15: the character types
 abbrev pub is_character : Ty → Bool
 is_character (Basic_type b) = same_basic b basic.Char || same_basic b basic.SChar || same_basic b basic.UChar
-is_character Bad_type = true
 is_character t = false
 
 abbrev pub is_char : Ty → Bool
@@ -21,11 +21,16 @@ is_char t = false
 -- p14: elements of a character type hold the bytes of a string without a prefix or with `u8`; p15: those of a type that is compatible
 -- with wchar_t, char16_t or char32_t hold the units of a string with its prefix
 abbrev pub holds_units : Ty → Ty → Bool
-holds_units t u = if is_char u then is_character t else compatible t u
+holds_units t u = if is_char u then is_character t else not (is_bad t) && compatible t u
 
 abbrev pub takes_text : Ty → Ty → Bool
 takes_text (Array_of t q n) (Array_of u r m) = holds_units t u
 takes_text t u = false
+
+-- elements whose type has a fault may be such ones
+abbrev pub may_take_text : Ty → Ty → Bool
+may_take_text (Array_of t q n) (Array_of u r m) = is_bad t || holds_units t u
+may_take_text t u = false
 
 -- the elements of a string literal, the zero at its end among them
 abbrev pub length_of : Ty → ℕ

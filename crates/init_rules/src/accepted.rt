@@ -8,7 +8,7 @@ use crate::places::Places;
 use crate::strings::{is_too_long, takes_text};
 use shared_list::Listing;
 use std::alloc::{AllocError, Global};
-use type_data::{CType, Constancy, Fault, Judged};
+use type_data::{CType, Constancy, Fault, Judged, Node};
 use type_rel::{assignable, is_address, is_arith, is_bad};
 
 /// An expression, what it is after its conversion, and whether it is a string literal.
@@ -134,6 +134,16 @@ fn by_constancy(
     by_type(alloc, setting.at, ty, e)
 }
 
+fn is_faulty(ty: &CType) -> bool
+    ensures { result ≡ spec.is_faulty ty.now }
+{
+    match ty.node() {
+        Node::Array(of, _, _) => is_faulty(of),
+        Node::Bad => true,
+        _ => false,
+    }
+}
+
 /// The fault of an expression that initializes an object of this type.
 pub(crate) fn refused(
     alloc: Global,
@@ -143,7 +153,7 @@ pub(crate) fn refused(
 ) -> Result<Option<Fault>, AllocError>
     ensures { IfOk result (λ f. f ≡ spec.refused setting.at setting.constant e.now.text ty.now e.now.judged.now e.now.converted.now) }
 {
-    if is_bad(ty) || is_bad(&e.judged.ty) {
+    if is_faulty(ty) || is_bad(&e.judged.ty) {
         return Ok(None);
     }
     by_constancy(alloc, setting, ty, e)

@@ -15,7 +15,7 @@ use crate::parts::has_parts;
 use crate::places::{Places, overfill, pass, place, spot, take, to_current, unchecked};
 use crate::spots::Spot;
 use crate::state::InitState;
-use crate::strings::{fill, fills, length_of, takes_text};
+use crate::strings::{fill, fills, length_of, may_take_text};
 use std::alloc::{AllocError, Global};
 use type_data::{CType, Fault, Judged, Node, Tags};
 use type_rel::{converted, is_bad};
@@ -86,7 +86,7 @@ fn at_spot(
 fn text_length(e: &Expression<'_>, ty: &CType) -> u64
     ensures { result ≡ spec.text_length e.now.text e.now.judged.now.ty ty.now }
 {
-    if e.text && takes_text(ty, &e.judged.ty) {
+    if e.text && may_take_text(ty, &e.judged.ty) {
         return length_of(&e.judged.ty);
     }
     0

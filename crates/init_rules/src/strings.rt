@@ -7,7 +7,7 @@ use crate::places::Places;
 use crate::state::OpenPlace;
 use std::alloc::AllocError;
 use type_data::{Basic, CType, Extent, Node};
-use type_rel::compatible;
+use type_rel::{compatible, is_bad};
 
 fn is_character(ty: &CType) -> bool
     ensures { result ≡ spec.is_character ty.now }
@@ -16,7 +16,6 @@ fn is_character(ty: &CType) -> bool
         Node::Basic(basic) => {
             *basic == Basic::Char || *basic == Basic::SChar || *basic == Basic::UChar
         }
-        Node::Bad => true,
         _ => false,
     }
 }
@@ -36,7 +35,7 @@ fn holds_units(ty: &CType, unit: &CType) -> bool
     if is_char(unit) {
         return is_character(ty);
     }
-    compatible(ty, unit)
+    !is_bad(ty) && compatible(ty, unit)
 }
 
 /// An array that a string literal of this type may initialize.
@@ -45,6 +44,16 @@ pub(crate) fn takes_text(ty: &CType, text: &CType) -> bool
 {
     match (ty.node(), text.node()) {
         (Node::Array(of, _, _), Node::Array(unit, _, _)) => holds_units(of, unit),
+        _ => false,
+    }
+}
+
+/// An array that it may initialize, for all that is known.
+pub(crate) fn may_take_text(ty: &CType, text: &CType) -> bool
+    ensures { result ≡ spec.may_take_text ty.now text.now }
+{
+    match (ty.node(), text.node()) {
+        (Node::Array(of, _, _), Node::Array(unit, _, _)) => is_bad(of) || holds_units(of, unit),
         _ => false,
     }
 }
