@@ -1,11 +1,12 @@
 -- One step of an initializer (ISO C11 6.7.9): where it leads, and the rule that is broken.
-use Rattle.std.specs.Prelude.{ℕ, Bool, true, false, ◌&&◌, List, [], ◌∷◌, Option, Some, None, Result, Ok, Err, if◌then◌else◌}
+use Rattle.std.specs.Prelude.{ℕ, Bool, true, false, ◌&&◌, ◌||◌, List, [], ◌∷◌, Option, Some, None, Result, Ok, Err, if◌then◌else◌}
 use Rattle.type_data.specs.declared.judged.Fault.{Fault}
 use Rattle.type_data.specs.declared.judged.Judged.{Judged}
 use Rattle.type_data.specs.declared.values.Value.{Value}
 use Rattle.type_data.specs.Types.{Ty, Bad_type}
 use Rattle.type_rel.specs.declared.checks.CheckError.{CheckError}
 use Rattle.type_rel.specs.declared.checks.CheckError.TheVariants.{Broken}
+use Rattle.type_rel.specs.Completeness.{is_complete, is_open_array}
 use Rattle.type_rel.specs.Kinds.{Tagging, is_bad}
 use Rattle.type_rel.specs.Conversion.{converted}
 use Rattle.init_rules.specs.declared.state.InitPiece.{InitPiece}
@@ -81,12 +82,16 @@ expressed_fault s tags text j c ps =
     if text && fills s.designating j.ty (top ps) then filled_fault s.at j.ty (top ps)
     else fault_at s.at s.constant s.ty tags text j c (spot tags s.designating (top ps)) ps
 
+-- of an object of incomplete type nothing is checked in its list, but for an array
+abbrev pub list_type : Tagging → Ty → Ty
+list_type tags t = if is_complete tags t || is_open_array t then t else Bad_type
+
 -- an opening brace
-abbrev pub opened : Ty → Spot → List OpenPlace → List OpenPlace
-opened whole spot_is.Whole ps = place whole 0 true ∷ ps
-opened whole spot_is.Unchecked ps = place Bad_type 0 true ∷ passed ps
-opened whole spot_is.Full ps = place Bad_type 0 true ∷ overfilled ps
-opened whole (spot_is.At n t) ps = place t 0 true ∷ taken n ps
+abbrev pub opened : Tagging → Ty → Spot → List OpenPlace → List OpenPlace
+opened tags whole spot_is.Whole ps = place (list_type tags whole) 0 true ∷ ps
+opened tags whole spot_is.Unchecked ps = place Bad_type 0 true ∷ passed ps
+opened tags whole spot_is.Full ps = place Bad_type 0 true ∷ overfilled ps
+opened tags whole (spot_is.At n t) ps = place (list_type tags t) 0 true ∷ taken n ps
 
 abbrev pub open_fault : ℕ → Spot → List OpenPlace → Option Fault
 open_fault at spot_is.Whole ps = None
@@ -98,7 +103,7 @@ abbrev pub here : InitState → Tagging → List OpenPlace
 here s tags = current tags s.designating s.open_places
 
 abbrev pub after_piece : InitState → Tagging → InitPiece → InitState
-after_piece s tags piece.Open = moved s (opened s.ty (spot tags s.designating (top (here s tags))) (here s tags)) false 0
+after_piece s tags piece.Open = moved s (opened tags s.ty (spot tags s.designating (top (here s tags))) (here s tags)) false 0
 after_piece s tags piece.Close = moved s (closed s.open_places) false 0
 after_piece s tags (piece.Field name) = moved s (field_places tags name (object tags s.designating s.open_places)) true 0
 after_piece s tags (piece.Index v) = moved s (index_places s.designating v (object tags s.designating s.open_places)) true 0

@@ -18,7 +18,7 @@ use crate::state::InitState;
 use crate::strings::{fill, fills, length_of, may_take_text};
 use std::alloc::{AllocError, Global};
 use type_data::{CType, Fault, Judged, Node, Tags};
-use type_rel::{converted, is_bad};
+use type_rel::{converted, is_bad, is_complete, is_open_array};
 
 fn unknown_in(places: &mut Places, ty: &CType) -> Result<(), AllocError>
     ensures { OnOk result (places.new ≡ spec.unknown_in ty.now places.old) }
@@ -178,19 +178,29 @@ pub(crate) fn express(
     expressed(alloc, state, tags, &e)
 }
 
+fn list_type(tags: &Tags, ty: &CType) -> Result<CType, AllocError>
+    ensures { IfOk result (λ t. t ≡ spec.list_type tags.now ty.now) }
+{
+    if is_complete(tags, ty) || is_open_array(ty) {
+        return ty.share();
+    }
+    Ok(CType::of(Node::Bad))
+}
+
 fn open_at(
     alloc: Global,
     at: u32,
+    tags: &Tags,
     whole: &CType,
     places: &mut Places,
     spot: Spot,
 ) -> Result<Option<Fault>, AllocError>
     ensures fault { IfOk result (λ f. f ≡ spec.open_fault at spot places.old) }
-    ensures places { OnOk result (places.new ≡ spec.opened whole.now spot places.old) }
+    ensures places { OnOk result (places.new ≡ spec.opened tags.now whole.now spot places.old) }
 {
     match spot {
         Spot::Whole => {
-            let ty = whole.share()?;
+            let ty = list_type(tags, whole)?;
             places.push(place(ty, 0, true))?;
             Ok(None)
         }
@@ -206,6 +216,7 @@ fn open_at(
         }
         Spot::At(number, ty) => {
             take(places, number)?;
+            let ty = list_type(tags, &ty)?;
             places.push(place(ty, 0, true))?;
             Ok(None)
         }
@@ -223,7 +234,14 @@ pub(crate) fn open(
 {
     to_current(tags, state.designating, &mut state.open_places);
     let spot = spot(tags, state.designating, &state.open_places)?;
-    let fault = open_at(alloc, state.at, &state.ty, &mut state.open_places, spot)?;
+    let fault = open_at(
+        alloc,
+        state.at,
+        tags,
+        &state.ty,
+        &mut state.open_places,
+        spot,
+    )?;
     end_step(state, false, 0);
     Ok(fault)
 }
