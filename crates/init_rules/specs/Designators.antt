@@ -130,15 +130,37 @@ abbrev pub element_or_missed : List OpenPlace → Option ℕ → List OpenPlace
 element_or_missed ps None = missed ps
 element_or_missed ps (Some n) = next_is n ps
 
+abbrev pub is_array : Ty → Bool
+is_array (Array_of t q n) = true
+is_array t = false
+
+abbrev pub is_in_array : Option OpenPlace → Bool
+is_in_array None = false
+is_in_array (Some p) = is_array p.ty
+
+-- one whose value isn't told: what is no array has no element either
+abbrev pub untold_fault : ℕ → Bool → Option Fault
+untold_fault at in_array = if in_array then None else broken at 426
+
+abbrev pub untold_places : List OpenPlace → Bool → List OpenPlace
+untold_places ps in_array = if in_array then passed ps else missed ps
+
+-- one whose value breaks this rule; 0 is none, of what is told elsewhere
+abbrev pub faulty_fault : ℕ → ℕ → Option Fault
+faulty_fault at rule = if rule == 0 then None else broken at rule
+
+abbrev pub faulty_places : List OpenPlace → ℕ → List OpenPlace
+faulty_places ps rule = if rule == 0 then passed ps else missed ps
+
 abbrev pub value_fault : ℕ → Bool → Option OpenPlace → Value → Option Fault
 value_fault at within p (Known z) = no_element at (element_of within p z)
-value_fault at within p Unknown = None
-value_fault at within p (Faulty rule) = broken at rule
+value_fault at within p Unknown = untold_fault at (is_in_array p)
+value_fault at within p (Faulty rule) = faulty_fault at rule
 
 abbrev pub value_places : Bool → List OpenPlace → Value → List OpenPlace
 value_places within ps (Known z) = element_or_missed ps (element_of within (top ps) z)
-value_places within ps Unknown = passed ps
-value_places within ps (Faulty rule) = missed ps
+value_places within ps Unknown = untold_places ps (is_in_array (top ps))
+value_places within ps (Faulty rule) = faulty_places ps rule
 
 abbrev pub index_fault : ℕ → Bool → Value → List OpenPlace → Option Fault
 index_fault at within v ps = fault_if at ps (standing (top ps)) (value_fault at within (top ps) v)

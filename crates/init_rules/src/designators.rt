@@ -278,6 +278,58 @@ fn to_element(
     }
 }
 
+fn is_array(ty: &CType) -> bool
+    ensures { result ≡ spec.is_array ty.now }
+{
+    match ty.node() {
+        Node::Array(_, _, _) => true,
+        _ => false,
+    }
+}
+
+fn is_in_array(places: &Places) -> bool
+    ensures { result ≡ spec.is_in_array (Stacks.top places.now) }
+{
+    match places.top() {
+        Some(p) => is_array(&p.ty),
+        None => false,
+    }
+}
+
+fn to_untold(
+    alloc: Global,
+    at: u32,
+    in_array: bool,
+    places: &mut Places,
+) -> Result<Option<Fault>, AllocError>
+    ensures fault { IfOk result (λ f. f ≡ spec.untold_fault at in_array) }
+    ensures places { OnOk result (places.new ≡ spec.untold_places places.old in_array) }
+{
+    if in_array {
+        pass(places)?;
+        return Ok(None);
+    }
+    miss(places)?;
+    Ok(broken(alloc, at, 426))
+}
+
+fn to_faulty(
+    alloc: Global,
+    at: u32,
+    rule: u16,
+    places: &mut Places,
+) -> Result<Option<Fault>, AllocError>
+    ensures fault { IfOk result (λ f. f ≡ spec.faulty_fault at rule) }
+    ensures places { OnOk result (places.new ≡ spec.faulty_places places.old rule) }
+{
+    if rule == 0 {
+        pass(places)?;
+        return Ok(None);
+    }
+    miss(places)?;
+    Ok(broken(alloc, at, rule))
+}
+
 fn by_value(
     alloc: Global,
     at: u32,
@@ -290,14 +342,8 @@ fn by_value(
 {
     match value {
         Value::Known(number) => to_element(alloc, at, within, number, places),
-        Value::Unknown => {
-            pass(places)?;
-            Ok(None)
-        }
-        Value::Faulty(rule) => {
-            miss(places)?;
-            Ok(broken(alloc, at, rule))
-        }
+        Value::Unknown => to_untold(alloc, at, is_in_array(places), places),
+        Value::Faulty(rule) => to_faulty(alloc, at, rule, places),
     }
 }
 

@@ -39,8 +39,8 @@ pub enum InitPiece {
     Close,
     /// `.` and a name.
     Field(Name),
-    /// The value of the integer constant expression in a designator's brackets; `Faulty` with 530 where it is none, and `Unknown`
-    /// where it has a fault.
+    /// The value of the integer constant expression in a designator's brackets: `Unknown` where it isn't told, `Faulty` with 530 where
+    /// it is no such expression, and with 0 where it has a fault, which was told.
     Index(Value),
     Item(Judged),
     /// A string literal that stands alone.

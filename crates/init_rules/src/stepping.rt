@@ -98,7 +98,7 @@ fn answer(fault: Option<Fault>) -> Result<(), CheckError>
 /// its first token.
 ///
 /// `Broken` has the rule that the piece breaks: 425 for the first initializer of a list that is too many, and for a string that is
-/// too long; that of a designator's value that is `Faulty`, else 426 for a designator that designates nothing; 427 where an
+/// too long; that of a designator's value that is `Faulty` (0 is none), else 426 for a designator that designates nothing; 427 where an
 /// initializer isn't constant and must be, else 428 where the object doesn't take it, with the type of the object and that of the
 /// expression after its conversion. After a fault the initializer goes on; behind too many, a designator that designates nothing
 /// that is known, and an expression of a faulty type for what has parts, nothing is checked up to the next designation of the list
