@@ -22,7 +22,7 @@ use Rattle.init_rules.specs.Extents.{got, greater}
 use Rattle.init_rules.specs.Parts.{has_parts}
 use Rattle.init_rules.specs.Places.{closed, current, overfilled, passed, place, spot, taken, unchecked}
 use Rattle.init_rules.specs.Stacks.{bottom, top}
-use Rattle.init_rules.specs.Strings.{filled, filled_length, fills, length_of, may_take_text}
+use Rattle.init_rules.specs.Strings.{filled, filled_length, fills, length_of, may_fill, may_take_text}
 
 -- An expression with a fault takes a scalar; of what has parts it isn't known how many it takes.
 abbrev pub unknown_in : Ty → List OpenPlace → List OpenPlace
@@ -67,6 +67,10 @@ abbrev pub filled_fault : ℕ → Ty → Option OpenPlace → Option Fault
 filled_fault at u None = None
 filled_fault at u (Some p) = by_text at p.ty u
 
+-- of a string in braces that may stand for the whole array or for its first element nothing is checked
+abbrev pub spot_of : Tagging → Bool → Bool → Judged → Option OpenPlace → Spot
+spot_of tags designating text j p = if text && may_fill designating j.ty p then spot_is.Unchecked else spot tags designating p
+
 -- the state behind a step
 abbrev pub moved : InitState → List OpenPlace → Bool → ℕ → InitState
 moved s ps designating n = record s { open_places = ps; designating = designating; reached = greater (greater s.reached n) (got (bottom ps)) }
@@ -75,12 +79,12 @@ moved s ps designating n = record s { open_places = ps; designating = designatin
 abbrev pub expressed : InitState → Tagging → Bool → Judged → Judged → List OpenPlace → InitState
 expressed s tags text j c ps =
     if text && fills s.designating j.ty (top ps) then moved s (filled c.ty ps) false (filled_length j.ty ps)
-    else moved s (places_at tags text j c (spot tags s.designating (top ps)) ps) false (whole_length s.ty text j (spot tags s.designating (top ps)))
+    else moved s (places_at tags text j c (spot_of tags s.designating text j (top ps)) ps) false (whole_length s.ty text j (spot_of tags s.designating text j (top ps)))
 
 abbrev pub expressed_fault : InitState → Tagging → Bool → Judged → Judged → List OpenPlace → Option Fault
 expressed_fault s tags text j c ps =
     if text && fills s.designating j.ty (top ps) then filled_fault s.at j.ty (top ps)
-    else fault_at s.at s.constant s.ty tags text j c (spot tags s.designating (top ps)) ps
+    else fault_at s.at s.constant s.ty tags text j c (spot_of tags s.designating text j (top ps)) ps
 
 -- of an object of incomplete type nothing is checked in its list, but for an array
 abbrev pub list_type : Tagging → Ty → Ty

@@ -50,6 +50,23 @@ abbrev pub fills : Bool → Ty → Option OpenPlace → Bool
 fills designating u None = false
 fills designating u (Some p) = not designating && fills_place u p
 
+-- the types that the elements of string literals have
+abbrev pub is_unit : Ty → Bool
+is_unit t = is_character t || compatible t (Basic_type basic.Int) || compatible t (Basic_type basic.UShort) || compatible t (Basic_type basic.UInt)
+
+-- the array's elements, or the string and not the elements, have a fault
+abbrev pub is_unsure : Ty → Ty → Bool
+is_unsure u (Array_of t q n) = is_bad t || (is_bad u && is_unit t)
+is_unsure u t = false
+
+-- it isn't known whether the string stands for the whole array
+abbrev pub may_fill_place : Ty → OpenPlace → Bool
+may_fill_place u p = p.braced && p.next == 0 && is_unsure u p.ty
+
+abbrev pub may_fill : Bool → Ty → Option OpenPlace → Bool
+may_fill designating u None = false
+may_fill designating u (Some p) = not designating && may_fill_place u p
+
 -- the string then stands there in place of the array, as the one initializer that a scalar takes
 abbrev pub filled : Ty → List OpenPlace → List OpenPlace
 filled t [] = []

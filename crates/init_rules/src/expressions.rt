@@ -15,7 +15,7 @@ use crate::parts::has_parts;
 use crate::places::{Places, overfill, pass, place, spot, take, to_current, unchecked};
 use crate::spots::Spot;
 use crate::state::InitState;
-use crate::strings::{fill, fills, length_of, may_take_text};
+use crate::strings::{fill, fills, length_of, may_fill, may_take_text};
 use std::alloc::{AllocError, Global};
 use type_data::{CType, Fault, Judged, Node, Tags};
 use type_rel::{converted, is_bad, is_complete, is_open_array};
@@ -126,6 +126,20 @@ fn in_braces(
     Ok(fault)
 }
 
+fn spot_of(
+    tags: &Tags,
+    designating: bool,
+    e: &Expression<'_>,
+    places: &Places,
+) -> Result<Spot, AllocError>
+    ensures { IfOk result (λ s. s ≡ spec.spot_of tags.now designating e.now.text e.now.judged.now (Stacks.top places.now)) }
+{
+    if e.text && may_fill(designating, &e.judged.ty, places) {
+        return Ok(Spot::Unchecked);
+    }
+    spot(tags, designating, places)
+}
+
 fn expressed(
     alloc: Global,
     state: &mut InitState,
@@ -142,7 +156,7 @@ fn expressed(
         at: state.at,
         constant: state.constant,
     };
-    let spot = spot(tags, state.designating, &state.open_places)?;
+    let spot = spot_of(tags, state.designating, e, &state.open_places)?;
     let fault = at_spot(
         alloc,
         setting,

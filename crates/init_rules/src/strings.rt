@@ -94,6 +94,40 @@ pub(crate) fn fills(designating: bool, text: &CType, places: &Places) -> bool
     }
 }
 
+fn is_unit(ty: &CType) -> bool
+    ensures { result ≡ spec.is_unit ty.now }
+{
+    is_character(ty)
+        || compatible(ty, &CType::of(Node::Basic(Basic::Int)))
+        || compatible(ty, &CType::of(Node::Basic(Basic::UShort)))
+        || compatible(ty, &CType::of(Node::Basic(Basic::UInt)))
+}
+
+fn is_unsure(text: &CType, ty: &CType) -> bool
+    ensures { result ≡ spec.is_unsure text.now ty.now }
+{
+    match ty.node() {
+        Node::Array(of, _, _) => is_bad(of) || (is_bad(text) && is_unit(of)),
+        _ => false,
+    }
+}
+
+fn may_fill_place(text: &CType, p: &OpenPlace) -> bool
+    ensures { result ≡ spec.may_fill_place text.now p.now }
+{
+    p.braced && p.next == 0 && is_unsure(text, &p.ty)
+}
+
+/// A string literal in braces of which it isn't known whether it is for the whole array.
+pub(crate) fn may_fill(designating: bool, text: &CType, places: &Places) -> bool
+    ensures { result ≡ spec.may_fill designating text.now (Stacks.top places.now) }
+{
+    match places.top() {
+        Some(p) => !designating && may_fill_place(text, p),
+        None => false,
+    }
+}
+
 fn outermost_length(text: &CType, round: &Places) -> u64
     ensures { result ≡ spec.outermost_length text.now (Stacks.top round.now) }
 {
