@@ -5,7 +5,7 @@ use Rattle.type_data.specs.declared.qualifiers.Extent.{Extent}
 use Rattle.type_data.specs.declared.qualifiers.Extent.TheVariants as extent
 use Rattle.type_data.specs.declared.values.Value.{Value}
 use Rattle.type_data.specs.declared.values.Value.TheVariants.{Known, Unknown, Faulty}
-use Rattle.type_data.specs.Types.{Ty, Tagged_type, Array_of}
+use Rattle.type_data.specs.Types.{Ty, Void_type, Tagged_type, Array_of}
 use Rattle.type_rel.specs.Kinds.{Tagging, is_bad}
 use Rattle.init_rules.specs.declared.state.OpenPlace.{OpenPlace}
 use Rattle.init_rules.specs.declared.spots.Spot.{Spot}
@@ -15,7 +15,7 @@ use Rattle.init_rules.specs.declared.spots.Standing.TheVariants as standing_is
 use Rattle.init_rules.specs.Accepted.{broken, too_many}
 use Rattle.init_rules.specs.Parts.{Part, has_parts, part_at}
 use Rattle.init_rules.specs.Paths.{Path, path}
-use Rattle.init_rules.specs.Places.{listed, next_is, overfilled, passed, place, taken, unchecked}
+use Rattle.init_rules.specs.Places.{is_flexible, listed, next_is, overfilled, passed, place, taken, unchecked}
 use Rattle.init_rules.specs.Stacks.{top}
 
 -- p18: what was designated becomes an open place, of which the next designator speaks
@@ -24,16 +24,23 @@ aim_at None = spot_is.Full
 aim_at (Some part) = spot_is.At part.number part.ty
 
 abbrev pub aim_in : Tagging → OpenPlace → Spot
-aim_in tags p = if is_bad p.ty then spot_is.Unchecked else aim_at (part_at tags true p.ty p.next)
+aim_in tags p =
+    if is_bad p.ty then spot_is.Unchecked
+    else if is_flexible p then spot_is.Full
+    else aim_at (part_at tags true p.ty p.next)
 
 abbrev pub aim : Tagging → Option OpenPlace → Spot
 aim tags None = spot_is.Whole
 aim tags (Some p) = aim_in tags p
 
+-- where no initializer is taken a designator is too many, as in the list of a scalar that has its initializer
+abbrev pub spent : OpenPlace
+spent = place Void_type 1 false
+
 abbrev pub entered : Spot → List OpenPlace → List OpenPlace
 entered spot_is.Whole ps = ps
 entered spot_is.Unchecked ps = ps
-entered spot_is.Full ps = unchecked ∷ ps
+entered spot_is.Full ps = spent ∷ ps
 entered (spot_is.At n t) ps = place t 0 false ∷ taken n ps
 
 abbrev pub deeper : Tagging → List OpenPlace → List OpenPlace
@@ -60,15 +67,15 @@ abbrev pub missed : List OpenPlace → List OpenPlace
 missed [] = []
 missed (p ∷ ps) = unchecked ∷ record p { next = missed_next p } ∷ ps
 
--- p6: an array has the element; one of unknown size has every one, but for a flexible array member
-abbrev pub has_element : Bool → ℕ → Extent → Bool
-has_element within n (extent.Size m) = nat_lt n m
-has_element within n extent.None = not within
-has_element within n extent.Unknown = true
+-- p6: an array has the element; one of unknown size has every one
+abbrev pub has_element : ℕ → Extent → Bool
+has_element n (extent.Size m) = nat_lt n m
+has_element n extent.None = true
+has_element n extent.Unknown = true
 
-abbrev pub element_at : Bool → Ty → ℤ → Option ℕ
-element_at within (Array_of t q m) (pos n) = if has_element within n m then Some n else None
-element_at within t z = None
+abbrev pub element_at : Ty → ℤ → Option ℕ
+element_at (Array_of t q m) (pos n) = if has_element n m then Some n else None
+element_at t z = None
 
 -- p11: a scalar takes one initializer
 abbrev pub is_spent : OpenPlace → Bool
@@ -118,9 +125,9 @@ abbrev pub field_places : Tagging → List ℕ → List OpenPlace → List OpenP
 field_places tags name ps = places_if ps (standing (top ps)) (path_or_missed tags ps (path_of tags name (top ps)))
 
 -- p6: an integer constant expression with a value
-abbrev pub element_of : Bool → Option OpenPlace → ℤ → Option ℕ
-element_of within None z = None
-element_of within (Some p) z = element_at within p.ty z
+abbrev pub element_of : Option OpenPlace → ℤ → Option ℕ
+element_of None z = None
+element_of (Some p) z = element_at p.ty z
 
 abbrev pub no_element : ℕ → Option ℕ → Option Fault
 no_element at None = broken at 426
@@ -152,18 +159,18 @@ faulty_fault at rule = if rule == 0 then None else broken at rule
 abbrev pub faulty_places : List OpenPlace → ℕ → List OpenPlace
 faulty_places ps rule = if rule == 0 then passed ps else missed ps
 
-abbrev pub value_fault : ℕ → Bool → Option OpenPlace → Value → Option Fault
-value_fault at within p (Known z) = no_element at (element_of within p z)
-value_fault at within p Unknown = untold_fault at (is_in_array p)
-value_fault at within p (Faulty rule) = faulty_fault at rule
+abbrev pub value_fault : ℕ → Option OpenPlace → Value → Option Fault
+value_fault at p (Known z) = no_element at (element_of p z)
+value_fault at p Unknown = untold_fault at (is_in_array p)
+value_fault at p (Faulty rule) = faulty_fault at rule
 
-abbrev pub value_places : Bool → List OpenPlace → Value → List OpenPlace
-value_places within ps (Known z) = element_or_missed ps (element_of within (top ps) z)
-value_places within ps Unknown = untold_places ps (is_in_array (top ps))
-value_places within ps (Faulty rule) = faulty_places ps rule
+abbrev pub value_places : List OpenPlace → Value → List OpenPlace
+value_places ps (Known z) = element_or_missed ps (element_of (top ps) z)
+value_places ps Unknown = untold_places ps (is_in_array (top ps))
+value_places ps (Faulty rule) = faulty_places ps rule
 
-abbrev pub index_fault : ℕ → Bool → Value → List OpenPlace → Option Fault
-index_fault at within v ps = fault_if at ps (standing (top ps)) (value_fault at within (top ps) v)
+abbrev pub index_fault : ℕ → Value → List OpenPlace → Option Fault
+index_fault at v ps = fault_if at ps (standing (top ps)) (value_fault at (top ps) v)
 
-abbrev pub index_places : Bool → Value → List OpenPlace → List OpenPlace
-index_places within v ps = places_if ps (standing (top ps)) (value_places within ps v)
+abbrev pub index_places : Value → List OpenPlace → List OpenPlace
+index_places v ps = places_if ps (standing (top ps)) (value_places ps v)

@@ -78,8 +78,15 @@ abbrev pub spot_at : Option Part → Spot
 spot_at None = spot_is.Full
 spot_at (Some part) = if is_open_array part.ty then spot_is.Full else spot_is.At part.number part.ty
 
+-- nor do its elements: an array of no size without a brace was designated
+abbrev pub is_flexible : OpenPlace → Bool
+is_flexible p = not p.braced && is_open_array p.ty
+
 abbrev pub spot_in : Tagging → Bool → OpenPlace → Spot
-spot_in tags designating p = if is_lost designating p then spot_is.Unchecked else spot_at (part_at tags designating p.ty p.next)
+spot_in tags designating p =
+    if is_lost designating p then spot_is.Unchecked
+    else if is_flexible p then spot_is.Full
+    else spot_at (part_at tags designating p.ty p.next)
 
 -- what an initializer is for: where no place is open it is for the whole
 abbrev pub spot : Tagging → Bool → Option OpenPlace → Spot

@@ -110,7 +110,7 @@ abbrev pub after_piece : InitState → Tagging → InitPiece → InitState
 after_piece s tags piece.Open = moved s (opened tags s.ty (spot tags s.designating (top (here s tags))) (here s tags)) false 0
 after_piece s tags piece.Close = moved s (closed s.open_places) false 0
 after_piece s tags (piece.Field name) = moved s (field_places tags name (object tags s.designating s.open_places)) true 0
-after_piece s tags (piece.Index v) = moved s (index_places s.designating v (object tags s.designating s.open_places)) true 0
+after_piece s tags (piece.Index v) = moved s (index_places v (object tags s.designating s.open_places)) true 0
 after_piece s tags (piece.Item j) = expressed s tags false j (converted j) (here s tags)
 after_piece s tags (piece.Text j) = expressed s tags true j (converted j) (here s tags)
 
@@ -118,7 +118,7 @@ abbrev pub fault_of_piece : InitState → Tagging → InitPiece → Option Fault
 fault_of_piece s tags piece.Open = open_fault s.at (spot tags s.designating (top (here s tags))) (here s tags)
 fault_of_piece s tags piece.Close = None
 fault_of_piece s tags (piece.Field name) = field_fault s.at tags name (object tags s.designating s.open_places)
-fault_of_piece s tags (piece.Index v) = index_fault s.at s.designating v (object tags s.designating s.open_places)
+fault_of_piece s tags (piece.Index v) = index_fault s.at v (object tags s.designating s.open_places)
 fault_of_piece s tags (piece.Item j) = expressed_fault s tags false j (converted j) (here s tags)
 fault_of_piece s tags (piece.Text j) = expressed_fault s tags true j (converted j) (here s tags)
 

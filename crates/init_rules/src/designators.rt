@@ -8,7 +8,7 @@ ghost use Rattle.init_rules.specs.Stacks;
 use crate::accepted::{broken, too_many_if};
 use crate::parts::{has_parts, part_at};
 use crate::paths::{Path, path};
-use crate::places::{Places, next_is, overfill, pass, place, take, to_list, unchecked};
+use crate::places::{Places, is_flexible, next_is, overfill, pass, place, take, to_list, unchecked};
 use crate::spots::{Spot, Standing};
 use crate::state::OpenPlace;
 use std::alloc::{AllocError, Global};
@@ -20,6 +20,9 @@ fn aim_in(tags: &Tags, p: &OpenPlace) -> Result<Spot, AllocError>
 {
     if is_bad(&p.ty) {
         return Ok(Spot::Unchecked);
+    }
+    if is_flexible(p) {
+        return Ok(Spot::Full);
     }
     match part_at(tags, true, &p.ty, p.next) {
         None => Ok(Spot::Full),
@@ -39,13 +42,19 @@ fn aim(tags: &Tags, places: &Places) -> Result<Spot, AllocError>
     }
 }
 
+fn spent() -> OpenPlace
+    ensures { result ≡ spec.spent }
+{
+    place(CType::of(Node::Void), 1, false)
+}
+
 fn enter(places: &mut Places, spot: Spot) -> Result<(), AllocError>
     ensures { OnOk result (places.new ≡ spec.entered spot places.old) }
 {
     match spot {
         Spot::Whole => Ok(()),
         Spot::Unchecked => Ok(()),
-        Spot::Full => places.push(unchecked()),
+        Spot::Full => places.push(spent()),
         Spot::At(number, ty) => {
             take(places, number)?;
             places.push(place(ty, 0, false))
@@ -219,18 +228,18 @@ pub(crate) fn field(
     }
 }
 
-fn has_element(within: bool, number: u128, extent: Extent) -> bool
-    ensures { result ≡ spec.has_element within number extent }
+fn has_element(number: u128, extent: Extent) -> bool
+    ensures { result ≡ spec.has_element number extent }
 {
     match extent {
         Extent::Size(count) => number < count as u128,
-        Extent::None => !within,
+        Extent::None => true,
         Extent::Unknown => true,
     }
 }
 
-fn element_at(within: bool, ty: &CType, number: i128) -> Option<u128>
-    ensures { result ≡ spec.element_at within ty.now number }
+fn element_at(ty: &CType, number: i128) -> Option<u128>
+    ensures { result ≡ spec.element_at ty.now number }
 {
     match ty.node() {
         Node::Array(_, _, extent) => {
@@ -238,7 +247,7 @@ fn element_at(within: bool, ty: &CType, number: i128) -> Option<u128>
                 return None;
             }
             let number = number as u128;
-            if has_element(within, number, *extent) {
+            if has_element(number, *extent) {
                 return Some(number);
             }
             None
@@ -247,11 +256,11 @@ fn element_at(within: bool, ty: &CType, number: i128) -> Option<u128>
     }
 }
 
-fn element_of(within: bool, places: &Places, number: i128) -> Option<u128>
-    ensures { result ≡ spec.element_of within (Stacks.top places.now) number }
+fn element_of(places: &Places, number: i128) -> Option<u128>
+    ensures { result ≡ spec.element_of (Stacks.top places.now) number }
 {
     match places.top() {
-        Some(p) => element_at(within, &p.ty, number),
+        Some(p) => element_at(&p.ty, number),
         None => None,
     }
 }
@@ -259,14 +268,13 @@ fn element_of(within: bool, places: &Places, number: i128) -> Option<u128>
 fn to_element(
     alloc: Global,
     at: u32,
-    within: bool,
     number: i128,
     places: &mut Places,
 ) -> Result<Option<Fault>, AllocError>
-    ensures fault { IfOk result (λ f. f ≡ spec.no_element at (spec.element_of within (Stacks.top places.old) number)) }
-    ensures places { OnOk result (places.new ≡ spec.element_or_missed places.old (spec.element_of within (Stacks.top places.old) number)) }
+    ensures fault { IfOk result (λ f. f ≡ spec.no_element at (spec.element_of (Stacks.top places.old) number)) }
+    ensures places { OnOk result (places.new ≡ spec.element_or_missed places.old (spec.element_of (Stacks.top places.old) number)) }
 {
-    match element_of(within, places, number) {
+    match element_of(places, number) {
         Some(number) => {
             next_is(places, number)?;
             Ok(None)
@@ -333,15 +341,14 @@ fn to_faulty(
 fn by_value(
     alloc: Global,
     at: u32,
-    within: bool,
     value: Value,
     places: &mut Places,
 ) -> Result<Option<Fault>, AllocError>
-    ensures fault { IfOk result (λ f. f ≡ spec.value_fault at within (Stacks.top places.old) value) }
-    ensures places { OnOk result (places.new ≡ spec.value_places within places.old value) }
+    ensures fault { IfOk result (λ f. f ≡ spec.value_fault at (Stacks.top places.old) value) }
+    ensures places { OnOk result (places.new ≡ spec.value_places places.old value) }
 {
     match value {
-        Value::Known(number) => to_element(alloc, at, within, number, places),
+        Value::Known(number) => to_element(alloc, at, number, places),
         Value::Unknown => to_untold(alloc, at, is_in_array(places), places),
         Value::Faulty(rule) => to_faulty(alloc, at, rule, places),
     }
@@ -351,17 +358,16 @@ fn by_value(
 pub(crate) fn index(
     alloc: Global,
     at: u32,
-    within: bool,
     value: Value,
     places: &mut Places,
 ) -> Result<Option<Fault>, AllocError>
-    ensures fault { IfOk result (λ f. f ≡ spec.index_fault at within value places.old) }
-    ensures places { OnOk result (places.new ≡ spec.index_places within value places.old) }
+    ensures fault { IfOk result (λ f. f ≡ spec.index_fault at value places.old) }
+    ensures places { OnOk result (places.new ≡ spec.index_places value places.old) }
 {
     match standing(places) {
         Standing::Unlisted => Ok(broken(alloc, at, 426)),
         Standing::Unknown => Ok(None),
         Standing::Spent => too_many(alloc, at, places),
-        Standing::Able => by_value(alloc, at, within, value, places),
+        Standing::Able => by_value(alloc, at, value, places),
     }
 }

@@ -138,11 +138,21 @@ fn is_lost(designating: bool, p: &OpenPlace) -> bool
     is_bad(&p.ty) || (!designating && !p.braced && is_untold(&p.ty) && !(p.next == 0))
 }
 
+/// A flexible array member, of which a designator speaks.
+pub(crate) fn is_flexible(p: &OpenPlace) -> bool
+    ensures { result ≡ spec.is_flexible p.now }
+{
+    !p.braced && is_open_array(&p.ty)
+}
+
 fn spot_in(tags: &Tags, designating: bool, p: &OpenPlace) -> Result<Spot, AllocError>
     ensures { IfOk result (λ s. s ≡ spec.spot_in tags.now designating p.now) }
 {
     if is_lost(designating, p) {
         return Ok(Spot::Unchecked);
+    }
+    if is_flexible(p) {
+        return Ok(Spot::Full);
     }
     match part_at(tags, designating, &p.ty, p.next) {
         None => Ok(Spot::Full),

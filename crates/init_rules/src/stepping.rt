@@ -40,13 +40,7 @@ fn by_number(
     ensures moves { OnOk result (state.new ≡ spec.after_piece state.old tags.now (piece.Index value)) }
 {
     to_object(tags, state.designating, &mut state.open_places)?;
-    let fault = index(
-        alloc,
-        state.at,
-        state.designating,
-        value,
-        &mut state.open_places,
-    )?;
+    let fault = index(alloc, state.at, value, &mut state.open_places)?;
     end_step(state, true, 0);
     Ok(fault)
 }
