@@ -1,6 +1,6 @@
 // Types in postfix notation, a character a part: `b` _Bool, `c` char, `x` signed char, `y` unsigned char, `s` short, `w` unsigned short,
 // `i` int, `u` unsigned int, `l` long, `f` float, `d` double, `v` void, `E` an enumeration, `#` a type with a fault, another capital letter
-// the tag of that letter; then `*` a pointer, a digit an array of that size, `_` one of no size, `?` one of an untold size, `k` const
+// the tag of that letter, `q` a structure of which nothing is known; then `*` a pointer, a digit an array of that size, `_` one of no size, `?` one of an untold size, `k` const
 // for what the next pointer or array is of, and `z` a function without parameters.
 use crate::tags::tag;
 use std::alloc::{AllocError, Global};
