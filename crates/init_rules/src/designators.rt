@@ -8,7 +8,9 @@ ghost use Rattle.init_rules.specs.Stacks;
 use crate::accepted::{broken, too_many_if};
 use crate::parts::{has_parts, part_at};
 use crate::paths::{Path, path};
-use crate::places::{Places, is_flexible, next_is, overfill, pass, place, take, to_list, unchecked};
+use crate::places::{
+    Places, is_flexible, next_is, overfill, pass, place, take, to_list, unchecked,
+};
 use crate::spots::{Spot, Standing};
 use crate::state::OpenPlace;
 use std::alloc::{AllocError, Global};
