@@ -9,6 +9,7 @@ pub mod SubstitutionLemmas
 pub mod ReadingLemmas
 pub mod ParensLemmas
 pub mod RestLemmas
+pub mod SiteLemmas
 pub mod Examples
 pub mod SetLemmas
 pub mod NumberLemmas

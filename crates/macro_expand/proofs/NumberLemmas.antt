@@ -11,8 +11,7 @@ use Rattle.macro_expand.specs.declared.types.Progress.{Progress}
 use Rattle.macro_expand.specs.declared.arguments.Reading.{Reading}
 use Rattle.macro_expand.specs.declared.arguments.Called.{Called}
 use Rattle.macro_expand.specs.declared.arguments.Called.TheVariants.{Closed}
-use Rattle.macro_expand.specs.declared.arguments.Turn.{Turn}
-use Rattle.macro_expand.specs.declared.arguments.Turn.TheVariants.{Goes, Ends}
+use Rattle.macro_expand.specs.Reading.{Turn, Goes, Ends}
 use Rattle.macro_expand.specs.declared.operands.Operand.{Operand}
 use Rattle.macro_expand.specs.declared.building.Building.{Building}
 use Rattle.macro_expand.specs.Codes.{Names}

@@ -11,8 +11,7 @@ use Rattle.macro_table.specs.declared.definition.MacroDef.{MacroDef}
 use Rattle.macro_expand.specs.declared.arguments.Reading.{Reading}
 use Rattle.macro_expand.specs.declared.arguments.Called.{Called}
 use Rattle.macro_expand.specs.declared.arguments.Called.TheVariants.{Absent, Unclosed, Closed}
-use Rattle.macro_expand.specs.declared.arguments.Turn.{Turn}
-use Rattle.macro_expand.specs.declared.arguments.Turn.TheVariants.{Goes, Ends}
+use Rattle.macro_expand.specs.Reading.{Turn, Goes, Ends}
 use Rattle.macro_expand.specs.Tokens.{is_mark}
 use Rattle.macro_expand.specs.Arguments as call
 use Rattle.macro_expand.specs.Arguments.{balanced, divides}

@@ -1,16 +1,24 @@
 -- A call that is read token by token, with the parentheses that are open counted.
-use Rattle.std.specs.Prelude.{ℕ, ◌+◌, ◌-◌, ◌==◌, ◌≤◌, nat_lt, Bool, ◌&&◌, ◌||◌, not, List, [], ◌∷◌, ◌++◌}
-use Rattle.std.specs.Prelude.{length, if◌then◌else◌, codes}
+use Rattle.std.specs.Prelude.{ℕ, ◌+◌, ◌-◌, ◌==◌, nat_lt, Bool, ◌&&◌, ◌||◌, not, List, [], ◌∷◌, ◌++◌}
+use Rattle.std.specs.Prelude.{length, if◌then◌else◌, codes, Option, Some, None}
 use Rattle.tok_data.specs.declared.tokens.OutToken.{OutToken}
 use Rattle.macro_expand.specs.declared.types.Marked.{Marked}
 use Rattle.macro_table.specs.declared.definition.MacroDef.{MacroDef}
 use Rattle.macro_expand.specs.declared.arguments.Reading.{Reading}
 use Rattle.macro_expand.specs.declared.arguments.Called.{Called}
 use Rattle.macro_expand.specs.declared.arguments.Called.TheVariants.{Absent, Unclosed, Closed}
-use Rattle.macro_expand.specs.declared.arguments.Turn.{Turn}
-use Rattle.macro_expand.specs.declared.arguments.Turn.TheVariants.{Goes, Ends}
 use Rattle.macro_expand.specs.Tokens.{is_mark}
 use Rattle.macro_expand.specs.Arguments.{names_of}
+
+-- what comes of a token: the call goes on, or ends
+pub data Turn : Type 0 where
+  Goes : Reading → Turn
+  Ends : Called → Turn
+
+-- the same, where a call that ended is told beside what is known
+abbrev pub turned_to : Reading → Option Called → Turn
+turned_to r None = Goes r
+turned_to r (Some called) = Ends called
 
 abbrev pub taken : Marked → Reading → Reading
 taken t r = record r { current = r.current ++ t ∷ [] }
@@ -39,11 +47,6 @@ turn def at r t =
     else (if r.depth == 0 then Ends Absent
     else (if is_mark (codes ")") t.token then closed t r at
     else (if parts def r t.token then Goes (parted r) else Goes (taken t r))))
-
--- so many parentheses are open at most
-abbrev pub IsWithin : Turn → ℕ → Type 0
-IsWithin (Goes r) n = r.depth ≤ n
-IsWithin (Ends called) n = Unit {0}
 
 abbrev pub turned : (Reading → Called) → Turn → Called
 turned more (Goes r) = more r

@@ -19,7 +19,7 @@ use tok_data::{OutToken, TokId};
 
 // What comes of one part of a replacement list, and how many tokens of the list it has besides its first: it is at the
 // end of what is built, or an argument is to be expanded and put there with this white space.
-#[derive(Debug, Drop)]
+#[derive(Drop)]
 pub(crate) enum Next {
     Built(Building, usize),
     Wanted(Building, bool, MarkedList, usize),
@@ -27,7 +27,7 @@ pub(crate) enum Next {
 
 // What comes of a replacement list: all of it is built, or an argument is to be expanded and put at the end of what is
 // built with this white space; then so many tokens of what is left are read already.
-#[derive(Debug, Drop)]
+#[derive(Drop)]
 pub(crate) enum Advance<'a> {
     Done(Building),
     Paused(Building, bool, MarkedList, usize, &'a [OutToken]),
@@ -82,7 +82,7 @@ fn pastes(
     let Some((right, more)) = behind.split_first() else {
         let space = building.space_of(token.space_before);
         let copy = token.copy()?;
-        let one = MarkedList::new(alloc).with(Marked::plain(copy))?;
+        let one = MarkedList::one(alloc, Marked::plain(copy))?;
         let built = building.puts(space, one)?;
         return Ok(Part { built, more: 0 });
     };

@@ -1,6 +1,6 @@
 // The arguments of a function-like macro (ISO C11 6.10.3p4, p10 to p12).
 ghost use Rattle.std.specs.Prelude.{◌≡◌, [], ◌++◌, ◌∷◌, ◌≤◌, ◌<◌};
-ghost use Rattle.std.specs.Prelude.{◌+◌, length, IfOk, option_copied};
+ghost use Rattle.std.specs.Prelude.{◌+◌, length, IfOk, OnOk, option_copied};
 ghost use Rattle.macro_expand.specs.Arguments as spec;
 ghost use Rattle.macro_expand.specs.Looks.{seen};
 ghost use Rattle.macro_expand.specs.Reading as turns;
@@ -14,10 +14,11 @@ use macro_table::MacroDef;
 use shared_text::Name;
 use std::alloc::{AllocError, Global};
 use std::marker::Model;
+use std::mem;
 use tok_data::OutToken;
 
 // Lists of tokens, one an argument.
-#[derive(Debug, Drop)]
+#[derive(Drop)]
 pub(crate) struct ArgumentList {
     items: Vec<MarkedList>,
 }
@@ -46,18 +47,17 @@ impl ArgumentList {
         self.items.as_slice()
     }
 
-    pub(crate) fn with(self, argument: MarkedList) -> Result<ArgumentList, AllocError>
-        ensures { IfOk result (λ list. list ≡ self ++ argument ∷ []) }
+    pub(crate) fn push(&mut self, argument: MarkedList) -> Result<(), AllocError>
+        ensures { OnOk result (self.new ≡ self.old ++ argument ∷ []) }
     {
-        let mut items = self.items;
-        items.push(argument)?;
-        Ok(ArgumentList { items })
+        self.items.push(argument)?;
+        Ok(())
     }
 }
 
 // What is known of a call that is being read: how many parentheses are open, the arguments that are read, and the one
 // that is being read.
-#[derive(Debug, Drop)]
+#[derive(Drop)]
 pub(crate) struct Reading {
     depth: usize,
     done: ArgumentList,
@@ -65,7 +65,7 @@ pub(crate) struct Reading {
 }
 
 // What stands behind the name of a function-like macro.
-#[derive(Debug, Drop)]
+#[derive(Drop)]
 pub(crate) enum Called {
     // No opening parenthesis.
     Absent,
@@ -73,12 +73,6 @@ pub(crate) enum Called {
     Unclosed,
     // The arguments, the hide set of the closing parenthesis, and how many tokens all of it has.
     Closed(ArgumentList, HideSet, usize),
-}
-
-#[derive(Debug, Drop)]
-pub(crate) enum Turn {
-    Goes(Reading),
-    Ends(Called),
 }
 
 // How many parameters have a name.
@@ -91,37 +85,18 @@ pub(crate) fn name_count(def: &MacroDef) -> usize
     }
 }
 
-fn taken(reading: Reading, token: &Look<'_>) -> Result<Reading, AllocError>
-    ensures { IfOk result (λ r. r ≡ turns.taken (seen token.now) reading) }
+fn take_token(reading: &mut Reading, token: &Look<'_>) -> Result<(), AllocError>
+    ensures { OnOk result (reading.new ≡ turns.taken (seen token.now) reading.old) }
 {
-    let Reading {
-        depth,
-        done,
-        current,
-    } = reading;
     let copy = token.copy()?;
-    let current = current.with(copy)?;
-    Ok(Reading {
-        depth,
-        done,
-        current,
-    })
+    reading.current.push(copy)
 }
 
-fn parted(alloc: Global, reading: Reading) -> Result<Reading, AllocError>
-    ensures { IfOk result (λ r. r ≡ turns.parted reading) }
+fn part_arguments(alloc: Global, reading: &mut Reading) -> Result<(), AllocError>
+    ensures { OnOk result (reading.new ≡ turns.parted reading.old) }
 {
-    let Reading {
-        depth,
-        done,
-        current,
-    } = reading;
-    let done = done.with(current)?;
-    Ok(Reading {
-        depth,
-        done,
-        current: MarkedList::new(alloc),
-    })
+    let current = mem::replace(&mut reading.current, MarkedList::new(alloc));
+    reading.done.push(current)
 }
 
 #[tactic(auto, unfolding(crate::specs::Reading::parts))]
@@ -137,93 +112,73 @@ fn parts(def: &MacroDef, reading: &Reading, token: &OutToken) -> bool
     !def.variadic || reading.done.as_slice().len() < name_count(def)
 }
 
-fn opened(reading: Reading, token: &Look<'_>) -> Result<Reading, AllocError>
-    requires { reading.depth < 18446744073709551615 }
-    ensures value { IfOk result (λ r. r ≡ turns.opened (seen token.now) reading) }
-    ensures deep { IfOk result (λ r. r.depth ≤ reading.depth + 1) }
+fn open_paren(reading: &mut Reading, token: &Look<'_>) -> Result<(), AllocError>
+    requires { reading.old.depth < 18446744073709551615 }
+    ensures value { OnOk result (reading.new ≡ turns.opened (seen token.now) reading.old) }
+    ensures deep { OnOk result (reading.new.depth ≤ reading.old.depth + 1) }
 {
     if reading.depth == 0 {
-        let Reading {
-            depth: _,
-            done,
-            current,
-        } = reading;
-        return Ok(Reading {
-            depth: 1,
-            done,
-            current,
-        });
+        reading.depth = 1;
+        return Ok(());
     }
-    let taken = taken(reading, token)?;
-    let Reading {
-        depth,
-        done,
-        current,
-    } = taken;
-    Ok(Reading {
-        depth: depth + 1,
-        done,
-        current,
-    })
+    take_token(reading, token)?;
+    reading.depth += 1;
+    Ok(())
 }
 
-fn closed(reading: Reading, token: &Look<'_>, at: usize) -> Result<Turn, AllocError>
-    requires depth { 0 < reading.depth }
+fn close_paren(
+    alloc: Global,
+    reading: &mut Reading,
+    token: &Look<'_>,
+    at: usize,
+) -> Result<Option<Called>, AllocError>
+    requires depth { 0 < reading.old.depth }
     requires place { at < 18446744073709551615 }
-    ensures value { IfOk result (λ t. t ≡ turns.closed (seen token.now) reading at) }
-    ensures within { IfOk result (λ t. turns.IsWithin t reading.depth) }
+    ensures value { IfOk result (λ called. turns.turned_to reading.new called
+        ≡ turns.closed (seen token.now) reading.old at) }
+    ensures deep { OnOk result (reading.new.depth ≤ reading.old.depth) }
 {
     if reading.depth == 1 {
-        let Reading {
-            depth: _,
-            done,
-            current,
-        } = reading;
-        let done = done.with(current)?;
-        return Ok(Turn::Ends(Called::Closed(done, token.hides.copy(), at + 1)));
+        part_arguments(alloc, reading)?;
+        let done = mem::replace(&mut reading.done, ArgumentList::new(alloc));
+        return Ok(Some(Called::Closed(done, token.hides.copy(), at + 1)));
     }
-    let taken = taken(reading, token)?;
-    let Reading {
-        depth,
-        done,
-        current,
-    } = taken;
-    Ok(Turn::Goes(Reading {
-        depth: depth - 1,
-        done,
-        current,
-    }))
+    take_token(reading, token)?;
+    reading.depth -= 1;
+    Ok(None)
 }
 
+// One token more; the call, where it ends.
 #[tactic(auto, unfolding(crate::specs::Reading::turn))]
 fn take_turn(
     alloc: Global,
     def: &MacroDef,
     at: usize,
-    reading: Reading,
+    reading: &mut Reading,
     token: &Look<'_>,
-) -> Result<Turn, AllocError>
-    requires depth { reading.depth ≤ at }
+) -> Result<Option<Called>, AllocError>
+    requires depth { reading.old.depth ≤ at }
     requires place { at < 18446744073709551615 }
-    ensures value { IfOk result (λ t. t ≡ turns.turn def.now at reading (seen token.now)) }
-    ensures within { IfOk result (λ t. turns.IsWithin t (at + 1)) }
+    ensures value { IfOk result (λ called. turns.turned_to reading.new called
+        ≡ turns.turn def.now at reading.old (seen token.now)) }
+    ensures deep { OnOk result (reading.new.depth ≤ at + 1) }
 {
     if is_mark("(", token.token) {
-        let opened = opened(reading, token)?;
-        return Ok(Turn::Goes(opened));
+        open_paren(reading, token)?;
+        return Ok(None);
     }
     if reading.depth == 0 {
-        return Ok(Turn::Ends(Called::Absent));
+        return Ok(Some(Called::Absent));
     }
     if is_mark(")", token.token) {
-        return closed(reading, token, at);
+        return close_paren(alloc, reading, token, at);
     }
-    if parts(def, &reading, token.token) {
-        let parted = parted(alloc, reading)?;
-        return Ok(Turn::Goes(parted));
+    if parts(def, reading, token.token) {
+        part_arguments(alloc, reading)?;
+        return Ok(None);
     }
-    let taken = taken(reading, token)?;
-    Ok(Turn::Goes(taken))
+    take_token(reading, token)?;
+    Ok(None)
 }
 
 fn at_end(reading: &Reading) -> Called
@@ -257,10 +212,9 @@ pub(crate) fn read_call(
         let Some(token) = rest.look(at) else {
             return Ok(at_end(&reading));
         };
-        let turn = take_turn(alloc, def, at, reading, &token)?;
-        match turn {
-            Turn::Goes(more) => reading = more,
-            Turn::Ends(called) => return Ok(called),
+        let ended = take_turn(alloc, def, at, &mut reading, &token)?;
+        if let Some(called) = ended {
+            return Ok(called);
         }
         at += 1;
     }
@@ -289,7 +243,8 @@ pub(crate) fn fitted(
     let names = name_count(def);
     if def.variadic {
         if count == names {
-            let all = args.with(MarkedList::new(alloc))?;
+            let mut all = args;
+            all.push(MarkedList::new(alloc))?;
             return Ok(Some(all));
         }
         if 0 < count && count - 1 == names {

@@ -15,7 +15,7 @@ use std::alloc::{AllocError, Global};
 use tok_data::{TokId, TokIds};
 
 // What was made of the front of a replacement list.
-#[derive(Debug, Drop)]
+#[derive(Drop)]
 pub(crate) struct Building {
     pub(crate) progress: Progress,
     pub(crate) tokens: MarkedList,
@@ -28,7 +28,7 @@ pub(crate) struct Building {
 }
 
 // The same with what one more part of the list made, and how many tokens that has besides its first.
-#[derive(Debug, Drop)]
+#[derive(Drop)]
 pub(crate) struct Part {
     pub(crate) built: Building,
     pub(crate) more: usize,
@@ -91,7 +91,8 @@ impl Building {
                 first: false,
             });
         };
-        let front = tokens.with(token.spaced(space))?;
+        let mut front = tokens;
+        front.push(token.spaced(space))?;
         let tokens = appended(front, Queue::from_items(items))?;
         Ok(Building {
             progress,
@@ -112,7 +113,8 @@ impl Building {
             empty,
             first,
         } = self;
-        let progress = progress.noted(toks)?;
+        let mut progress = progress;
+        progress.noted(toks)?;
         Ok(Building {
             progress,
             tokens,
@@ -198,7 +200,8 @@ impl Building {
                 let some = behind.before(right)?;
                 let all = some.before(left)?;
                 let tokens = appended(front, all)?;
-                let progress = progress.faulty(alloc, 206, site, "")?;
+                let mut progress = progress;
+                progress.faulty(alloc, 206, site, "")?;
                 Ok(Building {
                     progress,
                     tokens,

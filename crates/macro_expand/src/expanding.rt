@@ -14,9 +14,11 @@ ghost use Rattle.macro_expand.specs.Keeping as keeping;
 ghost use Rattle.macro_expand.specs.Room.{within};
 
 use crate::arguments::ArgumentList;
-use crate::finding::{Found, Meaning, line_in, macro_found};
+use crate::finding::{Found, Meaning, macro_found};
+use crate::growing::Growing;
 use crate::hide::HideSet;
 use crate::keeping::{Held, Kept};
+use crate::lines::Lines;
 use crate::machine::expansion;
 use crate::operands::quoted_text;
 use crate::rest::Rest;
@@ -29,7 +31,7 @@ use std::alloc::{AllocError, Global};
 use tok_data::{MacroOccs, OutToken, OutTokens, PpFaults, PpKind, Spelt, TokId, TokIds};
 
 // What came of the first token of a list: it is kept, or its replacement stands in what is left.
-#[derive(Debug, Drop)]
+#[derive(Drop)]
 pub(crate) struct Step<'a> {
     pub(crate) progress: Progress,
     pub(crate) kept: Option<Marked>,
@@ -96,14 +98,15 @@ fn refused_step<'a>(
 ) -> Result<Step<'a>, AllocError>
     ensures { IfOk result (λ s. s ≡ steps.kept_step (made.refused token progress) token rest.entry) }
 {
-    let refused = progress.refused(alloc, &token)?;
-    Ok(kept(refused, token, rest))
+    let mut progress = progress;
+    progress.refused(alloc, &token)?;
+    Ok(kept(progress, token, rest))
 }
 
 // `__LINE__`.
 fn line_step<'a>(
     alloc: Global,
-    lines: &[(TokId, u32)],
+    lines: &Lines<'_>,
     progress: Progress,
     token: Marked,
     rest: Rest<'a>,
@@ -117,13 +120,14 @@ fn line_step<'a>(
         let step = refused_step(alloc, progress, token, rest)?;
         return Ok(step);
     }
-    let Some(line) = line_in(lines, &token.token.site) else {
-        let asking = progress.asking(&token)?;
-        return Ok(kept(asking, token, rest));
+    let mut progress = progress;
+    let Some(line) = lines.line(&token.token.site) else {
+        progress.asking(&token)?;
+        return Ok(kept(progress, token, rest));
     };
     let text = decimal_name(alloc, line)?;
-    let counted = progress.counted(&token, None)?;
-    let step = put(counted, made_token(token, PpKind::Number, text), rest)?;
+    progress.counted(&token, None)?;
+    let step = put(progress, made_token(token, PpKind::Number, text), rest)?;
     Ok(step)
 }
 
@@ -144,8 +148,9 @@ fn file_step<'a>(
         return Ok(step);
     }
     let text = quoted_text(alloc, token.token.site.file.as_str())?;
-    let counted = progress.counted(&token, None)?;
-    let step = put(counted, made_token(token, PpKind::Str, text), rest)?;
+    let mut progress = progress;
+    progress.counted(&token, None)?;
+    let step = put(progress, made_token(token, PpKind::Str, text), rest)?;
     Ok(step)
 }
 
@@ -185,7 +190,7 @@ fn macro_step<'a>(
 pub(crate) fn take_step<'a>(
     alloc: Global,
     sets: &mut Sets,
-    lines: &[(TokId, u32)],
+    lines: &Lines<'_>,
     meaning: Meaning<'a>,
     progress: Progress,
     token: Marked,
@@ -221,9 +226,9 @@ fn at_first(alloc: Global, budget: u32) -> Progress
     Progress {
         left: budget,
         stopped: false,
-        faults: PpFaults::from_vec(Vec::new(alloc)),
-        spelled: TokIds::from_vec(Vec::new(alloc)),
-        macros: MacroOccs::from_vec(Vec::new(alloc)),
+        faults: Growing::new(alloc),
+        spelled: Growing::new(alloc),
+        macros: Growing::new(alloc),
         asked: None,
     }
 }
@@ -242,16 +247,15 @@ fn told(alloc: Global, budget: u32, held: Held) -> Within
         asked,
     } = progress;
     let Kept { tokens, left_out } = kept;
-    let tokens = tokens.into_tokens();
     let used = budget - left;
     match asked {
         None => Within {
             expanded: Expanded {
-                tokens,
+                tokens: tokens.into_list(),
                 used,
-                faults,
-                spelled,
-                macros,
+                faults: faults.into_list(),
+                spelled: spelled.into_list(),
+                macros: macros.into_list(),
                 asked: None,
             },
             left_out,
@@ -285,11 +289,12 @@ pub fn expand_within(
     ensures { IfOk result (λ w. w ≡ within room (spec.expanded (map.get table.now) lines.now budget tokens.now)) }
 {
     let mut sets = Sets::new(alloc);
+    let found = Lines::of(alloc, lines)?;
     let held = expansion(
         alloc,
         &mut sets,
         table,
-        lines,
+        &found,
         room,
         at_first(alloc, budget),
         tokens,
@@ -305,8 +310,8 @@ pub fn expand_within(
 /// (`##` makes no token) leaves both operands, 207 (too many replacements) comes at most once and leaves everything
 /// behind it, 211 warns of an absent variable argument.
 ///
-/// It fails for want of memory alone. Its cost isn't linear in `tokens`: each replacement may bring more tokens, a call
-/// within arguments is read again at each depth, and each `__LINE__` goes through `lines`. An open call isn't read.
+/// It fails for want of memory alone. Its cost isn't linear in `tokens`: each replacement may bring more tokens, and a
+/// call within arguments is read again at each depth. An open call isn't read, and `lines` are read once.
 pub fn expand(
     alloc: Global,
     tokens: &[OutToken],

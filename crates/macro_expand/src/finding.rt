@@ -19,7 +19,6 @@ use crate::tokens::is_ident;
 use crate::types::{Marked, Progress};
 use macro_table::{MacroDef, MacroTable};
 use std::alloc::{AllocError, Global};
-use tok_data::TokId;
 
 // What a name means.
 #[derive(Clone, Copy, Drop)]
@@ -82,19 +81,9 @@ pub(crate) fn meaning_of<'a>(
     Ok(meaning)
 }
 
-// The line of a site.
-pub(crate) fn line_in(lines: &[(TokId, u32)], site: &TokId) -> Option<u32>
-    ensures { result ≡ spec.line_in lines.now site.now }
-{
-    lines
-        .iter()
-        .find(|e| e.0.at == site.at && e.0.file == site.file)
-        .map(|e| e.1)
-}
-
 // What comes of a macro's name: it stays, or is replaced, with what is noted then, by what arguments, with what hide
 // set, and with how many tokens behind it.
-#[derive(Debug, Drop)]
+#[derive(Drop)]
 pub(crate) enum Found {
     Stays(Progress),
     Replaced(Progress, ArgumentList, HideSet, usize),
@@ -103,8 +92,9 @@ pub(crate) enum Found {
 fn refused_found(alloc: Global, progress: Progress, token: &Marked) -> Result<Found, AllocError>
     ensures { IfOk result (λ f. f ≡ Stays (made.refused token.now progress)) }
 {
-    let refused = progress.refused(alloc, token)?;
-    Ok(Found::Stays(refused))
+    let mut progress = progress;
+    progress.refused(alloc, token)?;
+    Ok(Found::Stays(progress))
 }
 
 fn faulty_found(
@@ -115,13 +105,14 @@ fn faulty_found(
 ) -> Result<Found, AllocError>
     ensures { IfOk result (λ f. f ≡ Stays (made.faulty rule token.now.token.site token.now.token.spelling progress)) }
 {
-    let faulty = progress.faulty(
+    let mut progress = progress;
+    progress.faulty(
         alloc,
         rule,
         &token.token.site,
         token.token.spelling.as_str(),
     )?;
-    Ok(Found::Stays(faulty))
+    Ok(Found::Stays(progress))
 }
 
 fn object_found(
@@ -140,9 +131,10 @@ fn object_found(
         return refused_found(alloc, progress, token);
     }
     let tok = def.tok.copy()?;
-    let counted = progress.counted(token, Some(tok))?;
+    let mut progress = progress;
+    progress.counted(token, Some(tok))?;
     let names = sets.with(alloc, &token.hides, &token.token.spelling)?;
-    Ok(Found::Replaced(counted, ArgumentList::new(alloc), names, 0))
+    Ok(Found::Replaced(progress, ArgumentList::new(alloc), names, 0))
 }
 
 // The replacement of a call with as many arguments as parameters.
@@ -157,11 +149,12 @@ fn counted_call(
     ensures { IfOk result (λ p. p ≡ spec.counted_call progress token.now def.now lacks) }
 {
     let tok = def.tok.copy()?;
-    let counted = progress.counted(token, Some(tok))?;
+    let mut progress = progress;
+    progress.counted(token, Some(tok))?;
     if lacks {
-        return counted.faulty(alloc, 211, &token.token.site, token.token.spelling.as_str());
+        progress.faulty(alloc, 211, &token.token.site, token.token.spelling.as_str())?;
     }
-    Ok(counted)
+    Ok(progress)
 }
 
 fn fit_found(

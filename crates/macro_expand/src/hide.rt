@@ -5,7 +5,7 @@ ghost use Rattle.macro_expand.specs.Codes.{coded};
 use std::marker::Model;
 
 // The number of a hide set; the empty set has none.
-#[derive(Debug, Drop)]
+#[derive(Drop)]
 pub(crate) struct HideSet {
     number: Option<usize>,
 }

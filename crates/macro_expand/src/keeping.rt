@@ -1,66 +1,22 @@
 // The output tokens of an expansion, of which no more than so many are kept.
-ghost use Rattle.std.specs.Prelude.{◌≡◌, [], ◌∷◌, ◌++◌, length, OnOk};
+ghost use Rattle.std.specs.Prelude.{◌≡◌, OnOk};
 ghost use Rattle.macro_expand.specs.Keeping as spec;
 
+use crate::growing::Growing;
 use crate::queue::Queue;
 use crate::types::{Marked, MarkedList, Progress};
 use std::alloc::{AllocError, Global};
-use std::marker::Model;
-use tok_data::{OutToken, OutTokens, TokId};
-
-// Output tokens, to which more come.
-#[derive(Debug, Drop)]
-pub(crate) struct TokenList {
-    items: Vec<OutToken>,
-}
-
-impl Model for TokenList {
-    ghost use Rattle.std.specs.Prelude.{List};
-    ghost use Rattle.tok_data.specs.declared.tokens.OutToken.{OutToken};
-
-    ghost Value = { List OutToken };
-
-    ghost view = { λ l. l.items.items };
-}
-
-impl TokenList {
-    fn new(alloc: Global) -> TokenList
-        ensures { result ≡ [] }
-    {
-        TokenList {
-            items: Vec::new(alloc),
-        }
-    }
-
-    fn len(&self) -> usize
-        ensures { result ≡ length self.now }
-    {
-        self.items.len()
-    }
-
-    fn push(&mut self, token: OutToken) -> Result<(), AllocError>
-        ensures { OnOk result (self.new ≡ self.old ++ token ∷ []) }
-    {
-        self.items.push(token)?;
-        Ok(())
-    }
-
-    pub(crate) fn into_tokens(self) -> OutTokens
-        ensures { result ≡ self }
-    {
-        OutTokens::from_vec(self.items)
-    }
-}
+use tok_data::{OutToken, TokId};
 
 // The tokens that are kept, and the site of the first one that isn't.
-#[derive(Debug, Drop)]
+#[derive(Drop)]
 pub(crate) struct Kept {
-    pub(crate) tokens: TokenList,
+    pub(crate) tokens: Growing<OutToken>,
     pub(crate) left_out: Option<TokId>,
 }
 
 // What was done, and what is kept of the tokens that came of it.
-#[derive(Debug, Drop)]
+#[derive(Drop)]
 pub(crate) struct Held {
     pub(crate) progress: Progress,
     pub(crate) kept: Kept,
@@ -71,7 +27,7 @@ impl Kept {
         ensures { result ≡ spec.nothing_kept }
     {
         Kept {
-            tokens: TokenList::new(alloc),
+            tokens: Growing::new(alloc),
             left_out: None,
         }
     }

@@ -9,7 +9,7 @@ use std::alloc::AllocError;
 use tok_data::OutToken;
 
 // A token of a list, and the names that it is hidden from there.
-#[derive(Debug, Drop)]
+#[derive(Drop)]
 pub(crate) struct Look<'a> {
     pub(crate) token: &'a OutToken,
     pub(crate) hides: HideSet,

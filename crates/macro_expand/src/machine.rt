@@ -19,6 +19,7 @@ use crate::expanding::{Step, Taken, take_step};
 use crate::finding::{Meaning, meaning_of};
 use crate::hide::HideSet;
 use crate::keeping::{Held, Kept};
+use crate::lines::Lines;
 use crate::look::Look;
 use crate::rest::Rest;
 use crate::sets::Sets;
@@ -28,10 +29,10 @@ use crate::types::{Marked, MarkedList, Progress};
 use macro_table::{MacroDef, MacroTable};
 use std::alloc::{AllocError, Global};
 use std::collections::VecDeque;
-use tok_data::{OutToken, TokId};
+use tok_data::OutToken;
 
 // A list in its expansion: what was done so far, what is expanded and what is left.
-#[derive(Debug, Drop)]
+#[derive(Drop)]
 pub(crate) struct Walked<'a> {
     pub(crate) progress: Progress,
     pub(crate) done: MarkedList,
@@ -83,7 +84,7 @@ fn walk<'a>(
     alloc: Global,
     sets: &mut Sets,
     table: &'a MacroTable,
-    lines: &[(TokId, u32)],
+    lines: &Lines<'_>,
     walked: Walked<'a>,
 ) -> Result<Stop<'a>, AllocError>
     ensures grows { OnOk result (Grows sets.old sets.new) }
@@ -356,7 +357,7 @@ pub(crate) fn climb<'a>(
     alloc: Global,
     sets: &mut Sets,
     table: &'a MacroTable,
-    lines: &[(TokId, u32)],
+    lines: &Lines<'_>,
     machine: Machine<'a>,
 ) -> Result<Machine<'a>, AllocError>
     ensures grows { OnOk result (Grows sets.old sets.new) }
@@ -448,7 +449,7 @@ pub(crate) fn expansion<'a>(
     alloc: Global,
     sets: &mut Sets,
     table: &'a MacroTable,
-    lines: &[(TokId, u32)],
+    lines: &Lines<'_>,
     room: usize,
     progress: Progress,
     tokens: &'a [OutToken],

@@ -7,7 +7,7 @@ use shared_text::Name;
 use std::alloc::{AllocError, Global};
 
 // How a set is made of two.
-#[derive(Clone, Copy, Debug, PartialEq, Eq, Hash, Drop)]
+#[derive(Clone, Copy, PartialEq, Eq, Hash, Drop)]
 pub(crate) enum How {
     Added,
     United,

@@ -13,7 +13,7 @@ use tok_data::{OutToken, PpKind, Spelt, TokIds};
 
 // An operand: its tokens as they are written, the source tokens that it spells, the white space before it, and how many
 // tokens of the list it has besides its first.
-#[derive(Debug, Drop)]
+#[derive(Drop)]
 pub(crate) struct Operand {
     // It is a parameter.
     pub(crate) given: bool,
@@ -134,7 +134,7 @@ fn plain_operand(alloc: Global, token: &OutToken) -> Result<Operand, AllocError>
     ensures { IfOk result (λ o. o ≡ spec.plain_operand token.now) }
 {
     let copy = token.copy()?;
-    let tokens = MarkedList::new(alloc).with(Marked::plain(copy))?;
+    let tokens = MarkedList::one(alloc, Marked::plain(copy))?;
     Ok(Operand {
         given: false,
         tokens,
@@ -148,7 +148,7 @@ fn string_operand(alloc: Global, token: &OutToken, arg: &MarkedList) -> Result<O
     ensures { IfOk result (λ o. o ≡ spec.string_operand token.now arg.now) }
 {
     let string = string_of(alloc, token, arg.as_slice())?;
-    let tokens = MarkedList::new(alloc).with(string)?;
+    let tokens = MarkedList::one(alloc, string)?;
     let spelled = sources(alloc, arg.as_slice())?;
     Ok(Operand {
         given: false,

@@ -9,7 +9,7 @@ use tok_data::OutToken;
 
 // How many closing parentheses no opening one of the list takes, and how many these were behind each opening one, the
 // first of the list last.
-#[derive(Debug, Drop)]
+#[derive(Drop)]
 pub(crate) struct Parens {
     free: usize,
     behind: Vec<usize>,

@@ -22,7 +22,7 @@ use tok_data::OutToken;
 // What is left of a list: tokens that were put in front, and behind them tokens of which none was replaced, which are
 // copied where they are read. It is read from the front and written there, and tells whether a call that it begins
 // with is closed.
-#[derive(Debug, Drop)]
+#[derive(Drop)]
 pub(crate) struct Rest<'a> {
     front: VecDeque<Marked>,
     behind: &'a [OutToken],

@@ -17,7 +17,7 @@ use std::alloc::{AllocError, Global};
 use std::hash::{Hash, Hasher};
 use std::marker::Model;
 
-#[derive(Debug, Drop)]
+#[derive(Drop)]
 pub(crate) struct Names {
     items: Vec<Name>,
 }
@@ -119,7 +119,7 @@ impl Table {
 }
 
 // How a set is made of two, and the numbers of these.
-#[derive(Clone, Copy, Debug, PartialEq, Eq, Hash, Drop)]
+#[derive(Clone, Copy, PartialEq, Eq, Hash, Drop)]
 pub(crate) struct Join {
     how: How,
     left: Option<usize>,

@@ -1,9 +1,10 @@
 // Tokens with their hide sets, what was done so far, and what expansion gives.
-ghost use Rattle.std.specs.Prelude.{◌≡◌, [], ◌++◌, ◌∷◌, ◌<◌, IfOk};
+ghost use Rattle.std.specs.Prelude.{◌≡◌, [], ◌++◌, ◌∷◌, ◌<◌, IfOk, OnOk};
 ghost use Rattle.macro_expand.specs.Tokens as spec;
 ghost use Rattle.macro_expand.specs.Progress as made;
 ghost use Rattle.macro_expand.specs.Tokens.{last_of};
 
+use crate::growing::Growing;
 use crate::hide::HideSet;
 use shared_text::Name;
 use std::alloc::{AllocError, Global};
@@ -13,7 +14,7 @@ use tok_data::{
 };
 
 // A token with the names that it is hidden from.
-#[derive(Debug, Drop)]
+#[derive(Drop)]
 pub(crate) struct Marked {
     pub(crate) token: OutToken,
     pub(crate) hides: HideSet,
@@ -62,7 +63,7 @@ impl Marked {
     }
 }
 
-#[derive(Debug, Drop)]
+#[derive(Drop)]
 pub(crate) struct MarkedList {
     items: Vec<Marked>,
 }
@@ -103,12 +104,20 @@ impl MarkedList {
         self.items
     }
 
-    pub(crate) fn with(self, token: Marked) -> Result<MarkedList, AllocError>
-        ensures { IfOk result (λ list. list ≡ self ++ token ∷ []) }
+    // The list of one token.
+    pub(crate) fn one(alloc: Global, token: Marked) -> Result<MarkedList, AllocError>
+        ensures { IfOk result (λ list. list ≡ token ∷ []) }
     {
-        let mut items = self.items;
+        let mut items = Vec::with_capacity(alloc, 1)?;
         items.push(token)?;
         Ok(MarkedList { items })
+    }
+
+    pub(crate) fn push(&mut self, token: Marked) -> Result<(), AllocError>
+        ensures { OnOk result (self.new ≡ self.old ++ token ∷ []) }
+    {
+        self.items.push(token)?;
+        Ok(())
     }
 
     // The last token with its front.
@@ -135,14 +144,14 @@ impl MarkedList {
 }
 
 // What was done so far: how many replacements may still be made, and what was noted of those that were.
-#[derive(Debug, Drop)]
+#[derive(Drop)]
 pub(crate) struct Progress {
     pub(crate) left: u32,
     // Nothing more is replaced.
     pub(crate) stopped: bool,
-    pub(crate) faults: PpFaults,
-    pub(crate) spelled: TokIds,
-    pub(crate) macros: MacroOccs,
+    pub(crate) faults: Growing<PpFault>,
+    pub(crate) spelled: Growing<TokId>,
+    pub(crate) macros: Growing<MacroOcc>,
     pub(crate) asked: Option<TokId>,
 }
 
@@ -181,139 +190,59 @@ fn occurrence(token: &Marked, def: Option<TokId>) -> Result<MacroOcc, AllocError
 impl Progress {
     // A fault more.
     pub(crate) fn faulty(
-        self,
+        &mut self,
         alloc: Global,
         rule: u16,
         tok: &TokId,
         text: &str,
-    ) -> Result<Progress, AllocError>
-        ensures { IfOk result (λ p. p ≡ made.faulty rule tok.now text.now self) }
+    ) -> Result<(), AllocError>
+        ensures { OnOk result (self.new ≡ made.faulty rule tok.now text.now self.old) }
     {
-        let Progress {
-            left,
-            stopped,
-            faults,
-            spelled,
-            macros,
-            asked,
-        } = self;
         let tok = tok.copy()?;
         let text = Name::from_str(alloc, text)?;
-        let mut items = faults.into_vec();
-        items.push(PpFault { rule, tok, text })?;
-        let faults = PpFaults::from_vec(items);
-        Ok(Progress {
-            left,
-            stopped,
-            faults,
-            spelled,
-            macros,
-            asked,
-        })
+        self.faults.push(PpFault { rule, tok, text })
     }
 
     // Source tokens that were spelled.
-    pub(crate) fn noted(self, toks: TokIds) -> Result<Progress, AllocError>
-        ensures { IfOk result (λ p. p ≡ made.noted toks self) }
+    pub(crate) fn noted(&mut self, toks: TokIds) -> Result<(), AllocError>
+        ensures { OnOk result (self.new ≡ made.noted toks self.old) }
     {
-        let Progress {
-            left,
-            stopped,
-            faults,
-            spelled,
-            macros,
-            asked,
-        } = self;
-        let mut items = spelled.into_vec();
-        let mut more = toks.into_vec();
-        items.append(&mut more)?;
-        let spelled = TokIds::from_vec(items);
-        Ok(Progress {
-            left,
-            stopped,
-            faults,
-            spelled,
-            macros,
-            asked,
-        })
+        self.spelled.append(toks)
     }
 
     // A replacement more.
-    pub(crate) fn counted(self, token: &Marked, def: Option<TokId>) -> Result<Progress, AllocError>
-        requires { 0 < self.left }
-        ensures { IfOk result (λ p. p ≡ made.counted token.now def self) }
+    pub(crate) fn counted(&mut self, token: &Marked, def: Option<TokId>) -> Result<(), AllocError>
+        requires { 0 < self.old.left }
+        ensures { OnOk result (self.new ≡ made.counted token.now def self.old) }
     {
-        let Progress {
-            left,
-            stopped,
-            faults,
-            spelled,
-            macros,
-            asked,
-        } = self;
         let occurrence = occurrence(token, def)?;
-        let mut items = macros.into_vec();
-        items.push(occurrence)?;
-        let macros = MacroOccs::from_vec(items);
-        Ok(Progress {
-            left: left - 1,
-            stopped,
-            faults,
-            spelled,
-            macros,
-            asked,
-        })
+        self.macros.push(occurrence)?;
+        self.left -= 1;
+        Ok(())
     }
 
     // A line that isn't known.
-    pub(crate) fn asking(self, token: &Marked) -> Result<Progress, AllocError>
-        ensures { IfOk result (λ p. p ≡ made.asking token.now self) }
+    pub(crate) fn asking(&mut self, token: &Marked) -> Result<(), AllocError>
+        ensures { OnOk result (self.new ≡ made.asking token.now self.old) }
     {
         let site = token.token.site.copy()?;
-        let Progress {
-            left,
-            stopped: _,
-            faults,
-            spelled,
-            macros,
-            asked: _,
-        } = self;
-        Ok(Progress {
-            left,
-            stopped: true,
-            faults,
-            spelled,
-            macros,
-            asked: Some(site),
-        })
+        self.stopped = true;
+        self.asked = Some(site);
+        Ok(())
     }
 
     // Too many replacements.
-    pub(crate) fn refused(self, alloc: Global, token: &Marked) -> Result<Progress, AllocError>
-        ensures { IfOk result (λ p. p ≡ made.refused token.now self) }
+    pub(crate) fn refused(&mut self, alloc: Global, token: &Marked) -> Result<(), AllocError>
+        ensures { OnOk result (self.new ≡ made.refused token.now self.old) }
     {
-        let faulty = self.faulty(alloc, 207, &token.token.site, "")?;
-        let Progress {
-            left,
-            stopped: _,
-            faults,
-            spelled,
-            macros,
-            asked,
-        } = faulty;
-        Ok(Progress {
-            left,
-            stopped: true,
-            faults,
-            spelled,
-            macros,
-            asked,
-        })
+        self.faulty(alloc, 207, &token.token.site, "")?;
+        self.stopped = true;
+        Ok(())
     }
 }
 
 // What expansion of a list made of it.
-#[derive(Debug, Drop)]
+#[derive(Drop)]
 pub(crate) struct Outcome {
     pub(crate) progress: Progress,
     pub(crate) tokens: MarkedList,

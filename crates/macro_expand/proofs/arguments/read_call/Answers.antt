@@ -1,9 +1,9 @@
-use Rattle.std.proofs.Common.{rules, ◌∙◌, ◌+◌, ◌≡◌, List, [], drop, sym, ap, subst, arith}
+use Rattle.std.proofs.Common.{rules, ◌∙◌, ◌+◌, ◌≡◌, List, [], drop, sym, ap, arith}
 use Rattle.std.proofs.lemmas.Option.{slice_get_within}
 use Rattle.std.specs.Prelude.{None, option_map}
 use Rattle.macro_expand.specs.declared.types.Marked.{Marked}
 use Rattle.macro_expand.specs.Looks.{seen}
-use Rattle.macro_expand.specs.Reading.{IsWithin, reads, nothing_read}
+use Rattle.macro_expand.specs.Reading.{reads, nothing_read, turned_to}
 use Rattle.macro_expand.proofs.ListLemmas.{drop_at, drop_none}
 use Rattle.macro_expand.proofs.ReadingLemmas.{reads_on, ends_there, reading_is}
 use Rattle.macro_expand.proofs.arguments.read_call.Goals as goal
@@ -28,11 +28,13 @@ tokens-preserved c =
     let rest = c.args.rest.now in
     let at = sym c.look.ensures.value ∙ ap (option_map seen) c.in-Some.is in
     let next = drop_at rest c.tokens.at (seen c.in-Some.token) at in
+    let going : c.in_ok-ended.ended ≡ None = search rules in
     record {
-      goes = reads_on c.args.def.now c.tokens.at c.tokens.reading c.in-Goes.more (seen c.in-Some.token)
-          (drop (c.tokens.at + 1) rest) (drop c.tokens.at rest) next (sym c.in-Goes.is ∙ c.in_ok-turn.ensures.value)
+      goes = reads_on c.args.def.now c.tokens.at c.tokens.reading c.take_turn.new.reading (seen c.in-Some.token)
+          (drop (c.tokens.at + 1) rest) (drop c.tokens.at rest) next
+          (sym (ap (turned_to c.take_turn.new.reading) going) ∙ c.in_ok-ended.ensures.value)
           ∙ c.tokens.invariant.goes;
-      depth = subst (λ t. IsWithin t (c.tokens.at + 1)) c.in-Goes.is c.in_ok-turn.ensures.within;
+      depth = c.in_ok-ended.ensures.deep;
     }
 
 pub tokens-smaller : goal.tokens-smaller
@@ -50,11 +52,11 @@ returns-in_default c =
     (sym (drop_none rest c.tokens.at (sym c.look.ensures.value ∙ ap (option_map seen) none)))
     ∙ c.tokens.invariant.goes
 
-pub returns-in-Ends : goal.returns-in-Ends
-returns-in-Ends c =
+pub returns-in-Some-ended : goal.returns-in-Some-ended
+returns-in-Some-ended c =
     let rest = c.args.rest.now in
     let at = sym c.look.ensures.value ∙ ap (option_map seen) c.in-Some.is in
-    ends_there c.args.def.now c.tokens.at c.tokens.reading c.in-Ends.called (seen c.in-Some.token)
+    ends_there c.args.def.now c.tokens.at c.tokens.reading c.in-Some-ended.called (seen c.in-Some.token)
     (drop (c.tokens.at + 1) rest) (drop c.tokens.at rest) (drop_at rest c.tokens.at (seen c.in-Some.token) at)
-    (sym c.in_ok-turn.ensures.value ∙ c.in-Ends.is)
+    (sym c.in_ok-ended.ensures.value ∙ ap (turned_to c.take_turn.new.reading) c.in-Some-ended.is)
     ∙ c.tokens.invariant.goes

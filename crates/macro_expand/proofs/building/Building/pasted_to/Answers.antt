@@ -17,13 +17,13 @@ returns-in_ok-tokens-in-Some-pasted-clause-value c = λ f h.
     (c.in_ok-tokens-in-Some-pasted.ensures
     ∙ ap (λ (x : List Marked). c.in-Some.front ++ x) c.in_ok-all-in-Some-pasted.ensures)
 
-pub returns-in_ok-progress-in-None-clause-value : goal.returns-in_ok-progress-in-None-clause-value
-returns-in_ok-progress-in-None-clause-value c = λ f h.
+pub returns-in_ok-faulty-in-None-clause-value : goal.returns-in_ok-faulty-in-None-clause-value
+returns-in_ok-faulty-in-None-clause-value c = λ f h.
     pasted_two f c.args.site.now c.in-Some.front c.in-Some.left c.args.right c.args.behind
-    c.in_ok-tokens-in-None.tokens c.args.self c.in_ok-progress-in-None.progress c.in_ok-pasted.pasted
+    c.in_ok-tokens-in-None.tokens c.args.self c.faulty.new.self c.in_ok-pasted.pasted
     (sym c.last.ensures ∙ c.in-Some.is)
     (c.in_ok-pasted.ensures.value f h) c.in-None.is
     (c.in_ok-tokens-in-None.ensures
     ∙ ap (λ (x : List Marked). c.in-Some.front ++ x)
     (c.in_ok-all-in-None.ensures ∙ ap (λ (x : List Marked). c.in-Some.left ∷ x) c.in_ok-some-in-None.ensures))
-    c.in_ok-progress-in-None.ensures
+    c.in_ok-faulty-in-None.ensures

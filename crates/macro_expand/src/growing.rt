@@ -1,0 +1,56 @@
+// A list to whose end more comes.
+ghost use Rattle.std.specs.Prelude.{◌≡◌, [], ◌∷◌, ◌++◌, length, OnOk};
+
+use shared_list::Listing;
+use std::alloc::{AllocError, Global};
+use std::marker::Model;
+
+#[derive(Drop)]
+pub(crate) struct Growing<T> {
+    items: Vec<T>,
+}
+
+impl<T> Model for Growing<T> {
+    ghost use Rattle.std.specs.Prelude.{List};
+
+    ghost Value = { List T };
+
+    ghost view = { λ l. l.items.items };
+}
+
+impl<T: Drop> Growing<T> {
+    pub(crate) fn new(alloc: Global) -> Growing<T>
+        ensures { result ≡ [] }
+    {
+        Growing {
+            items: Vec::new(alloc),
+        }
+    }
+
+    pub(crate) fn len(&self) -> usize
+        ensures { result ≡ length self.now }
+    {
+        self.items.len()
+    }
+
+    pub(crate) fn push(&mut self, item: T) -> Result<(), AllocError>
+        ensures { OnOk result (self.new ≡ self.old ++ item ∷ []) }
+    {
+        self.items.push(item)?;
+        Ok(())
+    }
+
+    pub(crate) fn append(&mut self, more: Listing<T>) -> Result<(), AllocError>
+        ensures { OnOk result (self.new ≡ self.old ++ more) }
+    {
+        let mut more = more.into_vec();
+        self.items.append(&mut more)?;
+        Ok(())
+    }
+
+    pub(crate) fn into_list(self) -> Listing<T>
+        ensures { result ≡ self }
+    {
+        Listing::from_vec(self.items)
+    }
+}
