@@ -2,7 +2,7 @@
 use Rattle.std.proofs.Common.{◌≡◌, ℕ, ◌+◌, ◌==◌, Bool, true, false, ◌&&◌, not, List, [], ◌∷◌, ◌++◌, length, ap, sym}
 use Rattle.std.proofs.Common.{◌∙◌, if◌then◌else◌, Option}
 use Rattle.std.specs.Prelude.{Some, None, option_map}
-use Rattle.std.proofs.lemmas.List.{map-append}
+use Rattle.std.proofs.lemmas.List.{append-nil, map-append}
 use Rattle.tok_data.specs.declared.sources.TokId.{TokId}
 use Rattle.tok_data.specs.declared.tokens.OutToken.{OutToken}
 use Rattle.macro_table.specs.declared.definition.MacroDef.{MacroDef}
@@ -178,6 +178,22 @@ part_puts f none again def args site b t ts o made plainly o_is is =
     ∙ ap (λ (x : Operand). work.operand_part again b x (begins_paste ts)) (sym (operand_real f none def args t ts))
     ∙ ap (λ (e : Bool). if e then build.pastes def (real_args f args) site b t ts
     else build.puts_part again b ts (operand def (real_args f args) t ts)) (sym plainly)
+
+-- a token that stands for itself
+none_noted : (b : Building) → build.with_noted [] b ≡ b
+none_noted b =
+    ap (λ (ids : List TokId). (let all : Building = record b { progress = record b.progress { spelled = ids } } in all))
+    (append-nil b.progress.spelled)
+
+pub plain_put : (f : Names → Names) (again : Expander) (b made : Building) (t : OutToken) (space raw : Bool)
+    → made ≡ build.puts space (plain t ∷ []) b → space ≡ build.space_of b t.space_before
+    → (let p : Part = record { built = real_building f made; more = 0 } in p)
+    ≡ work.operand_part again (real_building f b) (real_operand f (build.plain_operand t)) raw
+plain_put f again b made t space raw is space_is =
+    ap (λ (x : Building). (let p : Part = record { built = x; more = 0 } in p))
+    (ap (real_building f) (is ∙ ap (λ (s : Bool). build.puts s (plain t ∷ []) b) space_is)
+    ∙ sym (puts_real f (build.space_of b t.space_before) (plain t ∷ []) b)
+    ∙ ap (build.puts (build.space_of b t.space_before) (reals f (plain t ∷ []))) (sym (none_noted (real_building f b))))
 
 pub pastes_right : (def : MacroDef) (args : List (List Marked)) (site : TokId) (b : Building) (t u : OutToken)
     (us behind : List OutToken) (made : Part) → behind ≡ u ∷ us

@@ -30,9 +30,10 @@ meant (read.Macro def) = Macro def.now
 abbrev pub sense : Definitions → Bool → Marked → Sense
 sense table stopped t = if stopped then Ordinary else meaning table t
 
-abbrev pub found_of : (Names → Names) → MacroDef → FoundMacro → Found
-found_of f def (macro_read.Stays p) = Stays p
-found_of f def (macro_read.Replaced p args names width) = Replaced p def (real_args f args) (f names) width
+-- what comes of a macro's name, with what is noted then
+abbrev pub found_of : (Names → Names) → MacroDef → Progress → FoundMacro → Found
+found_of f def p macro_read.Stays = Stays p
+found_of f def p (macro_read.Replaced args names width) = Replaced p def (real_args f args) (f names) width
 
 -- the replacement list with its arguments, as it is read
 abbrev pub built : Expander → Progress → Marked → MacroDef → List (List Marked) → Building
@@ -65,9 +66,10 @@ settled t ts found = step_by (λ p us. record { progress = p; tokens = us }) t t
 abbrev pub IsNearer : Step → ℕ → List Marked → Type 0
 IsNearer s left ts = MatchOption s.kept (s.progress.left < left) (λ t. (s.progress.left ≤ left) × (s.rest ≡ ts))
 
-abbrev pub IsSpent : FoundMacro → ℕ → Type 0
-IsSpent (macro_read.Stays p) left = p.left ≤ left
-IsSpent (macro_read.Replaced p args names width) left = p.left < left
+-- so many replacements are left, and so many were
+abbrev pub IsSpent : FoundMacro → ℕ → ℕ → Type 0
+IsSpent macro_read.Stays left before = left ≤ before
+IsSpent (macro_read.Replaced args names width) left before = left < before
 
 -- what comes after a step
 abbrev pub after_by : Expander → Progress → List Marked → Option Marked → Outcome

@@ -9,7 +9,7 @@ ghost use Rattle.macro_expand.specs.Substitution.{Expander};
 
 use crate::arguments::arg_of;
 use crate::building::{Building, Part};
-use crate::operands::{Operand, read_operand};
+use crate::operands::{Operand, is_itself, read_operand};
 use crate::sets::Sets;
 use crate::tokens::{begins_paste, is_paste};
 use crate::types::{Marked, MarkedList};
@@ -57,9 +57,10 @@ fn puts_operand(building: Building, operand: Operand, raw: bool) -> Result<Next,
     if is_wanted(given, raw) {
         return Ok(Next::Wanted(building, space, tokens, more));
     }
-    let noted = building.with_noted(spelled)?;
-    let built = noted.puts(space, tokens)?;
-    Ok(Next::Built(built, more))
+    let mut building = building;
+    building.notes(spelled)?;
+    building.puts(space, tokens)?;
+    Ok(Next::Built(building, more))
 }
 
 // `##` with its right operand.
@@ -79,17 +80,24 @@ fn pastes(
         ≡ build.pastes def.now (real_args f args.now) site.now (real_building f building) token.now behind.now) }
     ensures same { IfOk result (λ p. p.built.progress.left ≡ building.progress.left) }
 {
+    let mut building = building;
     let Some((right, more)) = behind.split_first() else {
         let space = building.space_of(token.space_before);
         let copy = token.copy()?;
         let one = MarkedList::one(alloc, Marked::plain(copy))?;
-        let built = building.puts(space, one)?;
-        return Ok(Part { built, more: 0 });
+        building.puts(space, one)?;
+        return Ok(Part {
+            built: building,
+            more: 0,
+        });
     };
     let operand = read_operand(alloc, def, args, right, more)?;
     let more = operand.more + 1;
-    let built = building.joins_operand(alloc, sets, site, operand)?;
-    Ok(Part { built, more })
+    building.joins_operand(alloc, sets, site, operand)?;
+    Ok(Part {
+        built: building,
+        more,
+    })
 }
 
 // What stands at the front of a replacement list.
@@ -114,6 +122,13 @@ fn next_part(
         let part = pastes(alloc, sets, def, args, site, building, token, behind)?;
         let Part { built, more } = part;
         return Ok(Next::Built(built, more));
+    }
+    if is_itself(def, args, token, behind) {
+        let mut built = building;
+        let space = built.space_of(token.space_before);
+        let copy = token.copy()?;
+        built.puts_token(space, Marked::plain(copy))?;
+        return Ok(Next::Built(built, 0));
     }
     let operand = read_operand(alloc, def, args, token, behind)?;
     let next = puts_operand(building, operand, begins_paste(behind))?;

@@ -72,7 +72,11 @@ pub(crate) enum Called {
     // No closing parenthesis.
     Unclosed,
     // The arguments, the hide set of the closing parenthesis, and how many tokens all of it has.
-    Closed(ArgumentList, HideSet, usize),
+    Closed {
+        args: ArgumentList,
+        names: HideSet,
+        width: usize,
+    },
 }
 
 // How many parameters have a name.
@@ -141,7 +145,11 @@ fn close_paren(
     if reading.depth == 1 {
         part_arguments(alloc, reading)?;
         let done = mem::replace(&mut reading.done, ArgumentList::new(alloc));
-        return Ok(Some(Called::Closed(done, token.hides.copy(), at + 1)));
+        return Ok(Some(Called::Closed {
+            args: done,
+            names: token.hides.copy(),
+            width: at + 1,
+        }));
     }
     take_token(reading, token)?;
     reading.depth -= 1;

@@ -1,5 +1,5 @@
 // The substitution of arguments into a replacement list (ISO C11 6.10.3.1 to 6.10.3.3), but for their expansion.
-ghost use Rattle.std.specs.Prelude.{◌≡◌, ◌++◌, ◌&&◌, IfOk, OnOk};
+ghost use Rattle.std.specs.Prelude.{◌≡◌, [], ◌∷◌, OnOk};
 ghost use Rattle.macro_expand.specs.Codes.{Names};
 ghost use Rattle.macro_expand.specs.Stands.{Stands, Grows};
 ghost use Rattle.macro_expand.specs.Numbers.{real, reals, real_operand, real_building};
@@ -34,18 +34,6 @@ pub(crate) struct Part {
     pub(crate) more: usize,
 }
 
-// A list with the rest of another behind it.
-fn appended(list: MarkedList, rest: Queue) -> Result<MarkedList, AllocError>
-    ensures { IfOk result (λ all. all ≡ list ++ rest) }
-{
-    let mut out = list.into_vec();
-    let mut items = rest.into_items();
-    while let Some(token) = items.pop_front() {
-        out.push(token)?;
-    }
-    Ok(MarkedList::from_vec(out))
-}
-
 impl Building {
     pub(crate) fn begun(alloc: Global, progress: Progress, space: bool) -> Building
         ensures { result ≡ spec.begun progress space }
@@ -70,182 +58,133 @@ impl Building {
     }
 
     // The tokens of an operand at the end.
-    pub(crate) fn puts(self, space: bool, more: MarkedList) -> Result<Building, AllocError>
-        ensures value { IfOk result (λ b. b ≡ spec.puts space more self) }
-        ensures same { IfOk result (λ b. b.progress.left ≡ self.progress.left) }
+    pub(crate) fn puts(&mut self, space: bool, more: MarkedList) -> Result<(), AllocError>
+        ensures value { OnOk result (self.new ≡ spec.puts space more self.old) }
+        ensures same { OnOk result (self.new.progress.left ≡ self.old.progress.left) }
     {
-        let Building {
-            progress,
-            tokens,
-            space: _,
-            empty: _,
-            first: _,
-        } = self;
         let mut items = Queue::from_list(more).into_items();
+        self.first = false;
         let Some(token) = items.pop_front() else {
-            return Ok(Building {
-                progress,
-                tokens,
-                space,
-                empty: true,
-                first: false,
-            });
+            self.space = space;
+            self.empty = true;
+            return Ok(());
         };
-        let mut front = tokens;
-        front.push(token.spaced(space))?;
-        let tokens = appended(front, Queue::from_items(items))?;
-        Ok(Building {
-            progress,
-            tokens,
-            space: false,
-            empty: false,
-            first: false,
-        })
+        self.tokens.push(token.spaced(space))?;
+        self.tokens.append(Queue::from_items(items))?;
+        self.space = false;
+        self.empty = false;
+        Ok(())
     }
 
-    pub(crate) fn with_noted(self, toks: TokIds) -> Result<Building, AllocError>
-        ensures { IfOk result (λ b. b ≡ spec.with_noted toks self) }
+    // One token at the end.
+    pub(crate) fn puts_token(&mut self, space: bool, token: Marked) -> Result<(), AllocError>
+        ensures value { OnOk result (self.new ≡ spec.puts space (token ∷ []) self.old) }
+        ensures same { OnOk result (self.new.progress.left ≡ self.old.progress.left) }
     {
-        let Building {
-            progress,
-            tokens,
-            space,
-            empty,
-            first,
-        } = self;
-        let mut progress = progress;
-        progress.noted(toks)?;
-        Ok(Building {
-            progress,
-            tokens,
-            space,
-            empty,
-            first,
-        })
+        self.tokens.push(token.spaced(space))?;
+        self.space = false;
+        self.empty = false;
+        self.first = false;
+        Ok(())
     }
 
-    fn glued(
-        self,
+    pub(crate) fn notes(&mut self, toks: TokIds) -> Result<(), AllocError>
+        ensures { OnOk result (self.new ≡ spec.with_noted toks self.old) }
+    {
+        self.progress.noted(toks)
+    }
+
+    fn glues(
+        &mut self,
         alloc: Global,
         sets: &mut Sets,
         site: &TokId,
         space: bool,
         more: MarkedList,
-    ) -> Result<Building, AllocError>
+    ) -> Result<(), AllocError>
         ensures grows { OnOk result (Grows sets.old sets.new) }
-        ensures value { IfOk result (λ b. (f : Names → Names) → Stands f sets.new
-            → real_building f b ≡ spec.glued site.now (first_spaced space (reals f more)) (real_building f self)) }
+        ensures value { OnOk result ((f : Names → Names) → Stands f sets.new
+            → real_building f self.new
+            ≡ spec.glued site.now (first_spaced space (reals f more)) (real_building f self.old)) }
     {
         let mut items = Queue::from_list(more).into_items();
         let Some(right) = items.pop_front() else {
-            return Ok(self);
+            return Ok(());
         };
-        let built = self.pasted_to(
-            alloc,
-            sets,
-            site,
-            right.spaced(space),
-            Queue::from_items(items),
-        )?;
-        Ok(built)
+        let right = right.spaced(space);
+        self.pastes_to(alloc, sets, site, right, Queue::from_items(items))
     }
 
     // The last token with the next one, and what stands behind that.
-    fn pasted_to(
-        self,
+    fn pastes_to(
+        &mut self,
         alloc: Global,
         sets: &mut Sets,
         site: &TokId,
         right: Marked,
         behind: Queue,
-    ) -> Result<Building, AllocError>
+    ) -> Result<(), AllocError>
         ensures grows { OnOk result (Grows sets.old sets.new) }
-        ensures value { IfOk result (λ b. (f : Names → Names) → Stands f sets.new
-            → real_building f b
-            ≡ spec.pasted_to site.now (real f right) (reals f behind) (last_of (reals f self.tokens))
-            (real_building f self)) }
+        ensures value { OnOk result ((f : Names → Names) → Stands f sets.new
+            → real_building f self.new
+            ≡ spec.pasted_to site.now (real f right) (reals f behind) (last_of (reals f self.old.tokens))
+            (real_building f self.old)) }
     {
-        let Building {
-            progress,
-            tokens,
-            space,
-            empty,
-            first,
-        } = self;
-        let Some((front, left)) = tokens.last() else {
-            let all = behind.before(right)?;
-            let tokens = appended(MarkedList::new(alloc), all)?;
-            return Ok(Building {
-                progress,
-                tokens,
-                space,
-                empty,
-                first,
-            });
+        let Some(left) = self.tokens.pop() else {
+            self.tokens.push(right)?;
+            self.tokens.append(behind)?;
+            return Ok(());
         };
         let pasted = pasted(alloc, sets, &left, &right)?;
         match pasted {
             Some(token) => {
-                let all = behind.before(token)?;
-                let tokens = appended(front, all)?;
-                Ok(Building {
-                    progress,
-                    tokens,
-                    space,
-                    empty,
-                    first,
-                })
+                self.tokens.push(token)?;
+                self.tokens.append(behind)?;
+                Ok(())
             }
             None => {
-                let some = behind.before(right)?;
-                let all = some.before(left)?;
-                let tokens = appended(front, all)?;
-                let mut progress = progress;
-                progress.faulty(alloc, 206, site, "")?;
-                Ok(Building {
-                    progress,
-                    tokens,
-                    space,
-                    empty,
-                    first,
-                })
+                self.tokens.push(left)?;
+                self.tokens.push(right)?;
+                self.tokens.append(behind)?;
+                self.progress.faulty(alloc, 206, site, "")?;
+                Ok(())
             }
         }
     }
 
     // The right operand of `##`.
     #[tactic(auto, unfolding(crate::specs::Building::joins))]
-    pub(crate) fn joins(
-        self,
+    fn joins(
+        &mut self,
         alloc: Global,
         sets: &mut Sets,
         site: &TokId,
         space: bool,
         more: MarkedList,
-    ) -> Result<Building, AllocError>
+    ) -> Result<(), AllocError>
         ensures grows { OnOk result (Grows sets.old sets.new) }
-        ensures value { IfOk result (λ b. (f : Names → Names) → Stands f sets.new
-            → real_building f b ≡ spec.joins site.now (first_spaced space (reals f more)) (real_building f self)) }
+        ensures value { OnOk result ((f : Names → Names) → Stands f sets.new
+            → real_building f self.new
+            ≡ spec.joins site.now (first_spaced space (reals f more)) (real_building f self.old)) }
     {
         if self.empty {
             let before = self.space;
-            let built = self.puts(before, more)?;
-            return Ok(built);
+            return self.puts(before, more);
         }
-        let built = self.glued(alloc, sets, site, space, more)?;
-        Ok(built)
+        self.glues(alloc, sets, site, space, more)
     }
 
     pub(crate) fn joins_operand(
-        self,
+        &mut self,
         alloc: Global,
         sets: &mut Sets,
         site: &TokId,
         operand: Operand,
-    ) -> Result<Building, AllocError>
+    ) -> Result<(), AllocError>
         ensures grows { OnOk result (Grows sets.old sets.new) }
-        ensures value { IfOk result (λ b. (f : Names → Names) → Stands f sets.new
-            → real_building f b ≡ spec.joins_operand site.now (real_building f self) (real_operand f operand)) }
+        ensures value { OnOk result ((f : Names → Names) → Stands f sets.new
+            → real_building f self.new
+            ≡ spec.joins_operand site.now (real_building f self.old) (real_operand f operand)) }
     {
         let Operand {
             given: _,
@@ -254,8 +193,7 @@ impl Building {
             space,
             more: _,
         } = operand;
-        let noted = self.with_noted(spelled)?;
-        let built = noted.joins(alloc, sets, site, space, tokens)?;
-        Ok(built)
+        self.notes(spelled)?;
+        self.joins(alloc, sets, site, space, tokens)
     }
 }

@@ -177,10 +177,11 @@ fn macro_step<'a>(
         (spec.macro_found progress (real f token) (reals f rest.entry) def.now def.now.params))) }
     ensures nearer { IfOk result (λ s. work.IsTaken s progress.left rest.entry) }
 {
-    let found = macro_found(alloc, sets, progress, &token, &rest, def)?;
+    let mut progress = progress;
+    let found = macro_found(alloc, sets, &mut progress, &token, &rest, def)?;
     match found {
-        Found::Stays(progress) => Ok(Taken::Settled(kept(progress, token, rest))),
-        Found::Replaced(progress, args, names, width) => {
+        Found::Stays => Ok(Taken::Settled(kept(progress, token, rest))),
+        Found::Replaced { args, names, width } => {
             Ok(Taken::Called(progress, token, def, args, names, dropped(width, rest)))
         }
     }

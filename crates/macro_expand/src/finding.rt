@@ -81,86 +81,92 @@ pub(crate) fn meaning_of<'a>(
     Ok(meaning)
 }
 
-// What comes of a macro's name: it stays, or is replaced, with what is noted then, by what arguments, with what hide
-// set, and with how many tokens behind it.
+// What comes of a macro's name: it stays, or is replaced, by what arguments, with what hide set, and with how many tokens
+// behind it.
 #[derive(Drop)]
 pub(crate) enum Found {
-    Stays(Progress),
-    Replaced(Progress, ArgumentList, HideSet, usize),
+    Stays,
+    Replaced {
+        args: ArgumentList,
+        names: HideSet,
+        width: usize,
+    },
 }
 
-fn refused_found(alloc: Global, progress: Progress, token: &Marked) -> Result<Found, AllocError>
-    ensures { IfOk result (λ f. f ≡ Stays (made.refused token.now progress)) }
-{
-    let mut progress = progress;
-    progress.refused(alloc, token)?;
-    Ok(Found::Stays(progress))
-}
-
+// A fault on the name, which stays.
 fn faulty_found(
     alloc: Global,
     rule: u16,
-    progress: Progress,
+    progress: &mut Progress,
     token: &Marked,
 ) -> Result<Found, AllocError>
-    ensures { IfOk result (λ f. f ≡ Stays (made.faulty rule token.now.token.site token.now.token.spelling progress)) }
+    ensures stays { IfOk result (λ r. r ≡ Stays) }
+    ensures noted { OnOk result (progress.new
+        ≡ made.faulty rule token.now.token.site token.now.token.spelling progress.old) }
 {
-    let mut progress = progress;
     progress.faulty(
         alloc,
         rule,
         &token.token.site,
         token.token.spelling.as_str(),
     )?;
-    Ok(Found::Stays(progress))
+    Ok(Found::Stays)
 }
 
 fn object_found(
     alloc: Global,
     sets: &mut Sets,
-    progress: Progress,
+    progress: &mut Progress,
     token: &Marked,
     def: &MacroDef,
 ) -> Result<Found, AllocError>
     ensures grows { OnOk result (Grows sets.old sets.new) }
     ensures value { IfOk result (λ r. (f : Names → Names) → Stands f sets.new
-        → steps.found_of f def.now r ≡ spec.object_found progress (real f token.now) def.now) }
-    ensures spent { IfOk result (λ r. steps.IsSpent r progress.left) }
+        → steps.found_of f def.now progress.new r ≡ spec.object_found progress.old (real f token.now) def.now) }
+    ensures spent { IfOk result (λ r. steps.IsSpent r progress.new.left progress.old.left) }
 {
     if progress.left == 0 {
-        return refused_found(alloc, progress, token);
+        progress.refused(alloc, token)?;
+        return Ok(Found::Stays);
     }
     let tok = def.tok.copy()?;
-    let mut progress = progress;
     progress.counted(token, Some(tok))?;
     let names = sets.with(alloc, &token.hides, &token.token.spelling)?;
-    Ok(Found::Replaced(progress, ArgumentList::new(alloc), names, 0))
+    Ok(Found::Replaced {
+        args: ArgumentList::new(alloc),
+        names,
+        width: 0,
+    })
 }
 
 // The replacement of a call with as many arguments as parameters.
 fn counted_call(
     alloc: Global,
-    progress: Progress,
+    progress: &mut Progress,
     token: &Marked,
     def: &MacroDef,
     lacks: bool,
-) -> Result<Progress, AllocError>
-    requires { 0 < progress.left }
-    ensures { IfOk result (λ p. p ≡ spec.counted_call progress token.now def.now lacks) }
+) -> Result<(), AllocError>
+    requires { 0 < progress.old.left }
+    ensures { OnOk result (progress.new ≡ spec.counted_call progress.old token.now def.now lacks) }
 {
     let tok = def.tok.copy()?;
-    let mut progress = progress;
     progress.counted(token, Some(tok))?;
     if lacks {
-        progress.faulty(alloc, 211, &token.token.site, token.token.spelling.as_str())?;
+        return progress.faulty(
+            alloc,
+            211,
+            &token.token.site,
+            token.token.spelling.as_str(),
+        );
     }
-    Ok(progress)
+    Ok(())
 }
 
 fn fit_found(
     alloc: Global,
     sets: &mut Sets,
-    progress: Progress,
+    progress: &mut Progress,
     token: &Marked,
     def: &MacroDef,
     lacks: bool,
@@ -170,23 +176,28 @@ fn fit_found(
 ) -> Result<Found, AllocError>
     ensures grows { OnOk result (Grows sets.old sets.new) }
     ensures value { IfOk result (λ r. (f : Names → Names) → Stands f sets.new
-        → steps.found_of f def.now r
-        ≡ spec.fit_found progress (real f token.now) def.now lacks (real_args f args) (f names) width) }
-    ensures spent { IfOk result (λ r. steps.IsSpent r progress.left) }
+        → steps.found_of f def.now progress.new r
+        ≡ spec.fit_found progress.old (real f token.now) def.now lacks (real_args f args) (f names) width) }
+    ensures spent { IfOk result (λ r. steps.IsSpent r progress.new.left progress.old.left) }
 {
     if progress.left == 0 {
-        return refused_found(alloc, progress, token);
+        progress.refused(alloc, token)?;
+        return Ok(Found::Stays);
     }
-    let counted = counted_call(alloc, progress, token, def, lacks)?;
+    counted_call(alloc, progress, token, def, lacks)?;
     let both = sets.common(alloc, &token.hides, &names)?;
     let hidden = sets.with(alloc, &both, &token.token.spelling)?;
-    Ok(Found::Replaced(counted, args, hidden, width))
+    Ok(Found::Replaced {
+        args,
+        names: hidden,
+        width,
+    })
 }
 
 fn closed_found(
     alloc: Global,
     sets: &mut Sets,
-    progress: Progress,
+    progress: &mut Progress,
     token: &Marked,
     def: &MacroDef,
     args: ArgumentList,
@@ -195,9 +206,9 @@ fn closed_found(
 ) -> Result<Found, AllocError>
     ensures grows { OnOk result (Grows sets.old sets.new) }
     ensures value { IfOk result (λ r. (f : Names → Names) → Stands f sets.new
-        → steps.found_of f def.now r
-        ≡ spec.closed_found progress (real f token.now) def.now (real_args f args) (f names) width) }
-    ensures spent { IfOk result (λ r. steps.IsSpent r progress.left) }
+        → steps.found_of f def.now progress.new r
+        ≡ spec.closed_found progress.old (real f token.now) def.now (real_args f args) (f names) width) }
+    ensures spent { IfOk result (λ r. steps.IsSpent r progress.new.left progress.old.left) }
 {
     let lacks = lacks_variable(def, &args);
     let fit = fitted(alloc, def, args)?;
@@ -216,23 +227,24 @@ fn closed_found(
 fn call_found(
     alloc: Global,
     sets: &mut Sets,
-    progress: Progress,
+    progress: &mut Progress,
     token: &Marked,
     def: &MacroDef,
     called: Called,
 ) -> Result<Found, AllocError>
     ensures grows { OnOk result (Grows sets.old sets.new) }
     ensures value { IfOk result (λ r. (f : Names → Names) → Stands f sets.new
-        → steps.found_of f def.now r ≡ spec.call_found progress (real f token.now) def.now (real_called f called)) }
-    ensures spent { IfOk result (λ r. steps.IsSpent r progress.left) }
+        → steps.found_of f def.now progress.new r
+        ≡ spec.call_found progress.old (real f token.now) def.now (real_called f called)) }
+    ensures spent { IfOk result (λ r. steps.IsSpent r progress.new.left progress.old.left) }
 {
     match called {
-        Called::Absent => Ok(Found::Stays(progress)),
+        Called::Absent => Ok(Found::Stays),
         Called::Unclosed => {
             let found = faulty_found(alloc, 203, progress, token)?;
             Ok(found)
         }
-        Called::Closed(args, names, width) => {
+        Called::Closed { args, names, width } => {
             let found = closed_found(alloc, sets, progress, token, def, args, names, width)?;
             Ok(found)
         }
@@ -242,16 +254,16 @@ fn call_found(
 pub(crate) fn macro_found(
     alloc: Global,
     sets: &mut Sets,
-    progress: Progress,
+    progress: &mut Progress,
     token: &Marked,
     rest: &Rest<'_>,
     def: &MacroDef,
 ) -> Result<Found, AllocError>
     ensures grows { OnOk result (Grows sets.old sets.new) }
     ensures value { IfOk result (λ r. (f : Names → Names) → Stands f sets.new
-        → steps.found_of f def.now r
-        ≡ spec.macro_found progress (real f token.now) (reals f rest.now) def.now def.now.params) }
-    ensures spent { IfOk result (λ r. steps.IsSpent r progress.left) }
+        → steps.found_of f def.now progress.new r
+        ≡ spec.macro_found progress.old (real f token.now) (reals f rest.now) def.now def.now.params) }
+    ensures spent { IfOk result (λ r. steps.IsSpent r progress.new.left progress.old.left) }
 {
     match &def.params {
         None => {

@@ -330,14 +330,14 @@ fn goes_on<'a>(
         skip,
         behind,
     } = frame;
-    let building = Building {
+    let mut built = Building {
         progress,
         tokens,
         space: before,
         empty,
         first,
     };
-    let built = building.puts(space, done)?;
+    built.puts(space, done)?;
     let advance = read_list(
         alloc,
         sets,

@@ -1,5 +1,5 @@
 // What stands at the front of a replacement list, and what `#` spells (ISO C11 6.10.3.2).
-ghost use Rattle.std.specs.Prelude.{◌≡◌, ◌++◌, ◌≤◌, IfOk, OnOk, option_copied, string_bytes, true};
+ghost use Rattle.std.specs.Prelude.{◌≡◌, ◌++◌, ◌≤◌, IfOk, OnOk, IsTrue, option_copied, string_bytes, true};
 ghost use Rattle.macro_expand.specs.Spelling as spelling;
 ghost use Rattle.macro_expand.specs.Building as spec;
 
@@ -186,6 +186,29 @@ fn first_arg<'a>(
     match tokens.split_first() {
         Some((token, _)) => arg_of(def, args, token),
         None => None,
+    }
+}
+
+// A token of a replacement list that stands for itself: it is no parameter, and no `#` in front of one.
+#[tactic(auto, unfolding(crate::specs::Building::operand))]
+pub(crate) fn is_itself(
+    def: &MacroDef,
+    args: &[MarkedList],
+    token: &OutToken,
+    behind: &[OutToken],
+) -> bool
+    ensures { IsTrue result → spec.operand def.now args.now token.now behind.now ≡ spec.plain_operand token.now }
+{
+    if is_hash(token) {
+        match first_arg(def, args, behind) {
+            Some(_) => false,
+            None => true,
+        }
+    } else {
+        match arg_of(def, args, token) {
+            Some(_) => false,
+            None => true,
+        }
     }
 }
 

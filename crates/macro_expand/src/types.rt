@@ -1,11 +1,12 @@
 // Tokens with their hide sets, what was done so far, and what expansion gives.
-ghost use Rattle.std.specs.Prelude.{◌≡◌, [], ◌++◌, ◌∷◌, ◌<◌, IfOk, OnOk};
+ghost use Rattle.std.specs.Prelude.{◌≡◌, [], ◌++◌, ◌∷◌, ◌<◌, IfOk, OnOk, IfNone, option_map};
 ghost use Rattle.macro_expand.specs.Tokens as spec;
 ghost use Rattle.macro_expand.specs.Progress as made;
 ghost use Rattle.macro_expand.specs.Tokens.{last_of};
 
 use crate::growing::Growing;
 use crate::hide::HideSet;
+use crate::queue::Queue;
 use shared_text::Name;
 use std::alloc::{AllocError, Global};
 use std::marker::Model;
@@ -120,15 +121,26 @@ impl MarkedList {
         Ok(())
     }
 
-    // The last token with its front.
-    pub(crate) fn last(self) -> Option<(MarkedList, Marked)>
-        ensures { result ≡ last_of self }
+    // Another list behind it.
+    pub(crate) fn append(&mut self, more: Queue) -> Result<(), AllocError>
+        ensures { OnOk result (self.new ≡ self.old ++ more) }
     {
-        let mut items = self.items;
-        match items.pop() {
-            Some(token) => Some((MarkedList { items }, token)),
-            None => None,
+        let mut items = more.into_items();
+        'tokens: while let Some(token) = items.pop_front() {
+            self.items.push(token)?;
         }
+        Ok(())
+    }
+
+    // The last token, which leaves.
+    pub(crate) fn pop(&mut self) -> Option<Marked>
+        ensures last { last_of self.old ≡ option_map (λ t. (self.new, t)) result }
+        ensures ended { IfNone result (self.new ≡ []) }
+    {
+        let Some(token) = self.items.pop() else {
+            return None;
+        };
+        Some(token)
     }
 
     pub(crate) fn copy(&self, alloc: Global) -> Result<MarkedList, AllocError>

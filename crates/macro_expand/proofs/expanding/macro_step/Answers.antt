@@ -5,6 +5,6 @@ use Rattle.macro_expand.proofs.expanding.macro_step.Goals as goal
 
 pub returns-in-Replaced-clause-value : goal.returns-in-Replaced-clause-value
 returns-in-Replaced-clause-value c = λ f h again.
-    replaced_is f again c.in-Replaced.progress c.args.token c.args.rest c.dropped.result c.args.def.now
+    replaced_is f again c.macro_found.new.progress c.args.token c.args.rest c.dropped.result c.args.def.now
     c.in-Replaced.args (f c.in-Replaced.names) c.in-Replaced.width _ c.dropped.ensures
-    (ap (found_of f c.args.def.now) (sym c.in-Replaced.is) ∙ c.in_ok-found.ensures.value f h)
+    (ap (found_of f c.args.def.now c.macro_found.new.progress) (sym c.in-Replaced.is) ∙ c.in_ok-found.ensures.value f h)

@@ -7,9 +7,9 @@ use Rattle.macro_expand.proofs.finding.object_found.Goals as goal
 
 pub returns-clause-value : goal.returns-clause-value
 returns-clause-value c = λ f h.
-    let some : (c.args.progress.left == 0) ≡ false = search rules in
-    let after : c.counted.new.self ≡ made.counted c.args.token.now (Some c.args.def.now.tok) c.args.progress =
+    let some : (c.args.progress.now.left == 0) ≡ false = search rules in
+    let after : c.counted.new.self ≡ made.counted c.args.token.now (Some c.args.def.now.tok) c.args.progress.now =
     search rules in
-    object_replaced c.args.progress c.counted.new.self (real f c.args.token.now) c.args.def.now
+    object_replaced c.args.progress.now c.counted.new.self (real f c.args.token.now) c.args.def.now
     (real_args f c.new.result) (f c.in_ok-names.names) some after (ap (real_args f) c.new.ensures)
     (c.in_ok-names.ensures.value f h)

@@ -21,5 +21,5 @@ returns-clause-value c = λ f h again.
       empty = c.args.frame.empty;
       first = c.args.frame.first;
     })
-    c.in_ok-built.built c.as_slice.ensures c.in_ok-built.ensures.value
+    c.puts.new.self c.as_slice.ensures c.in_ok-puts.ensures.value
     (c.in_ok-advance.ensures.value f (c.in_ok-settled.ensures.grows f h) again))
