@@ -153,12 +153,7 @@ fn counted_call(
     let tok = def.tok.copy()?;
     progress.counted(token, Some(tok))?;
     if lacks {
-        return progress.faulty(
-            alloc,
-            211,
-            &token.token.site,
-            token.token.spelling.as_str(),
-        );
+        return progress.faulty(alloc, 211, &token.token.site, token.token.spelling.as_str());
     }
     Ok(())
 }

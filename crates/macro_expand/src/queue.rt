@@ -1,8 +1,7 @@
 // A list that is read from its front.
-ghost use Rattle.std.specs.Prelude.{◌≡◌, ◌∷◌, IfOk};
+ghost use Rattle.std.specs.Prelude.{◌≡◌};
 
 use crate::types::{Marked, MarkedList};
-use std::alloc::AllocError;
 use std::collections::VecDeque;
 use std::marker::Model;
 
@@ -33,15 +32,6 @@ impl Queue {
         ensures { result ≡ items.items }
     {
         Queue { items }
-    }
-
-    // With one token more at the front.
-    pub(crate) fn before(self, token: Marked) -> Result<Queue, AllocError>
-        ensures { IfOk result (λ q. q ≡ token ∷ self) }
-    {
-        let mut items = self.items;
-        items.push_front(token)?;
-        Ok(Queue { items })
     }
 
     pub(crate) fn into_items(self) -> VecDeque<Marked>

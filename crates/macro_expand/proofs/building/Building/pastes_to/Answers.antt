@@ -1,4 +1,4 @@
-use Rattle.std.proofs.Common.{List, [], ◌∷◌, ◌++◌, ap, sym, ◌∙◌, append_assoc}
+use Rattle.std.proofs.Common.{List, [], ◌∷◌, ◌++◌, ap, ◌∙◌, append_assoc}
 use Rattle.std.specs.Prelude.{option_map}
 use Rattle.macro_expand.specs.declared.types.Marked.{Marked}
 use Rattle.macro_expand.proofs.BuildingLemmas.{pasted_alone, pasted_one, pasted_two}

@@ -1,4 +1,4 @@
-use Rattle.std.proofs.Common.{rules, ◌≡◌, ap, sym, ◌∙◌, ℕ, Option}
+use Rattle.std.proofs.Common.{rules, ◌≡◌, ap, ◌∙◌, ℕ, Option}
 use Rattle.std.specs.HashMap.{get}
 use Rattle.std.specs.Prelude.{None}
 use Rattle.tok_data.specs.contracts.sources.TokIdPartialEq.TheImpl as toks
