@@ -5,3 +5,4 @@ pub mod Contents
 pub mod Weights
 pub mod EntryLemmas
 pub mod Usable
+pub mod Joined

@@ -35,7 +35,7 @@ use Rattle.project_conf.proofs.Weights.{weight_read}
 
 -- ---- the names
 
-abbrev IsNamed : Define → Type 0
+abbrev pub IsNamed : Define → Type 0
 IsNamed d = is_identifier (name_of d) ≡ true
 
 named_if : (b : Bool) (d : Define) → (b ≡ true → IsNamed d) → AllByRecursion IsNamed (if b then d ∷ [] else [])

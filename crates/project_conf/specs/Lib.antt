@@ -5,3 +5,5 @@ pub mod Parting
 pub mod Settings
 pub mod Database
 pub mod Weights
+pub mod Firsts
+pub mod Entries

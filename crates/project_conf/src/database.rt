@@ -7,6 +7,7 @@ ghost use Rattle.project_conf.specs.Defines.{AreUsable};
 ghost use Rattle.project_conf.specs.Parting.{words_of};
 ghost use Rattle.project_conf.specs.Settings.{folders_said, defines_said};
 ghost use Rattle.project_conf.specs.Database.{text_at, path_at, texts_in, words_in, unit_of, units_from, units_in, units_of};
+ghost use Rattle.project_conf.specs.Entries.{refusal};
 ghost use Rattle.project_conf.specs.Weights.{weight};
 ghost use Rattle.project_conf.specs.declared.database.ConfError.TheVariants.{NotJson, NoMemory};
 
@@ -34,6 +35,20 @@ pub enum ConfError {
     Entry(u32),
     #[error("out of memory")]
     NoMemory,
+}
+
+impl ConfError {
+    /// What is shown of it: the refusal's name alone.
+    pub fn name(&self) -> &'static str
+        ensures { result.now ≡ refusal self.now }
+    {
+        match self {
+            ConfError::NotJson => "NotJson",
+            ConfError::NotArray => "NotArray",
+            ConfError::Entry(_) => "Entry",
+            ConfError::NoMemory => "NoMemory",
+        }
+    }
 }
 
 impl From<AllocError> for ConfError {
