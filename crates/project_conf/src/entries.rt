@@ -151,6 +151,16 @@ fn push_defines(out: &mut Vec<Define>, defines: &[Define]) -> Result<(), AllocEr
     Ok(())
 }
 
+// One list of definitions behind another.
+fn in_order(alloc: Global, first: &[Define], second: &[Define]) -> Result<Defines, AllocError>
+    ensures { IfOk result (λ all. all ≡ first.now ++ second.now) }
+{
+    let mut all = Vec::new(alloc);
+    push_defines(&mut all, first)?;
+    push_defines(&mut all, second)?;
+    Ok(Defines::from_vec(all))
+}
+
 // How a file without an entry is read.
 #[tactic(auto, using(crate::proofs::Joined::usable_more))]
 fn alone(alloc: Global, conf: &Conf, file: &Path) -> Result<UnitConf, AllocError>
@@ -184,13 +194,11 @@ fn joined(
     let mut includes = Vec::new(alloc);
     push_paths(&mut includes, entry.includes.as_slice())?;
     push_paths(&mut includes, conf.includes.as_slice())?;
-    let mut defines = Vec::new(alloc);
-    push_defines(&mut defines, conf.defines.as_slice())?;
-    push_defines(&mut defines, entry.defines.as_slice())?;
+    let defines = in_order(alloc, conf.defines.as_slice(), entry.defines.as_slice())?;
     Ok(UnitConf {
         file,
         includes: IncludePaths::from_vec(includes),
-        defines: Defines::from_vec(defines),
+        defines,
     })
 }
 

@@ -4,5 +4,5 @@ use Rattle.project_conf.proofs.entries.joined.Goals as goal
 
 pub returns-clause-usable : goal.returns-clause-usable
 returns-clause-usable c =
-    let same : c.from_vec-2.result ≡ c.args.conf.now.defines ++ c.args.entry.now.defines = search rules in
+    let same : c.in_ok-defines.defines ≡ c.args.conf.now.defines ++ c.args.entry.now.defines = search rules in
     λ h k. both_usable _ _ _ h k same
