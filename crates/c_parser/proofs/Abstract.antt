@@ -3,38 +3,38 @@ use Rattle.std.proofs.Common.{◌≡◌, refl, ap, sym, ◌∙◌, subst, ℕ, z
 use Rattle.std.proofs.lemmas.List.{map-append}
 use Rattle.tree_data.specs.declared.types.Deriving as code
 use Rattle.tree_data.specs.Seen.{deriving_of, derivings_of}
-use Rattle.tree_data.specs.Trees.{Tree, Declaring, Declaring_of, Grouping, No_group, Group_of, Deriving, Array_of, Function_of, Derivings, No_derivings, Deriving_then, derivings, Bound, Unsized_of, Any_size_of, Sized_of, Static_sized_of, Sized_static_of}
+use Rattle.tree_data.specs.Trees.{Tree, Declaring, Declaring_of, Grouping, No_group, Named_of, Group_of, Parameters, Deriving, Array_of, Function_of, Derivings, No_derivings, Deriving_then, derivings, Bound, Unsized_of, Any_size_of, Sized_of, Static_sized_of, Sized_static_of}
 use Rattle.c_parser.specs.declared.answers.Stop.{Stop}
 use Rattle.c_parser.specs.declared.answers.Stop.TheVariants as stop
 use Rattle.c_parser.specs.declared.kinds.Kind.{Kind}
-use Rattle.c_parser.specs.declared.kinds.Kind.TheVariants.{OpenParen, CloseParen, OpenBracket, CloseBracket, Star, Static}
-use Rattle.c_parser.specs.Declarators.{AreThere, IsAbstract}
-use Rattle.c_parser.specs.Kinds.{kind_at, ends_type, is_deriving, any_size_at, is_star, is_closing_bracket}
-use Rattle.c_parser.specs.Reading.{HoldQualifiers, HoldPointers, HoldsDeclaring, HoldsGrouping, HoldsDeriving, HoldDerivings, HoldsBound, Reads, Found, IsWant}
-use Rattle.c_parser.specs.TypeNames.{FoundQualifiers, FoundPointers, FoundDeclaring, FoundGrouping, FoundDeriving, FoundDerivings, FoundBound}
+use Rattle.c_parser.specs.declared.kinds.Kind.TheVariants.{Identifier, OpenParen, CloseParen, OpenBracket, CloseBracket, Star, Static}
+use Rattle.c_parser.specs.Declarators.{AreThere, IsWritten}
+use Rattle.c_parser.specs.Kinds.{kind_at, ends_type, is_deriving, any_size_at, is_star, is_closing_bracket, is_identifier, names_at, opens_parameters}
+use Rattle.c_parser.specs.Reading.{HoldQualifiers, HoldPointers, HoldsDeclaring, HoldsGrouping, HoldsDeriving, HoldDerivings, HoldsBound, HoldParameters, Reads, Found, IsWant}
+use Rattle.c_parser.specs.TypeNames.{FoundQualifiers, FoundPointers, FoundDeclaring, FoundGrouping, FoundDeriving, FoundDerivings, FoundBound, FoundParameters}
 use Rattle.c_parser.proofs.Marks.{clash, stops_at}
 use Rattle.c_parser.proofs.OneReading.{Only}
 use Rattle.c_parser.proofs.Parsing.{Fails}
-use Rattle.c_parser.proofs.TypeReading.{everywhere, Bounding, first_static, first_others, Behind, nothing, a_star, a_size, a_static, bound_view, bound_only, no_start, no_star, no_qualifier, grouping_begins, closes_next, abstract_begins, deriving_only}
+use Rattle.c_parser.proofs.TypeReading.{everywhere, Bounding, first_static, first_others, Behind, nothing, a_star, a_size, a_static, bound_view, bound_only, no_start, no_star, no_qualifier, grouping_begins, parameters_next, written_begins, no_name_next, deriving_only}
 use Rattle.c_parser.proofs.Types.{between, pointers_only, qualifiers_only}
 use Rattle.c_parser.proofs.Views.{starts}
-use Rattle.c_parser.proofs.Words.{left_of, right_of}
+use Rattle.c_parser.proofs.Words.{left_of, right_of, test_inside, name_may_stand, name_stands}
 
 -- what a call has for all that stand there, where it read something and where it stopped
-abbrev pub OnlyDeclaring : List Kind → ℕ → Declaring → ℕ → Type 0
-OnlyDeclaring ks a d c = (d' : Declaring) → (c' : ℕ) → HoldsDeclaring ks d' a c' → ends_type (kind_at ks c') ≡ true → (d ≡ d') × (c ≡ c')
+abbrev pub OnlyDeclaring : List Kind → Bool → ℕ → Declaring → ℕ → Type 0
+OnlyDeclaring ks y a d c = (d' : Declaring) → (c' : ℕ) → HoldsDeclaring ks y d' a c' → ends_type (kind_at ks c') ≡ true → (d ≡ d') × (c ≡ c')
 
-abbrev pub FailsDeclaring : List Kind → ℕ → Stop → Type 0
-FailsDeclaring ks a e = (d : Declaring) → (c : ℕ) → HoldsDeclaring ks d a c → ends_type (kind_at ks c) ≡ true → IsWant e
+abbrev pub FailsDeclaring : List Kind → Bool → ℕ → Stop → Type 0
+FailsDeclaring ks y a e = (d : Declaring) → (c : ℕ) → HoldsDeclaring ks y d a c → ends_type (kind_at ks c) ≡ true → IsWant e
 
-abbrev pub OnlyGrouping : List Kind → ℕ → Grouping → ℕ → Type 0
-OnlyGrouping ks a g m =
-    (g' : Grouping) → (m' : ℕ) → (ds : Derivings) → (c : ℕ) → HoldsGrouping ks g' a m' → HoldDerivings ks ds m' c
+abbrev pub OnlyGrouping : List Kind → Bool → ℕ → Grouping → ℕ → Type 0
+OnlyGrouping ks y a g m =
+    (g' : Grouping) → (m' : ℕ) → (ds : Derivings) → (c : ℕ) → HoldsGrouping ks y g' a m' → HoldDerivings ks ds m' c
     → ends_type (kind_at ks c) ≡ true → (g ≡ g') × (m ≡ m')
 
-abbrev pub FailsGrouping : List Kind → ℕ → Stop → Type 0
-FailsGrouping ks a e =
-    (g : Grouping) → (m : ℕ) → (ds : Derivings) → (c : ℕ) → HoldsGrouping ks g a m → HoldDerivings ks ds m c
+abbrev pub FailsGrouping : List Kind → Bool → ℕ → Stop → Type 0
+FailsGrouping ks y a e =
+    (g : Grouping) → (m : ℕ) → (ds : Derivings) → (c : ℕ) → HoldsGrouping ks y g a m → HoldDerivings ks ds m c
     → ends_type (kind_at ks c) ≡ true → IsWant e
 
 abbrev pub OnlyDerivings : List Kind → ℕ → Derivings → ℕ → Type 0
@@ -55,114 +55,146 @@ OnlyBound ks a x c = (x' : Bound) → (c' : ℕ) → HoldsBound ks x' a c' → k
 abbrev pub FailsBound : List Kind → ℕ → Stop → Type 0
 FailsBound ks a e = (x : Bound) → (c : ℕ) → HoldsBound ks x a c → kind_at ks c ≡ CloseBracket → IsWant e
 
+abbrev pub OnlyParameters : List Kind → ℕ → Parameters → ℕ → Type 0
+OnlyParameters ks a ps c = (ps' : Parameters) → (c' : ℕ) → HoldParameters ks ps' a c' → kind_at ks c' ≡ CloseParen → (ps ≡ ps') × (c ≡ c')
+
+abbrev pub FailsParameters : List Kind → ℕ → Stop → Type 0
+FailsParameters ks a e = (ps : Parameters) → (c : ℕ) → HoldParameters ks ps a c → kind_at ks c ≡ CloseParen → IsWant e
+
 -- a declarator
-pointers_same : (ks : List Kind) → (a : ℕ) → (ps : List (ℕ × List ℕ)) → (m : ℕ) → FoundPointers ks a ps m → (ps' : List (ℕ × List ℕ)) → (m' : ℕ)
-    → HoldPointers ks ps' a m' → (g : Grouping) → (ds : Derivings) → (n c : ℕ) → HoldsGrouping ks g m' n → HoldDerivings ks ds n c
+pointers_same : (ks : List Kind) → (y : Bool) → (a : ℕ) → (ps : List (ℕ × List ℕ)) → (m : ℕ) → FoundPointers ks a ps m → (ps' : List (ℕ × List ℕ)) → (m' : ℕ)
+    → HoldPointers ks ps' a m' → (g : Grouping) → (ds : Derivings) → (n c : ℕ) → HoldsGrouping ks y g m' n → HoldDerivings ks ds n c
     → ends_type (kind_at ks c) ≡ true → (ps ≡ ps') × (m ≡ m')
-pointers_same ks a ps m x ps' m' h g ds n c i j e =
-    let begun = grouping_begins ks g ds m' n c i j e in
+pointers_same ks y a ps m x ps' m' h g ds n c i j e =
+    let begun = grouping_begins ks y g ds m' n c i j e in
     let free = no_qualifier ks m' begun in
     pointers_only ks ps a m x.reads x.no_more (x.unqualified (between ks ps' a m' h free)) ps' m' h (no_star ks m' begun) free
 
-pub group_missing : (ks : List Kind) → (a : ℕ) → (ps : List (ℕ × List ℕ)) → (m : ℕ) → FoundPointers ks a ps m → (e : Stop) → FailsGrouping ks m e
-    → FailsDeclaring ks a e
-group_missing ks a ps m x e fails (Declaring_of ps' g ds) c h f =
-    let same = pointers_same ks a ps m x ps' h.0 h.2 g ds h.1 c h.3 h.4 f in
-    fails g h.1 ds c (subst (λ y. HoldsGrouping ks g y h.1) (sym same.1) h.3) h.4 f
+pub group_missing : (ks : List Kind) → (y : Bool) → (a : ℕ) → (ps : List (ℕ × List ℕ)) → (m : ℕ) → FoundPointers ks a ps m → (e : Stop) → FailsGrouping ks y m e
+    → FailsDeclaring ks y a e
+group_missing ks y a ps m x e fails (Declaring_of ps' g ds) c h f =
+    let same = pointers_same ks y a ps m x ps' h.0 h.2 g ds h.1 c h.3 h.4 f in
+    fails g h.1 ds c (subst (λ k. HoldsGrouping ks y g k h.1) (sym same.1) h.3) h.4 f
 
-pub derivings_missing : (ks : List Kind) → (a : ℕ) → (ps : List (ℕ × List ℕ)) → (m : ℕ) → FoundPointers ks a ps m → (g : Grouping) → (n : ℕ)
-    → OnlyGrouping ks m g n → (e : Stop) → FailsDerivings ks n e → FailsDeclaring ks a e
-derivings_missing ks a ps m x g n only e fails (Declaring_of ps' g' ds) c h f =
-    let same = pointers_same ks a ps m x ps' h.0 h.2 g' ds h.1 c h.3 h.4 f in
-    let more = only g' h.1 ds c (subst (λ y. HoldsGrouping ks g' y h.1) (sym same.1) h.3) h.4 f in
+pub derivings_missing : (ks : List Kind) → (y : Bool) → (a : ℕ) → (ps : List (ℕ × List ℕ)) → (m : ℕ) → FoundPointers ks a ps m → (g : Grouping) → (n : ℕ)
+    → OnlyGrouping ks y m g n → (e : Stop) → FailsDerivings ks n e → FailsDeclaring ks y a e
+derivings_missing ks y a ps m x g n only e fails (Declaring_of ps' g' ds) c h f =
+    let same = pointers_same ks y a ps m x ps' h.0 h.2 g' ds h.1 c h.3 h.4 f in
+    let more = only g' h.1 ds c (subst (λ k. HoldsGrouping ks y g' k h.1) (sym same.1) h.3) h.4 f in
     fails ds c (subst (λ y. HoldDerivings ks ds y c) (sym more.1) h.4) f
 
-pub declaring_found : (ks : List Kind) → (a : ℕ) → (ps : List (ℕ × List ℕ)) → (m : ℕ) → FoundPointers ks a ps m → (g : Grouping) → (n : ℕ)
-    → FoundGrouping ks m g n → (ds : Derivings) → (b : ℕ) → FoundDerivings ks n ds b → FoundDeclaring ks a (Declaring_of ps g ds) b
-declaring_found ks a ps m x g n y ds b z =
+pub declaring_found : (ks : List Kind) → (y : Bool) → (a : ℕ) → (ps : List (ℕ × List ℕ)) → (m : ℕ) → FoundPointers ks a ps m → (g : Grouping) → (n : ℕ)
+    → FoundGrouping ks y m g n → (ds : Derivings) → (b : ℕ) → FoundDerivings ks n ds b → FoundDeclaring ks y a (Declaring_of ps g ds) b
+declaring_found ks y a ps m x g n u ds b z =
     let one : a ≤ m = x.forth in
-    let two : m ≤ n = y.forth in
+    let two : m ≤ n = u.forth in
     let three : n ≤ b = z.forth in
-    record { reads = (m, n, x.reads, y.reads, z.reads); forth = omega arith; inside = z.inside }
+    record { reads = (m, n, x.reads, u.reads, z.reads); forth = omega arith; inside = z.inside }
 
-pub declaring_same : (ks : List Kind) → (a : ℕ) → (ps : List (ℕ × List ℕ)) → (m : ℕ) → FoundPointers ks a ps m → (g : Grouping) → (n : ℕ)
-    → OnlyGrouping ks m g n → (ds : Derivings) → (b : ℕ) → OnlyDerivings ks n ds b → OnlyDeclaring ks a (Declaring_of ps g ds) b
-declaring_same ks a ps m x g n y ds b z (Declaring_of ps' g' ds') c h f =
-    let one = pointers_same ks a ps m x ps' h.0 h.2 g' ds' h.1 c h.3 h.4 f in
-    let two = y g' h.1 ds' c (subst (λ k. HoldsGrouping ks g' k h.1) (sym one.1) h.3) h.4 f in
+pub declaring_same : (ks : List Kind) → (y : Bool) → (a : ℕ) → (ps : List (ℕ × List ℕ)) → (m : ℕ) → FoundPointers ks a ps m → (g : Grouping) → (n : ℕ)
+    → OnlyGrouping ks y m g n → (ds : Derivings) → (b : ℕ) → OnlyDerivings ks n ds b → OnlyDeclaring ks y a (Declaring_of ps g ds) b
+declaring_same ks y a ps m x g n u ds b z (Declaring_of ps' g' ds') c h f =
+    let one = pointers_same ks y a ps m x ps' h.0 h.2 g' ds' h.1 c h.3 h.4 f in
+    let two = u g' h.1 ds' c (subst (λ k. HoldsGrouping ks y g' k h.1) (sym one.1) h.3) h.4 f in
     let three = z ds' c (subst (λ k. HoldDerivings ks ds' k c) (sym two.1) h.4) f in (
       ap (λ k. Declaring_of k g ds) one.0 ∙ ap (λ k. Declaring_of ps' k ds) two.0 ∙ ap (λ k. Declaring_of ps' g' k) three.0,
       three.1,
     )
 
--- a group
-pub no_group : (ks : List Kind) → (a : ℕ) → (kind_at ks a ≡ OpenParen → kind_at ks (a + 1) ≡ CloseParen) → OnlyGrouping ks a No_group a
-no_group ks a k No_group m ds c h i f = (refl, sym h)
-no_group ks a k (Group_of o d e) m ds c h i f = absurd (abstract_begins ks d (a + 1) e h.2 h.3 (k h.1))
+-- a name, a group, or nothing
+pub no_group : (ks : List Kind) → (y : Bool) → (a : ℕ) → (y ≡ true → kind_at ks a ≡ Identifier → ⊥)
+    → (kind_at ks a ≡ OpenParen → opens_parameters (kind_at ks (a + 1)) ≡ true) → OnlyGrouping ks y a No_group a
+no_group ks y a n k No_group m ds c h i f = (refl, sym h)
+no_group ks y a n k (Named_of x) m ds c h i f = absurd (n h.0 h.2)
+no_group ks y a n k (Group_of o d e) m ds c h i f =
+    absurd (true≢false (sym (k h.1) ∙ written_begins ks y d (a + 1) e h.2 h.3))
 
-pub group_fails : (ks : List Kind) → (a : ℕ) → kind_at ks a ≡ OpenParen → (kind_at ks (a + 1) ≡ CloseParen → ⊥) → (e : Stop)
-    → FailsDeclaring ks (a + 1) e → FailsGrouping ks a e
-group_fails ks a k n e fails No_group m ds c h i f =
-    absurd (n (closes_next ks ds a c (subst (λ x. HoldDerivings ks ds x c) h i) f k))
-group_fails ks a k n e fails (Group_of o d b) m ds c h i f = fails d b h.3 (ap ends_type h.4)
+pub name_same : (ks : List Kind) → (y : Bool) → (a : ℕ) → kind_at ks a ≡ Identifier → OnlyGrouping ks y a (Named_of a) (a + 1)
+name_same ks y a k No_group m ds c h i f = no_name_next ks ds a c (subst (λ x. HoldDerivings ks ds x c) h i) f k
+name_same ks y a k (Named_of n) m ds c h i f = (ap Named_of (sym h.1), sym h.3)
+name_same ks y a k (Group_of o d e) m ds c h i f = clash (kind_at ks a) Identifier OpenParen k h.1 (λ x. omega (arith, x))
 
-pub group_left_open : (ks : List Kind) → (a : ℕ) → kind_at ks a ≡ OpenParen → (kind_at ks (a + 1) ≡ CloseParen → ⊥) → (d : Declaring) → (b : ℕ)
-    → OnlyDeclaring ks (a + 1) d b → (kind_at ks b ≡ CloseParen → ⊥) → (n : ℕ) → FailsGrouping ks a (stop.Syntax n)
-group_left_open ks a k n d b only u at No_group m ds c h i f =
-    absurd (n (closes_next ks ds a c (subst (λ x. HoldDerivings ks ds x c) h i) f k))
-group_left_open ks a k n d b only u at (Group_of o d' b') m ds c h i f =
+pub name_found : (ks : List Kind) → (y : Bool) → (a : ℕ) → names_at ks a y ≡ true → FoundGrouping ks y a (Named_of a) (a + 1)
+name_found ks y a h =
+    let k = name_stands ks a y h in
+    let i : a < length ks = test_inside is_identifier refl ks a (ap is_identifier k) in
+    record { reads = (name_may_stand ks a y h, refl, k, refl); forth = omega arith; inside = omega arith }
+
+closes_not : {A : Type 0} → (ks : List Kind) → (a c : ℕ) → kind_at ks a ≡ OpenParen → opens_parameters (kind_at ks (a + 1)) ≡ false
+    → (ds : Derivings) → (m : ℕ) → m ≡ a → HoldDerivings ks ds m c → ends_type (kind_at ks c) ≡ true → A
+closes_not ks a c k n ds m e i f =
+    absurd (true≢false (sym (parameters_next ks ds a c (subst (λ x. HoldDerivings ks ds x c) e i) f k) ∙ n))
+
+pub group_fails : (ks : List Kind) → (y : Bool) → (a : ℕ) → kind_at ks a ≡ OpenParen → opens_parameters (kind_at ks (a + 1)) ≡ false → (e : Stop)
+    → FailsDeclaring ks y (a + 1) e → FailsGrouping ks y a e
+group_fails ks y a k n e fails No_group m ds c h i f = closes_not ks a c k n ds m h i f
+group_fails ks y a k n e fails (Named_of x) m ds c h i f = clash (kind_at ks a) OpenParen Identifier k h.2 (λ z. omega (arith, z))
+group_fails ks y a k n e fails (Group_of o d b) m ds c h i f = fails d b h.3 (ap ends_type h.4)
+
+pub group_left_open : (ks : List Kind) → (y : Bool) → (a : ℕ) → kind_at ks a ≡ OpenParen → opens_parameters (kind_at ks (a + 1)) ≡ false
+    → (d : Declaring) → (b : ℕ) → OnlyDeclaring ks y (a + 1) d b → (kind_at ks b ≡ CloseParen → ⊥) → (n : ℕ) → FailsGrouping ks y a (stop.Syntax n)
+group_left_open ks y a k n d b only u at No_group m ds c h i f = closes_not ks a c k n ds m h i f
+group_left_open ks y a k n d b only u at (Named_of x) m ds c h i f = clash (kind_at ks a) OpenParen Identifier k h.2 (λ z. omega (arith, z))
+group_left_open ks y a k n d b only u at (Group_of o d' b') m ds c h i f =
     u (ap (λ x. kind_at ks x) (only d' b' h.3 (ap ends_type h.4)).1 ∙ h.4)
 
-abstract_by : (ks : List Kind) → (d : Declaring) → (a c : ℕ) → HoldsDeclaring ks d a c → kind_at ks c ≡ CloseParen → (kind_at ks a ≡ CloseParen → ⊥)
-    → IsAbstract d
-abstract_by ks (Declaring_of (p ∷ ps) g ds) a c h e n = tt
-abstract_by ks (Declaring_of [] (Group_of o d b) ds) a c h e n = tt
-abstract_by ks (Declaring_of [] No_group (Deriving_then d ds)) a c h e n = tt
-abstract_by ks (Declaring_of [] No_group No_derivings) a c h e n = n (ap (λ x. kind_at ks x) (sym (h.4 ∙ h.3 ∙ h.2)) ∙ e)
+written_by : (ks : List Kind) → (y : Bool) → (d : Declaring) → (a c : ℕ) → HoldsDeclaring ks y d a c → kind_at ks c ≡ CloseParen
+    → opens_parameters (kind_at ks a) ≡ false → IsWritten d
+written_by ks y (Declaring_of (p ∷ ps) g ds) a c h e n = tt
+written_by ks y (Declaring_of [] (Named_of x) ds) a c h e n = tt
+written_by ks y (Declaring_of [] (Group_of o d b) ds) a c h e n = tt
+written_by ks y (Declaring_of [] No_group (Deriving_then d ds)) a c h e n = tt
+written_by ks y (Declaring_of [] No_group No_derivings) a c h e n =
+    true≢false (sym (ap opens_parameters (ap (λ x. kind_at ks x) (sym (h.4 ∙ h.3 ∙ h.2)) ∙ e)) ∙ n)
 
-pub group_found : (ks : List Kind) → (a : ℕ) → kind_at ks a ≡ OpenParen → (kind_at ks (a + 1) ≡ CloseParen → ⊥) → (d : Declaring) → (b : ℕ)
-    → FoundDeclaring ks (a + 1) d b → kind_at ks b ≡ CloseParen → b < length ks → FoundGrouping ks a (Group_of a d b) (b + 1)
-group_found ks a k n d b found l i =
+pub group_found : (ks : List Kind) → (y : Bool) → (a : ℕ) → kind_at ks a ≡ OpenParen → opens_parameters (kind_at ks (a + 1)) ≡ false
+    → (d : Declaring) → (b : ℕ) → FoundDeclaring ks y (a + 1) d b → kind_at ks b ≡ CloseParen → b < length ks
+    → FoundGrouping ks y a (Group_of a d b) (b + 1)
+group_found ks y a k n d b found l i =
     let one : a + 1 ≤ b = found.forth in
     record {
-      reads = (refl, k, abstract_by ks d (a + 1) b found.reads l n, found.reads, l, refl);
+      reads = (refl, k, written_by ks y d (a + 1) b found.reads l n, found.reads, l, refl);
       forth = omega arith;
       inside = omega arith;
     }
 
-pub group_same : (ks : List Kind) → (a : ℕ) → kind_at ks a ≡ OpenParen → (kind_at ks (a + 1) ≡ CloseParen → ⊥) → (d : Declaring) → (b : ℕ)
-    → OnlyDeclaring ks (a + 1) d b → OnlyGrouping ks a (Group_of a d b) (b + 1)
-group_same ks a k n d b only No_group m ds c h i f =
-    absurd (n (closes_next ks ds a c (subst (λ x. HoldDerivings ks ds x c) h i) f k))
-group_same ks a k n d b only (Group_of o d' b') m ds c h i f =
+pub group_same : (ks : List Kind) → (y : Bool) → (a : ℕ) → kind_at ks a ≡ OpenParen → opens_parameters (kind_at ks (a + 1)) ≡ false
+    → (d : Declaring) → (b : ℕ) → OnlyDeclaring ks y (a + 1) d b → OnlyGrouping ks y a (Group_of a d b) (b + 1)
+group_same ks y a k n d b only No_group m ds c h i f = closes_not ks a c k n ds m h i f
+group_same ks y a k n d b only (Named_of x) m ds c h i f = clash (kind_at ks a) OpenParen Identifier k h.2 (λ z. omega (arith, z))
+group_same ks y a k n d b only (Group_of o d' b') m ds c h i f =
     let same = only d' b' h.3 (ap ends_type h.4) in (
       ap (λ x. Group_of x d b) (sym h.0) ∙ ap (λ x. Group_of o x b) same.0 ∙ ap (λ x. Group_of o d' x) same.1,
       ap (λ x. x + 1) same.1 ∙ sym h.5,
     )
 
 -- functions and arrays
-pub function_found : (ks : List Kind) → (a : ℕ) → kind_at ks a ≡ OpenParen → kind_at ks (a + 1) ≡ CloseParen → a + 1 < length ks
-    → FoundDeriving ks a (Function_of a (a + 1)) (a + 2)
-function_found ks a k l i =
-    let two : a + 2 ≡ (a + 1) + 1 = omega arith in
-    record { reads = (refl, k, refl, l, two); forth = omega arith; inside = omega arith }
+pub function_found : (ks : List Kind) → (a : ℕ) → kind_at ks a ≡ OpenParen → (ps : Parameters) → (c : ℕ) → FoundParameters ks (a + 1) ps c
+    → kind_at ks c ≡ CloseParen → c < length ks → FoundDeriving ks a (Function_of a ps c) (c + 1)
+function_found ks a k ps c found l i =
+    let one : a + 1 ≤ c = found.forth in
+    record { reads = (refl, k, found.reads, l, refl); forth = omega arith; inside = omega arith }
 
 pub found_deriving_only : (ks : List Kind) → (a : ℕ) → (d : Deriving) → (b : ℕ) → FoundDeriving ks a d b → OnlyDeriving ks a d b
 found_deriving_only ks a d b found = deriving_only ks d a b (everywhere ks a) found.reads
 
-pub function_left_open : (ks : List Kind) → (a : ℕ) → kind_at ks a ≡ OpenParen → (kind_at ks (a + 1) ≡ CloseParen → ⊥) → (n : ℕ)
-    → FailsDeriving ks a (stop.Syntax n)
-function_left_open ks a k u n (Array_of o x c) b h = clash (kind_at ks a) OpenBracket OpenParen h.1 k (λ y. omega (arith, y))
-function_left_open ks a k u n (Function_of o c) b h = u (ap (λ x. kind_at ks x) (sym h.2) ∙ h.3)
+pub function_fails : (ks : List Kind) → (a : ℕ) → kind_at ks a ≡ OpenParen → (e : Stop) → FailsParameters ks (a + 1) e → FailsDeriving ks a e
+function_fails ks a k e fails (Array_of o x c) b h = clash (kind_at ks a) OpenBracket OpenParen h.1 k (λ y. omega (arith, y))
+function_fails ks a k e fails (Function_of o ps c) b h = fails ps c h.2 h.3
+
+pub function_left_open : (ks : List Kind) → (a : ℕ) → kind_at ks a ≡ OpenParen → (ps : Parameters) → (c : ℕ) → OnlyParameters ks (a + 1) ps c
+    → (kind_at ks c ≡ CloseParen → ⊥) → (n : ℕ) → FailsDeriving ks a (stop.Syntax n)
+function_left_open ks a k ps c only u n (Array_of o x c') b h = clash (kind_at ks a) OpenBracket OpenParen h.1 k (λ y. omega (arith, y))
+function_left_open ks a k ps c only u n (Function_of o ps' c') b h = u (ap (λ y. kind_at ks y) (only ps' c' h.2 h.3).1 ∙ h.3)
 
 pub array_fails : (ks : List Kind) → (a : ℕ) → kind_at ks a ≡ OpenBracket → (e : Stop) → FailsBound ks (a + 1) e → FailsDeriving ks a e
 array_fails ks a k e fails (Array_of o x c) b h = fails x c h.2 h.3
-array_fails ks a k e fails (Function_of o c) b h = clash (kind_at ks a) OpenBracket OpenParen k h.1 (λ y. omega (arith, y))
+array_fails ks a k e fails (Function_of o ps c) b h = clash (kind_at ks a) OpenBracket OpenParen k h.1 (λ y. omega (arith, y))
 
 pub array_left_open : (ks : List Kind) → (a : ℕ) → kind_at ks a ≡ OpenBracket → (x : Bound) → (c : ℕ) → OnlyBound ks (a + 1) x c
     → (kind_at ks c ≡ CloseBracket → ⊥) → (n : ℕ) → FailsDeriving ks a (stop.Syntax n)
 array_left_open ks a k x c only u n (Array_of o x' c') b h = u (ap (λ y. kind_at ks y) (only x' c' h.2 h.3).1 ∙ h.3)
-array_left_open ks a k x c only u n (Function_of o c') b h = clash (kind_at ks a) OpenBracket OpenParen k h.1 (λ y. omega (arith, y))
+array_left_open ks a k x c only u n (Function_of o ps c') b h = clash (kind_at ks a) OpenBracket OpenParen k h.1 (λ y. omega (arith, y))
 
 pub array_found : (ks : List Kind) → (a : ℕ) → kind_at ks a ≡ OpenBracket → (x : Bound) → (c : ℕ) → FoundBound ks (a + 1) x c
     → kind_at ks c ≡ CloseBracket → c < length ks → FoundDeriving ks a (Array_of a x c) (c + 1)
@@ -205,7 +237,7 @@ derived_start ks at i = record {
 
 begins_deriving : (ks : List Kind) → (d : Deriving) → (a b : ℕ) → HoldsDeriving ks d a b → is_deriving (kind_at ks a) ≡ true
 begins_deriving ks (Array_of o x c) a b h = ap is_deriving h.1
-begins_deriving ks (Function_of o c) a b h = ap is_deriving h.1
+begins_deriving ks (Function_of o ps c) a b h = ap is_deriving h.1
 
 ends_derives_not : {A : Type 0} → (k : Kind) → is_deriving k ≡ true → ends_type k ≡ true → A
 ends_derives_not OpenBracket h e = absurd (true≢false (sym e))

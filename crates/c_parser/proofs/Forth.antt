@@ -3,9 +3,9 @@ use Rattle.std.proofs.Common.{ℕ, ◌≤◌, List, Bool}
 use Rattle.tree_data.specs.Trees.{Tree, Behind, Front, Fronts, Piece, Designator, Designators, Association, Specifyings, Naming, Declaring, Grouping, Deriving, Bound}
 use Rattle.c_parser.specs.declared.kinds.Kind.{Kind}
 use Rattle.c_parser.specs.Grammar.{spell, spell_behind, spell_front, spell_fronts, spell_piece, spell_designator, spell_designators, spell_association, spell_specifyings, spell_type, spell_declaring, spell_grouping, spell_deriving, spell_bound}
-use Rattle.c_parser.specs.Reading.{Holds, HoldsBehind, HoldsFront, HoldFronts, HoldsPiece, HoldsDesignator, HoldDesignators, HoldsAssociation, HoldSpecifyings, HoldsType, HoldsDeclaring, HoldsGrouping, HoldsDeriving, HoldsBound}
+use Rattle.c_parser.specs.Reading.{Holds, HoldsBehind, HoldsFront, HoldFronts, HoldsPiece, HoldsDesignator, HoldDesignators, HoldsAssociation, HoldSpecifyings, HoldsNaming, HoldsType, HoldsDeclaring, HoldsGrouping, HoldsDeriving, HoldsBound}
 use Rattle.c_parser.proofs.Numbers.{spans_forth}
-use Rattle.c_parser.proofs.Spans.{spanned, spanned_behind, spanned_front, spanned_fronts, spanned_piece, spanned_designator, spanned_designators, spanned_association, spanned_specifyings, spanned_type, spanned_declaring, spanned_grouping, spanned_deriving, spanned_bound}
+use Rattle.c_parser.proofs.Spans.{spanned, spanned_behind, spanned_front, spanned_fronts, spanned_piece, spanned_designator, spanned_designators, spanned_association, spanned_specifyings, spanned_naming, spanned_type, spanned_declaring, spanned_grouping, spanned_deriving, spanned_bound}
 
 pub tree_forth : (ks : List Kind) → (t : Tree) → (a b : ℕ) → Holds ks t a b → a ≤ b
 tree_forth ks t a b h = spans_forth (spell t) a b (spanned ks t a b h)
@@ -37,11 +37,14 @@ specifyings_forth ks y ss a b h = spans_forth (spell_specifyings ss) a b (spanne
 pub type_forth : (ks : List Kind) → (t : Naming) → (a b : ℕ) → HoldsType ks t a b → a ≤ b
 type_forth ks t a b h = spans_forth (spell_type t) a b (spanned_type ks t a b h)
 
-pub declaring_forth : (ks : List Kind) → (d : Declaring) → (a b : ℕ) → HoldsDeclaring ks d a b → a ≤ b
-declaring_forth ks d a b h = spans_forth (spell_declaring d) a b (spanned_declaring ks d a b h)
+pub naming_forth : (ks : List Kind) → (y : Bool) → (t : Naming) → (a b : ℕ) → HoldsNaming ks y t a b → a ≤ b
+naming_forth ks y t a b h = spans_forth (spell_type t) a b (spanned_naming ks y t a b h)
 
-pub grouping_forth : (ks : List Kind) → (g : Grouping) → (a b : ℕ) → HoldsGrouping ks g a b → a ≤ b
-grouping_forth ks g a b h = spans_forth (spell_grouping g) a b (spanned_grouping ks g a b h)
+pub declaring_forth : (ks : List Kind) → (y : Bool) → (d : Declaring) → (a b : ℕ) → HoldsDeclaring ks y d a b → a ≤ b
+declaring_forth ks y d a b h = spans_forth (spell_declaring d) a b (spanned_declaring ks y d a b h)
+
+pub grouping_forth : (ks : List Kind) → (y : Bool) → (g : Grouping) → (a b : ℕ) → HoldsGrouping ks y g a b → a ≤ b
+grouping_forth ks y g a b h = spans_forth (spell_grouping g) a b (spanned_grouping ks y g a b h)
 
 pub deriving_forth : (ks : List Kind) → (d : Deriving) → (a b : ℕ) → HoldsDeriving ks d a b → a ≤ b
 deriving_forth ks d a b h = spans_forth (spell_deriving d) a b (spanned_deriving ks d a b h)

@@ -9,6 +9,7 @@ mod Marks
 mod Numbers
 mod OneReading
 mod Openings
+mod ParameterLists
 mod Parsing
 mod Pushes
 mod Spans

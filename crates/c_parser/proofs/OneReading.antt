@@ -105,7 +105,7 @@ same_size ks t a b w y c e k h l f t' b' (an_offset k' v) = absurd (true≢false
 same_size ks t a b w y c e k h l f t' b' (a_paren u d e' k' r l' f') = absurd (true≢false (sym k ∙ ap is_size k'))
 same_size ks t a b w y c e k h l f t' b' (a_compound y' c' i' e' k' h' l' g') = absurd (true≢false (sym k ∙ ap is_size k'))
 same_size ks t a b w y c e k h l f t' b' (a_size y' c' e' k' o h' l' f' n') =
-    let same = w y c h (ap ends_type l) y' c' h' (ap ends_type l') in (
+    let same = w false y c h (ap ends_type l) y' c' h' (ap ends_type l') in (
       e ∙ ap (λ x. Of_type a (a + 1) x c) same.0 ∙ ap (λ x. Of_type a (a + 1) y' x) same.1 ∙ sym e',
       f ∙ ap (λ x. x + 1) same.1 ∙ sym f',
     )
@@ -125,7 +125,7 @@ same_compound ks a w y c i b k h l only t' b' (a_size y' d e' k' o h' l' f' n') 
 same_compound ks a w y c i b k h l only t' b' (a_paren u d e' k' r l' f') =
     absurd (true≢false (sym (type_starts ks y (a + 1) c h) ∙ no_type (kind_at ks (a + 1)) (starts ks u (a + 1) d r.1)))
 same_compound ks a w y c i b k h l only t' b' (a_compound y' c' i' e' k' h' l' g') =
-    let same = w y c h (ap ends_type l) y' c' h' (ap ends_type l') in
+    let same = w false y c h (ap ends_type l) y' c' h' (ap ends_type l') in
     let more = only i' b' (subst (λ x. HoldBraces ks i' (x + 1) b') (sym same.1) g') in (
       ap (λ x. Compound_of a x c i) same.0
           ∙ ap (λ x. Compound_of a y' x i) same.1
@@ -174,7 +174,7 @@ same_offset ks a w y m bs c k h p only t' b' (a_size z d e' k' o g l f' n') = ab
 same_offset ks a w y m bs c k h p only t' b' (a_compound z d i e' k' g l q) = clash (kind_at ks a) OffsetOf OpenParen k k' (λ x. omega (arith, x))
 same_offset ks a w y m bs c k h p only t' b' (a_generic k' v) = clash (kind_at ks a) OffsetOf Generic k k' (λ x. omega (arith, x))
 same_offset ks a w y m bs c k h p only t' b' (an_offset k' v) =
-    let first = w y m h (ap ends_type p) v.name v.comma v.holds (ap ends_type v.parts) in
+    let first = w false y m h (ap ends_type p) v.name v.comma v.holds (ap ends_type v.parts) in
     let rest =
     only
     v.steps
@@ -503,7 +503,7 @@ same_cast : (ks : List Kind) → (o : ℕ) → (y : Naming) → (c a m : ℕ) �
     → (x' : Front) → (m' : ℕ) → Prefixing ks x' a m' → (Cast_of o y c ≡ x') × (m ≡ m')
 same_cast ks o y c a m w e k h l f x' m' (an_operator e' k' f') = opened_prefix ks a k' k
 same_cast ks o y c a m w e k h l f x' m' (a_cast y' c' e' k' z h' l' f' u') =
-    let same = w y c h (ap ends_type l) y' c' h' (ap ends_type l') in (
+    let same = w false y c h (ap ends_type l) y' c' h' (ap ends_type l') in (
       ap (λ x. Cast_of x y c) e ∙ ap (λ x. Cast_of a x c) same.0 ∙ ap (λ x. Cast_of a y' x) same.1 ∙ sym e',
       f ∙ ap (λ x. x + 1) same.1 ∙ sym f',
     )
@@ -1013,7 +1013,7 @@ mutual
   pub association_only : (ks : List Kind) → (x : Association) → (a b : ℕ) → From ks a → HoldsAssociation ks x a b → Stops ks 2 b
       → (x' : Association) → (b' : ℕ) → HoldsAssociation ks x' a b' → Stops ks 2 b' → (x ≡ x') × (b ≡ b')
   association_only ks (Typed_of t c e) a b w h s (Typed_of t' c' e') b' h' s' =
-      let one = w a (omega arith) t c h.0 (ap ends_type h.1) t' c' h'.0 (ap ends_type h'.1) in
+      let one = w a (omega arith) false t c h.0 (ap ends_type h.1) t' c' h'.0 (ap ends_type h'.1) in
       let two =
       placed ks 2 e (c + 1) b (later ks a (c + 1) (omega (arith, type_forth ks t a c h.0)) w) (omega arith) (h.2, h.3) s (own_only ks e (c + 1) b (later ks a (c + 1) (omega (arith, type_forth ks t a c h.0)) w) h.3 (looser ks 2 (rank ks e) b h.2 s))
       e' b' (h'.2, subst (λ x. Holds ks e' (x + 1) b') (sym one.1) h'.3) s' in (

@@ -1,15 +1,15 @@
 -- A tree holds from one place to another exactly where it is formed and spells the numbers between them.
-use Rattle.std.proofs.Common.{◌≡◌, refl, ap, sym, ◌∙◌, subst, ℕ, ◌+◌, List, [], ◌∷◌, ◌++◌, ◌||◌, Bool, false, length, arith, Option, Some, None}
-use Rattle.tree_data.specs.Trees.{Tree, Name_of, Constant_of, Text_of, Paren_of, Postfix_of, Unary_of, Binary_of, Conditional_of, Assign_of, Of_type, Compound_of, Behind, Operand_of, Index_of, Call_of, Call_with_of, Member_of, Step_of, Behinds, None_behind, Behind_then, Front, Operator_of, Cast_of, Choice_of, Left_of, Fronts, None_before, Front_then, Braces, Braces_of, Initial, Value_of, List_of, Piece, Plain_of, Designated_of, Pieces, No_pieces, Piece_then, Designator, Element_of, Field_of, Designators, No_designators, Designator_then, Generic_of, Offset_of, Association, Typed_of, Default_of, Associations, No_associations, Association_then, Specifying, Word_of, Typedef_of, Tag_of, Atomic_of, Specifyings, No_specifiers, Specifier_then, Naming, Type_of, Declaring, Declaring_of, Grouping, No_group, Group_of, Deriving, Array_of, Function_of, Derivings, No_derivings, Deriving_then, Bound, Unsized_of, Any_size_of, Sized_of, Static_sized_of, Sized_static_of}
+use Rattle.std.proofs.Common.{◌≡◌, refl, ap, sym, ◌∙◌, subst, ℕ, ◌+◌, List, [], ◌∷◌, ◌++◌, ◌||◌, Bool, true, false, length, arith, Option, Some, None}
+use Rattle.tree_data.specs.Trees.{Tree, Name_of, Constant_of, Text_of, Paren_of, Postfix_of, Unary_of, Binary_of, Conditional_of, Assign_of, Of_type, Compound_of, Behind, Operand_of, Index_of, Call_of, Call_with_of, Member_of, Step_of, Behinds, None_behind, Behind_then, Front, Operator_of, Cast_of, Choice_of, Left_of, Fronts, None_before, Front_then, Braces, Braces_of, Initial, Value_of, List_of, Piece, Plain_of, Designated_of, Pieces, No_pieces, Piece_then, Designator, Element_of, Field_of, Designators, No_designators, Designator_then, Generic_of, Offset_of, Association, Typed_of, Default_of, Associations, No_associations, Association_then, Specifying, Word_of, Typedef_of, Tag_of, Atomic_of, Specifyings, No_specifiers, Specifier_then, Naming, Type_of, Declaring, Declaring_of, No_parameters, Fixed_of, Variadic_of, Parameters, Row, No_more, Parameter_then, Named_of, Grouping, No_group, Group_of, Deriving, Array_of, Function_of, Derivings, No_derivings, Deriving_then, Bound, Unsized_of, Any_size_of, Sized_of, Static_sized_of, Sized_static_of}
 use Rattle.c_parser.specs.declared.kinds.Kind.{Kind}
 use Rattle.c_parser.specs.declared.kinds.Kind.TheVariants.{Text, OpenBrace}
-use Rattle.c_parser.specs.Grammar.{spell, spell_behind, spell_behinds, spell_front, spell_fronts, IsFormed, IsBehind, AreBehind, IsInFront, AreInFront, GoOn, IsExpression, numbers, spell_comma, spell_braces, spell_initial, spell_piece, spell_pieces, spell_designator, spell_designators, IsComma, AreBraced, IsInitial, IsPiece, ArePieces, IsDesignator, AreDesignators, spell_association, spell_associations, IsAssociated, AreAssociated, spell_specifying, spell_specifyings, spell_type, spell_declaring, spell_grouping, spell_deriving, spell_derivings, spell_bound, has_type, IsSpecifying, AreSpecifying, IsType, IsDeclaring, IsGrouping, IsDerived, AreDerived, IsBound}
+use Rattle.c_parser.specs.Grammar.{spell, spell_behind, spell_behinds, spell_front, spell_fronts, IsFormed, IsBehind, AreBehind, IsInFront, AreInFront, GoOn, IsExpression, numbers, spell_comma, spell_braces, spell_initial, spell_piece, spell_pieces, spell_designator, spell_designators, IsComma, AreBraced, IsInitial, IsPiece, ArePieces, IsDesignator, AreDesignators, spell_association, spell_associations, IsAssociated, AreAssociated, spell_specifying, spell_specifyings, spell_type, spell_declaring, spell_grouping, spell_deriving, spell_derivings, spell_bound, has_type, IsSpecifying, AreSpecifying, IsNaming, AreParameters, AreMore, spell_parameters, spell_row, IsDeclaring, IsGrouping, IsDerived, AreDerived, IsBound}
 use Rattle.c_parser.specs.Kinds.{kind_at, level_at, is_prefix, is_size, casts_at, is_dot, is_member, specifies_at}
 use Rattle.c_parser.specs.Levels.{behinds_level}
 use Rattle.c_parser.specs.Declarators.{spell_pointers}
 use Rattle.c_parser.proofs.Numbers.{Spans, spans_join, spans_split, numbers_span, span_numbers}
 use Rattle.c_parser.proofs.Types.{qualifiers_formed, qualifiers_spanned, qualifiers_held, pointers_formed, pointers_spanned, pointers_held}
-use Rattle.c_parser.specs.Reading.{HoldTexts, Holds, HoldsBehind, HoldBehinds, HoldsFront, HoldFronts, Reads, HoldsComma, HoldBraces, HoldsInitial, HoldsPiece, HoldPieces, HoldsDesignator, HoldDesignators, HoldsAssociation, HoldAssociations, HoldQualifiers, HoldSpecifying, HoldSpecifyings, HoldsType, HoldsDeclaring, HoldsGrouping, HoldsDeriving, HoldDerivings, HoldsBound}
+use Rattle.c_parser.specs.Reading.{HoldTexts, Holds, HoldsBehind, HoldBehinds, HoldsFront, HoldFronts, Reads, HoldsComma, HoldBraces, HoldsInitial, HoldsPiece, HoldPieces, HoldsDesignator, HoldDesignators, HoldsAssociation, HoldAssociations, HoldQualifiers, HoldSpecifying, HoldSpecifyings, HoldsNaming, HoldParameters, HoldRow, HoldsDeclaring, HoldsGrouping, HoldsDeriving, HoldDerivings, HoldsBound}
 
 -- a comma that may be left out
 comma_formed : (ks : List Kind) → (t : Option ℕ) → (a b : ℕ) → HoldsComma ks t a b → IsComma ks t
@@ -42,9 +42,9 @@ mutual
   formed ks (Paren_of o t c) a b h = (ap (λ x. kind_at ks x) h.0 ∙ h.1, h.2, formed ks t (a + 1) c h.3, h.4)
   formed ks (Postfix_of f bs) a b h = (h.1, h.5, h.2, formed ks f a h.0 h.3, formed_behinds ks 16 bs h.0 b h.4)
   formed ks (Of_type k o t c) a b h =
-      (ap (λ x. is_size (kind_at ks x)) h.0 ∙ h.1, h.3, formed_type ks t (o + 1) c h.4, h.5, subst (λ x. kind_at ks x ≡ OpenBrace → ⊥) h.6 h.7)
+      (ap (λ x. is_size (kind_at ks x)) h.0 ∙ h.1, h.3, formed_naming ks false t (o + 1) c h.4, h.5, subst (λ x. kind_at ks x ≡ OpenBrace → ⊥) h.6 h.7)
   formed ks (Compound_of o t c i) a b h =
-      (ap (λ x. kind_at ks x) h.0 ∙ h.1, formed_type ks t (a + 1) c h.2, h.3, formed_braces ks i (c + 1) b h.4)
+      (ap (λ x. kind_at ks x) h.0 ∙ h.1, formed_naming ks false t (a + 1) c h.2, h.3, formed_braces ks i (c + 1) b h.4)
   formed ks (Generic_of k o t gs c) a b h = (
     ap (λ x. kind_at ks x) h.1 ∙ h.2,
     h.4,
@@ -57,7 +57,7 @@ mutual
   formed ks (Offset_of k o t m n bs c) a b h = (
     ap (λ x. kind_at ks x) h.0 ∙ h.1,
     h.3,
-    formed_type ks t (o + 1) m h.4,
+    formed_naming ks false t (o + 1) m h.4,
     h.5,
     h.7,
     h.8,
@@ -98,7 +98,7 @@ mutual
     h.0,
     ap (λ x. kind_at ks x) h.1 ∙ h.2,
     ap (λ x. casts_at ks x) h.1 ∙ h.3,
-    formed_type ks t (a + 1) c h.4,
+    formed_naming ks false t (a + 1) c h.4,
     h.5,
     subst (λ x. kind_at ks x ≡ OpenBrace → ⊥) h.6 h.7,
   )
@@ -144,7 +144,7 @@ mutual
       (formed_designator ks d a h.0 h.1, formed_designators ks ds h.0 b h.2)
 
   formed_association : (ks : List Kind) → (x : Association) → (a b : ℕ) → HoldsAssociation ks x a b → IsAssociated ks x
-  formed_association ks (Typed_of t c e) a b h = (formed_type ks t a c h.0, h.1, h.2, formed ks e (c + 1) b h.3)
+  formed_association ks (Typed_of t c e) a b h = (formed_naming ks false t a c h.0, h.1, h.2, formed ks e (c + 1) b h.3)
   formed_association ks (Default_of d c e) a b h =
       (ap (λ x. kind_at ks x) h.0 ∙ h.1, h.3, h.4, formed ks e (c + 1) b h.5)
 
@@ -158,30 +158,43 @@ mutual
   formed_specifying ks y (Typedef_of n) a b h = (h.1, ap (λ x. kind_at ks x) h.0 ∙ h.2)
   formed_specifying ks y (Tag_of k n) a b h = (ap (λ x. kind_at ks x) h.0 ∙ h.1, h.3)
   formed_specifying ks y (Atomic_of k o t c) a b h =
-      (ap (λ x. kind_at ks x) h.0 ∙ h.1, h.3, formed_type ks t (o + 1) c h.4, h.5)
+      (ap (λ x. kind_at ks x) h.0 ∙ h.1, h.3, formed_naming ks false t (o + 1) c h.4, h.5)
 
   formed_specifyings : (ks : List Kind) → (y : Bool) → (ss : Specifyings) → (a b : ℕ) → HoldSpecifyings ks y ss a b → AreSpecifying ks y ss
   formed_specifyings ks y No_specifiers a b h = tt
   formed_specifyings ks y (Specifier_then s ss) a b h =
       (formed_specifying ks y s a h.0 h.1, formed_specifyings ks (has_type ks s || y) ss h.0 b h.2)
 
-  pub formed_type : (ks : List Kind) → (t : Naming) → (a b : ℕ) → HoldsType ks t a b → IsType ks t
-  formed_type ks (Type_of ss d) a b h =
-      (h.1, formed_specifyings ks false ss a h.0 h.2, formed_declaring ks d h.0 b h.3)
+  pub formed_naming : (ks : List Kind) → (y : Bool) → (t : Naming) → (a b : ℕ) → HoldsNaming ks y t a b → IsNaming ks y t
+  formed_naming ks y (Type_of ss d) a b h =
+      (h.1, formed_specifyings ks false ss a h.0 h.2, formed_declaring ks y d h.0 b h.3)
 
-  formed_declaring : (ks : List Kind) → (d : Declaring) → (a b : ℕ) → HoldsDeclaring ks d a b → IsDeclaring ks d
-  formed_declaring ks (Declaring_of ps g ds) a b h =
-      (pointers_formed ks ps a h.0 h.2, formed_grouping ks g h.0 h.1 h.3, formed_derivings ks ds h.1 b h.4)
+  formed_declaring : (ks : List Kind) → (y : Bool) → (d : Declaring) → (a b : ℕ) → HoldsDeclaring ks y d a b → IsDeclaring ks y d
+  formed_declaring ks y (Declaring_of ps g ds) a b h =
+      (pointers_formed ks ps a h.0 h.2, formed_grouping ks y g h.0 h.1 h.3, formed_derivings ks ds h.1 b h.4)
 
-  formed_grouping : (ks : List Kind) → (g : Grouping) → (a b : ℕ) → HoldsGrouping ks g a b → IsGrouping ks g
-  formed_grouping ks No_group a b h = tt
-  formed_grouping ks (Group_of o d c) a b h =
-      (ap (λ x. kind_at ks x) h.0 ∙ h.1, h.2, formed_declaring ks d (a + 1) c h.3, h.4)
+  formed_grouping : (ks : List Kind) → (y : Bool) → (g : Grouping) → (a b : ℕ) → HoldsGrouping ks y g a b → IsGrouping ks y g
+  formed_grouping ks y No_group a b h = tt
+  formed_grouping ks y (Named_of n) a b h = (h.0, ap (λ x. kind_at ks x) h.1 ∙ h.2)
+  formed_grouping ks y (Group_of o d c) a b h =
+      (ap (λ x. kind_at ks x) h.0 ∙ h.1, h.2, formed_declaring ks y d (a + 1) c h.3, h.4)
 
   formed_deriving : (ks : List Kind) → (d : Deriving) → (a b : ℕ) → HoldsDeriving ks d a b → IsDerived ks d
   formed_deriving ks (Array_of o x c) a b h =
       (ap (λ y. kind_at ks y) h.0 ∙ h.1, formed_bound ks x (a + 1) c h.2, h.3)
-  formed_deriving ks (Function_of o c) a b h = (ap (λ x. kind_at ks x) h.0 ∙ h.1, h.3)
+  formed_deriving ks (Function_of o ps c) a b h =
+      (ap (λ x. kind_at ks x) h.0 ∙ h.1, formed_parameters ks ps (a + 1) c h.2, h.3)
+
+  formed_parameters : (ks : List Kind) → (ps : Parameters) → (a b : ℕ) → HoldParameters ks ps a b → AreParameters ks ps
+  formed_parameters ks No_parameters a b h = tt
+  formed_parameters ks (Fixed_of p ps) a b h = (formed_naming ks true p a h.0 h.1, formed_row ks ps h.0 b h.2)
+  formed_parameters ks (Variadic_of p ps o d) a b h =
+      (formed_naming ks true p a h.0 h.1, formed_row ks ps h.0 o h.2, h.3, h.5)
+
+  formed_row : (ks : List Kind) → (ps : Row) → (a b : ℕ) → HoldRow ks ps a b → AreMore ks ps
+  formed_row ks No_more a b h = tt
+  formed_row ks (Parameter_then o p ps) a b h =
+      (ap (λ x. kind_at ks x) h.1 ∙ h.2, formed_naming ks true p (a + 1) h.0 h.3, formed_row ks ps h.0 b h.4)
 
   formed_derivings : (ks : List Kind) → (ds : Derivings) → (a b : ℕ) → HoldDerivings ks ds a b → AreDerived ks ds
   formed_derivings ks No_derivings a b h = tt
@@ -213,7 +226,7 @@ mutual
       subst
           (λ x. Spans (spell_type t ++ c ∷ []) x b)
           (ap (λ x. x + 1) h.2)
-          (spans_join (spell_type t) (c ∷ []) (o + 1) c b (spanned_type ks t (o + 1) c h.4) (refl, h.6)),
+          (spans_join (spell_type t) (c ∷ []) (o + 1) c b (spanned_naming ks false t (o + 1) c h.4) (refl, h.6)),
     ),
   )
   spanned ks (Compound_of o t c i) a b h = (
@@ -224,7 +237,7 @@ mutual
         (a + 1)
         c
         b
-        (spanned_type ks t (a + 1) c h.2)
+        (spanned_naming ks false t (a + 1) c h.2)
         (refl, spanned_braces ks i (c + 1) b h.4),
   )
   spanned ks (Generic_of k o t gs c) a b h = (
@@ -257,7 +270,7 @@ mutual
           (o + 1)
           m
           b
-          (spanned_type ks t (o + 1) m h.4) (
+          (spanned_naming ks false t (o + 1) m h.4) (
             refl,
             (
               h.6,
@@ -321,7 +334,7 @@ mutual
   pub spanned_front : (ks : List Kind) → (l : ℕ) → (x : Front) → (a b : ℕ) → HoldsFront ks l x a b → Spans (spell_front x) a b
   spanned_front ks l (Operator_of o) a b h = (h.1, h.3)
   spanned_front ks l (Cast_of o t c) a b h =
-      (h.1, spans_join (spell_type t) (c ∷ []) (a + 1) c b (spanned_type ks t (a + 1) c h.4) (refl, h.6))
+      (h.1, spans_join (spell_type t) (c ∷ []) (a + 1) c b (spanned_naming ks false t (a + 1) c h.4) (refl, h.6))
   spanned_front ks l (Choice_of t q e c) a b h =
       spans_join
       (spell t)
@@ -422,7 +435,7 @@ mutual
 
   pub spanned_association : (ks : List Kind) → (x : Association) → (a b : ℕ) → HoldsAssociation ks x a b → Spans (spell_association x) a b
   spanned_association ks (Typed_of t c e) a b h =
-      spans_join (spell_type t) (c ∷ spell e) a c b (spanned_type ks t a c h.0) (refl, spanned ks e (c + 1) b h.3)
+      spans_join (spell_type t) (c ∷ spell e) a c b (spanned_naming ks false t a c h.0) (refl, spanned ks e (c + 1) b h.3)
   spanned_association ks (Default_of d c e) a b h =
       (h.0, (h.2, subst (λ x. Spans (spell e) x b) (ap (λ x. x + 1) h.2) (spanned ks e (c + 1) b h.5)))
 
@@ -451,7 +464,7 @@ mutual
       subst
           (λ x. Spans (spell_type t ++ c ∷ []) x b)
           (ap (λ x. x + 1) h.2)
-          (spans_join (spell_type t) (c ∷ []) (o + 1) c b (spanned_type ks t (o + 1) c h.4) (refl, h.6)),
+          (spans_join (spell_type t) (c ∷ []) (o + 1) c b (spanned_naming ks false t (o + 1) c h.4) (refl, h.6)),
     ),
   )
 
@@ -468,8 +481,8 @@ mutual
       (spanned_specifying ks y s a h.0 h.1)
       (spanned_specifyings ks (has_type ks s || y) ss h.0 b h.2)
 
-  pub spanned_type : (ks : List Kind) → (t : Naming) → (a b : ℕ) → HoldsType ks t a b → Spans (spell_type t) a b
-  spanned_type ks (Type_of ss d) a b h =
+  pub spanned_naming : (ks : List Kind) → (y : Bool) → (t : Naming) → (a b : ℕ) → HoldsNaming ks y t a b → Spans (spell_type t) a b
+  spanned_naming ks y (Type_of ss d) a b h =
       spans_join
       (spell_specifyings ss)
       (spell_declaring d)
@@ -477,10 +490,10 @@ mutual
       h.0
       b
       (spanned_specifyings ks false ss a h.0 h.2)
-      (spanned_declaring ks d h.0 b h.3)
+      (spanned_declaring ks y d h.0 b h.3)
 
-  pub spanned_declaring : (ks : List Kind) → (d : Declaring) → (a b : ℕ) → HoldsDeclaring ks d a b → Spans (spell_declaring d) a b
-  spanned_declaring ks (Declaring_of ps g ds) a b h =
+  pub spanned_declaring : (ks : List Kind) → (y : Bool) → (d : Declaring) → (a b : ℕ) → HoldsDeclaring ks y d a b → Spans (spell_declaring d) a b
+  spanned_declaring ks y (Declaring_of ps g ds) a b h =
       spans_join
       (spell_pointers ps)
       (spell_grouping g ++ spell_derivings ds)
@@ -494,18 +507,48 @@ mutual
       h.0
       h.1
       b
-      (spanned_grouping ks g h.0 h.1 h.3)
+      (spanned_grouping ks y g h.0 h.1 h.3)
       (spanned_derivings ks ds h.1 b h.4))
 
-  pub spanned_grouping : (ks : List Kind) → (g : Grouping) → (a b : ℕ) → HoldsGrouping ks g a b → Spans (spell_grouping g) a b
-  spanned_grouping ks No_group a b h = h
-  spanned_grouping ks (Group_of o d c) a b h =
-      (h.0, spans_join (spell_declaring d) (c ∷ []) (a + 1) c b (spanned_declaring ks d (a + 1) c h.3) (refl, h.5))
+  pub spanned_grouping : (ks : List Kind) → (y : Bool) → (g : Grouping) → (a b : ℕ) → HoldsGrouping ks y g a b → Spans (spell_grouping g) a b
+  spanned_grouping ks y No_group a b h = h
+  spanned_grouping ks y (Named_of n) a b h = (h.1, h.3)
+  spanned_grouping ks y (Group_of o d c) a b h =
+      (h.0, spans_join (spell_declaring d) (c ∷ []) (a + 1) c b (spanned_declaring ks y d (a + 1) c h.3) (refl, h.5))
 
   pub spanned_deriving : (ks : List Kind) → (d : Deriving) → (a b : ℕ) → HoldsDeriving ks d a b → Spans (spell_deriving d) a b
   spanned_deriving ks (Array_of o x c) a b h =
       (h.0, spans_join (spell_bound x) (c ∷ []) (a + 1) c b (spanned_bound ks x (a + 1) c h.2) (refl, h.4))
-  spanned_deriving ks (Function_of o c) a b h = (h.0, (h.2, h.4 ∙ ap (λ x. x + 1) h.2))
+  spanned_deriving ks (Function_of o ps c) a b h =
+      (h.0, spans_join (spell_parameters ps) (c ∷ []) (a + 1) c b (spanned_parameters ks ps (a + 1) c h.2) (refl, h.4))
+
+  pub spanned_parameters : (ks : List Kind) → (ps : Parameters) → (a b : ℕ) → HoldParameters ks ps a b → Spans (spell_parameters ps) a b
+  spanned_parameters ks No_parameters a b h = h
+  spanned_parameters ks (Fixed_of p ps) a b h =
+      spans_join (spell_type p) (spell_row ps) a h.0 b (spanned_naming ks true p a h.0 h.1) (spanned_row ks ps h.0 b h.2)
+  spanned_parameters ks (Variadic_of p ps o d) a b h =
+      spans_join
+      (spell_type p)
+      (spell_row ps ++ (o ∷ d ∷ []))
+      a
+      h.0
+      b
+      (spanned_naming ks true p a h.0 h.1)
+      (spans_join (spell_row ps) (o ∷ d ∷ []) h.0 o b (spanned_row ks ps h.0 o h.2) (refl, (h.4, h.6 ∙ ap (λ x. x + 1) h.4)))
+
+  pub spanned_row : (ks : List Kind) → (ps : Row) → (a b : ℕ) → HoldRow ks ps a b → Spans (spell_row ps) a b
+  spanned_row ks No_more a b h = h
+  spanned_row ks (Parameter_then o p ps) a b h = (
+    h.1,
+    spans_join
+        (spell_type p)
+        (spell_row ps)
+        (a + 1)
+        h.0
+        b
+        (spanned_naming ks true p (a + 1) h.0 h.3)
+        (spanned_row ks ps h.0 b h.4),
+  )
 
   pub spanned_derivings : (ks : List Kind) → (ds : Derivings) → (a b : ℕ) → HoldDerivings ks ds a b → Spans (spell_derivings ds) a b
   spanned_derivings ks No_derivings a b h = h
@@ -562,9 +605,9 @@ mutual
         s.1.0,
         f.1,
         subst
-            (λ x. HoldsType ks t (x + 1) c)
+            (λ x. HoldsNaming ks false t (x + 1) c)
             (sym s.1.0)
-            (subst (λ x. HoldsType ks t ((a + 1) + 1) x) (sym r.back.0) (held_type ks t ((a + 1) + 1) r.at f.2 r.front)),
+            (subst (λ x. HoldsNaming ks false t ((a + 1) + 1) x) (sym r.back.0) (held_naming ks false t ((a + 1) + 1) r.at f.2 r.front)),
         f.3,
         r.back.1 ∙ ap (λ x. x + 1) (sym r.back.0),
         subst (λ x. kind_at ks x ≡ OpenBrace → ⊥) (sym (r.back.1 ∙ ap (λ x. x + 1) (sym r.back.0))) f.4,
@@ -573,7 +616,7 @@ mutual
       let r = spans_split (spell_type t) (c ∷ spell_braces i) (a + 1) b s.1 in (
         s.0,
         ap (λ x. kind_at ks x) (sym s.0) ∙ f.0,
-        subst (λ x. HoldsType ks t (a + 1) x) (sym r.back.0) (held_type ks t (a + 1) r.at f.1 r.front),
+        subst (λ x. HoldsNaming ks false t (a + 1) x) (sym r.back.0) (held_naming ks false t (a + 1) r.at f.1 r.front),
         f.2,
         subst (λ x. HoldBraces ks i (x + 1) b) (sym r.back.0) (held_braces ks i (r.at + 1) b f.3 r.back.1),
       )
@@ -600,9 +643,9 @@ mutual
         s.1.0,
         f.1,
         subst
-            (λ x. HoldsType ks t (x + 1) m)
+            (λ x. HoldsNaming ks false t (x + 1) m)
             (sym s.1.0)
-            (subst (λ x. HoldsType ks t ((a + 1) + 1) x) (sym r.back.0) (held_type ks t ((a + 1) + 1) r.at f.2 r.front)),
+            (subst (λ x. HoldsNaming ks false t ((a + 1) + 1) x) (sym r.back.0) (held_naming ks false t ((a + 1) + 1) r.at f.2 r.front)),
         f.3,
         r.back.1.0 ∙ ap (λ x. x + 1) (sym r.back.0),
         f.4,
@@ -674,7 +717,7 @@ mutual
         s.0,
         ap (λ x. kind_at ks x) (sym s.0) ∙ f.1,
         ap (λ x. casts_at ks x) (sym s.0) ∙ f.2,
-        subst (λ x. HoldsType ks t (a + 1) x) (sym r.back.0) (held_type ks t (a + 1) r.at f.3 r.front),
+        subst (λ x. HoldsNaming ks false t (a + 1) x) (sym r.back.0) (held_naming ks false t (a + 1) r.at f.3 r.front),
         f.4,
         r.back.1 ∙ ap (λ x. x + 1) (sym r.back.0),
         subst (λ x. kind_at ks x ≡ OpenBrace → ⊥) (sym (r.back.1 ∙ ap (λ x. x + 1) (sym r.back.0))) f.5,
@@ -775,7 +818,7 @@ mutual
   held_association : (ks : List Kind) → (x : Association) → (a b : ℕ) → IsAssociated ks x → Spans (spell_association x) a b → HoldsAssociation ks x a b
   held_association ks (Typed_of t c e) a b f s =
       let r = spans_split (spell_type t) (c ∷ spell e) a b s in (
-        subst (λ x. HoldsType ks t a x) (sym r.back.0) (held_type ks t a r.at f.0 r.front),
+        subst (λ x. HoldsNaming ks false t a x) (sym r.back.0) (held_naming ks false t a r.at f.0 r.front),
         f.1,
         f.2,
         subst (λ x. Holds ks e (x + 1) b) (sym r.back.0) (held ks e (r.at + 1) b f.3 r.back.1),
@@ -814,9 +857,9 @@ mutual
         s.1.0,
         f.1,
         subst
-            (λ x. HoldsType ks t (x + 1) c)
+            (λ x. HoldsNaming ks false t (x + 1) c)
             (sym s.1.0)
-            (subst (λ x. HoldsType ks t ((a + 1) + 1) x) (sym r.back.0) (held_type ks t ((a + 1) + 1) r.at f.2 r.front)),
+            (subst (λ x. HoldsNaming ks false t ((a + 1) + 1) x) (sym r.back.0) (held_naming ks false t ((a + 1) + 1) r.at f.2 r.front)),
         f.3,
         r.back.1 ∙ ap (λ x. x + 1) (sym r.back.0),
       )
@@ -828,30 +871,33 @@ mutual
       let r = spans_split (spell_specifying x) (spell_specifyings xs) a b s in
       (r.at, held_specifying ks y x a r.at f.0 r.front, held_specifyings ks (has_type ks x || y) xs r.at b f.1 r.back)
 
-  pub held_type : (ks : List Kind) → (t : Naming) → (a b : ℕ) → IsType ks t → Spans (spell_type t) a b → HoldsType ks t a b
-  held_type ks (Type_of xs d) a b f s =
+  pub held_naming : (ks : List Kind) → (y : Bool) → (t : Naming) → (a b : ℕ) → IsNaming ks y t → Spans (spell_type t) a b → HoldsNaming ks y t a b
+  held_naming ks y (Type_of xs d) a b f s =
       let r = spans_split (spell_specifyings xs) (spell_declaring d) a b s in
-      (r.at, f.0, held_specifyings ks false xs a r.at f.1 r.front, held_declaring ks d r.at b f.2 r.back)
+      (r.at, f.0, held_specifyings ks false xs a r.at f.1 r.front, held_declaring ks y d r.at b f.2 r.back)
 
-  held_declaring : (ks : List Kind) → (d : Declaring) → (a b : ℕ) → IsDeclaring ks d → Spans (spell_declaring d) a b → HoldsDeclaring ks d a b
-  held_declaring ks (Declaring_of ps g ds) a b f s =
+  held_declaring : (ks : List Kind) → (y : Bool) → (d : Declaring) → (a b : ℕ) → IsDeclaring ks y d → Spans (spell_declaring d) a b
+      → HoldsDeclaring ks y d a b
+  held_declaring ks y (Declaring_of ps g ds) a b f s =
       let r = spans_split (spell_pointers ps) (spell_grouping g ++ spell_derivings ds) a b s in
       let q = spans_split (spell_grouping g) (spell_derivings ds) r.at b r.back in (
         r.at,
         q.at,
         pointers_held ks ps a r.at f.0 r.front,
-        held_grouping ks g r.at q.at f.1 q.front,
+        held_grouping ks y g r.at q.at f.1 q.front,
         held_derivings ks ds q.at b f.2 q.back,
       )
 
-  held_grouping : (ks : List Kind) → (g : Grouping) → (a b : ℕ) → IsGrouping ks g → Spans (spell_grouping g) a b → HoldsGrouping ks g a b
-  held_grouping ks No_group a b f s = s
-  held_grouping ks (Group_of o d c) a b f s =
+  held_grouping : (ks : List Kind) → (y : Bool) → (g : Grouping) → (a b : ℕ) → IsGrouping ks y g → Spans (spell_grouping g) a b
+      → HoldsGrouping ks y g a b
+  held_grouping ks y No_group a b f s = s
+  held_grouping ks y (Named_of n) a b f s = (f.0, s.0, ap (λ x. kind_at ks x) (sym s.0) ∙ f.1, s.1)
+  held_grouping ks y (Group_of o d c) a b f s =
       let r = spans_split (spell_declaring d) (c ∷ []) (a + 1) b s.1 in (
         s.0,
         ap (λ x. kind_at ks x) (sym s.0) ∙ f.0,
         f.1,
-        subst (λ x. HoldsDeclaring ks d (a + 1) x) (sym r.back.0) (held_declaring ks d (a + 1) r.at f.2 r.front),
+        subst (λ x. HoldsDeclaring ks y d (a + 1) x) (sym r.back.0) (held_declaring ks y d (a + 1) r.at f.2 r.front),
         f.3,
         r.back.1 ∙ ap (λ x. x + 1) (sym r.back.0),
       )
@@ -865,8 +911,42 @@ mutual
         f.2,
         r.back.1 ∙ ap (λ y. y + 1) (sym r.back.0),
       )
-  held_deriving ks (Function_of o c) a b f s =
-      (s.0, ap (λ x. kind_at ks x) (sym s.0) ∙ f.0, s.1.0, f.1, s.1.1 ∙ ap (λ x. x + 1) (sym s.1.0))
+  held_deriving ks (Function_of o ps c) a b f s =
+      let r = spans_split (spell_parameters ps) (c ∷ []) (a + 1) b s.1 in (
+        s.0,
+        ap (λ x. kind_at ks x) (sym s.0) ∙ f.0,
+        subst (λ x. HoldParameters ks ps (a + 1) x) (sym r.back.0) (held_parameters ks ps (a + 1) r.at f.1 r.front),
+        f.2,
+        r.back.1 ∙ ap (λ x. x + 1) (sym r.back.0),
+      )
+
+  held_parameters : (ks : List Kind) → (ps : Parameters) → (a b : ℕ) → AreParameters ks ps → Spans (spell_parameters ps) a b → HoldParameters ks ps a b
+  held_parameters ks No_parameters a b f s = s
+  held_parameters ks (Fixed_of p ps) a b f s =
+      let r = spans_split (spell_type p) (spell_row ps) a b s in
+      (r.at, held_naming ks true p a r.at f.0 r.front, held_row ks ps r.at b f.1 r.back)
+  held_parameters ks (Variadic_of p ps o d) a b f s =
+      let r = spans_split (spell_type p) (spell_row ps ++ (o ∷ d ∷ [])) a b s in
+      let q = spans_split (spell_row ps) (o ∷ d ∷ []) r.at b r.back in (
+        r.at,
+        held_naming ks true p a r.at f.0 r.front,
+        subst (λ x. HoldRow ks ps r.at x) (sym q.back.0) (held_row ks ps r.at q.at f.1 q.front),
+        f.2,
+        q.back.1.0 ∙ ap (λ x. x + 1) (sym q.back.0),
+        f.3,
+        q.back.1.1 ∙ ap (λ x. x + 1) (sym q.back.1.0),
+      )
+
+  held_row : (ks : List Kind) → (ps : Row) → (a b : ℕ) → AreMore ks ps → Spans (spell_row ps) a b → HoldRow ks ps a b
+  held_row ks No_more a b f s = s
+  held_row ks (Parameter_then o p ps) a b f s =
+      let r = spans_split (spell_type p) (spell_row ps) (a + 1) b s.1 in (
+        r.at,
+        s.0,
+        ap (λ x. kind_at ks x) (sym s.0) ∙ f.0,
+        held_naming ks true p (a + 1) r.at f.1 r.front,
+        held_row ks ps r.at b f.2 r.back,
+      )
 
   held_derivings : (ks : List Kind) → (ds : Derivings) → (a b : ℕ) → AreDerived ks ds → Spans (spell_derivings ds) a b → HoldDerivings ks ds a b
   held_derivings ks No_derivings a b f s = s
@@ -921,3 +1001,12 @@ reads_expression ks t h =
       proper = (h.0, formed ks t 0 (length ks) h.1);
       spells = span_numbers (spell t) 0 (length ks) (length ks) (spanned ks t 0 (length ks) h.1) all;
     }
+
+pub formed_type : (ks : List Kind) → (t : Naming) → (a b : ℕ) → HoldsNaming ks false t a b → IsNaming ks false t
+formed_type ks t a b h = formed_naming ks false t a b h
+
+pub spanned_type : (ks : List Kind) → (t : Naming) → (a b : ℕ) → HoldsNaming ks false t a b → Spans (spell_type t) a b
+spanned_type ks t a b h = spanned_naming ks false t a b h
+
+pub held_type : (ks : List Kind) → (t : Naming) → (a b : ℕ) → IsNaming ks false t → Spans (spell_type t) a b → HoldsNaming ks false t a b
+held_type ks t a b f s = held_naming ks false t a b f s

@@ -10,7 +10,7 @@ use Rattle.c_parser.specs.declared.kinds.Kind.TheVariants.{TypeWord, Qualifier, 
 use Rattle.c_parser.specs.Beginnings.{IsNamed}
 use Rattle.c_parser.specs.Grammar.{has_type, AreSome}
 use Rattle.c_parser.specs.Kinds.{kind_at, is_word, is_type_word, ends_type, ends_specifiers, specifies_at, atomic_opens}
-use Rattle.c_parser.specs.Reading.{HoldSpecifying, HoldSpecifyings, HoldsType, HoldsDeclaring, FoundType, IsWant}
+use Rattle.c_parser.specs.Reading.{HoldSpecifying, HoldSpecifyings, HoldsNaming, HoldsType, HoldsDeclaring, FoundNaming, IsWant}
 use Rattle.c_parser.specs.TypeNames.{NoMore, FoundSpecifying, FoundSpecifiers, FoundDeclaring, FailsSpecifying}
 use Rattle.c_parser.proofs.Marks.{clash}
 use Rattle.c_parser.proofs.Forth.{specifyings_forth}
@@ -237,30 +237,30 @@ specifiers_fail ks start done at y loop e fails ss m h f =
     let a = loop.only ss m h f in
     stop_left ks y at e fails a.left m a.holds f
 
--- the name of a type
-abbrev FailsType : List Kind → ℕ → Stop → Type 0
-FailsType ks a e = (t : Naming) → (c : ℕ) → HoldsType ks t a c → ends_type (kind_at ks c) ≡ true → IsWant e
+-- specifiers and a declarator
+abbrev pub FailsNaming : List Kind → Bool → ℕ → Stop → Type 0
+FailsNaming ks y a e = (t : Naming) → (c : ℕ) → HoldsNaming ks y t a c → ends_type (kind_at ks c) ≡ true → IsWant e
 
-abbrev NoType : List Kind → ℕ → Type 0
-NoType ks a = (t : Naming) → (c : ℕ) → HoldsType ks t a c → ends_type (kind_at ks c) ≡ true → ⊥
+abbrev NoType : List Kind → Bool → ℕ → Type 0
+NoType ks y a = (t : Naming) → (c : ℕ) → HoldsNaming ks y t a c → ends_type (kind_at ks c) ≡ true → ⊥
 
-pub specifiers_missing : (ks : List Kind) → (a : ℕ) → (e : Stop) → FailsSpecifiers ks a e → FailsType ks a e
-specifiers_missing ks a e fails (Type_of ss d) c h f = fails ss h.0 h.2 (declaring_begins ks d h.0 c h.3 f)
+pub specifiers_missing : (ks : List Kind) → (y : Bool) → (a : ℕ) → (e : Stop) → FailsSpecifiers ks a e → FailsNaming ks y a e
+specifiers_missing ks y a e fails (Type_of ss d) c h f = fails ss h.0 h.2 (declaring_begins ks y d h.0 c h.3 f)
 
-no_type_without : (ks : List Kind) → (a m : ℕ) → OnlySpecifiers ks a No_specifiers m → NoType ks a
-no_type_without ks a m only (Type_of ss d) c h f =
-    subst AreSome (sym (only ss h.0 h.2 (declaring_begins ks d h.0 c h.3 f)).0) h.1
+no_type_without : (ks : List Kind) → (y : Bool) → (a m : ℕ) → OnlySpecifiers ks a No_specifiers m → NoType ks y a
+no_type_without ks y a m only (Type_of ss d) c h f =
+    subst AreSome (sym (only ss h.0 h.2 (declaring_begins ks y d h.0 c h.3 f)).0) h.1
 
-pub none_specifying : (ks : List Kind) → (a m : ℕ) → (xs : List Specifier) → (length xs == 0) ≡ true
-    → OnlySpecifiers ks a (specifyings (specifiers_of xs) No_specifiers) m → NoType ks a
-none_specifying ks a m [] h only = no_type_without ks a m only
-none_specifying ks a m (x ∷ xs) h only = λ t c g e. grind (arith, h)
+pub none_specifying : (ks : List Kind) → (y : Bool) → (a m : ℕ) → (xs : List Specifier) → (length xs == 0) ≡ true
+    → OnlySpecifiers ks a (specifyings (specifiers_of xs) No_specifiers) m → NoType ks y a
+none_specifying ks y a m [] h only = no_type_without ks y a m only
+none_specifying ks y a m (x ∷ xs) h only = λ t c g e. grind (arith, h)
 
-pub declarator_missing : (ks : List Kind) → (a : ℕ) → (ss : Specifyings) → (m : ℕ) → OnlySpecifiers ks a ss m → (e : Stop)
-    → ((d : Declaring) → (c : ℕ) → HoldsDeclaring ks d m c → ends_type (kind_at ks c) ≡ true → IsWant e) → FailsType ks a e
-declarator_missing ks a ss m only e fails (Type_of ss' d) c h f =
-    let same = only ss' h.0 h.2 (declaring_begins ks d h.0 c h.3 f) in
-    fails d c (subst (λ x. HoldsDeclaring ks d x c) (sym same.1) h.3) f
+pub declarator_missing : (ks : List Kind) → (y : Bool) → (a : ℕ) → (ss : Specifyings) → (m : ℕ) → OnlySpecifiers ks a ss m → (e : Stop)
+    → ((d : Declaring) → (c : ℕ) → HoldsDeclaring ks y d m c → ends_type (kind_at ks c) ≡ true → IsWant e) → FailsNaming ks y a e
+declarator_missing ks y a ss m only e fails (Type_of ss' d) c h f =
+    let same = only ss' h.0 h.2 (declaring_begins ks y d h.0 c h.3 f) in
+    fails d c (subst (λ x. HoldsDeclaring ks y d x c) (sym same.1) h.3) f
 
 pub some_specifying : (xs : List Specifier) → (length xs == 0) ≡ false → AreSome (specifyings (specifiers_of xs) No_specifiers)
 some_specifying [] h = absurd (true≢false h)
@@ -271,18 +271,18 @@ some_forth ks No_specifiers a m i h e = i
 some_forth ks (Specifier_then s ss) a m i h e =
     omega (arith, specifying_strict ks false s a h.0 h.1, specifyings_forth ks (has_type ks s || false) ss h.0 m h.2, e)
 
-pub type_found : (ks : List Kind) → (a : ℕ) → (ss : Specifyings) → (m : ℕ) → (d : Declaring) → (b : ℕ) → AreSome ss → FoundSpecifiers ks a ss m
-    → FoundDeclaring ks m d b → FoundType ks a (Type_of ss d) b
-type_found ks a ss m d b some x y =
+pub naming_found : (ks : List Kind) → (y : Bool) → (a : ℕ) → (ss : Specifyings) → (m : ℕ) → (d : Declaring) → (b : ℕ) → AreSome ss → FoundSpecifiers ks a ss m
+    → FoundDeclaring ks y m d b → FoundNaming ks y a (Type_of ss d) b
+naming_found ks y a ss m d b some x u =
     let one : a ≤ m = x.forth in
-    let two : m ≤ b = y.forth in
+    let two : m ≤ b = u.forth in
     let not : a ≡ m → ⊥ = some_forth ks ss a m some x.reads in
-    record { reads = (m, some, x.reads, y.reads); forth = omega arith; inside = y.inside }
+    record { reads = (m, some, x.reads, u.reads); forth = omega arith; inside = u.inside }
 
-pub name_only : (ks : List Kind) → (a : ℕ) → (ss : Specifyings) → (m : ℕ) → (d : Declaring) → (b : ℕ) → OnlySpecifiers ks a ss m
-    → ((d' : Declaring) → (c : ℕ) → HoldsDeclaring ks d' m c → ends_type (kind_at ks c) ≡ true → (d ≡ d') × (b ≡ c))
-    → (t : Naming) → (c : ℕ) → HoldsType ks t a c → ends_type (kind_at ks c) ≡ true → (Type_of ss d ≡ t) × (b ≡ c)
-name_only ks a ss m d b one two (Type_of ss' d') c h f =
-    let first = one ss' h.0 h.2 (declaring_begins ks d' h.0 c h.3 f) in
-    let more = two d' c (subst (λ x. HoldsDeclaring ks d' x c) (sym first.1) h.3) f in
+pub name_only : (ks : List Kind) → (y : Bool) → (a : ℕ) → (ss : Specifyings) → (m : ℕ) → (d : Declaring) → (b : ℕ) → OnlySpecifiers ks a ss m
+    → ((d' : Declaring) → (c : ℕ) → HoldsDeclaring ks y d' m c → ends_type (kind_at ks c) ≡ true → (d ≡ d') × (b ≡ c))
+    → (t : Naming) → (c : ℕ) → HoldsNaming ks y t a c → ends_type (kind_at ks c) ≡ true → (Type_of ss d ≡ t) × (b ≡ c)
+name_only ks y a ss m d b one two (Type_of ss' d') c h f =
+    let first = one ss' h.0 h.2 (declaring_begins ks y d' h.0 c h.3 f) in
+    let more = two d' c (subst (λ x. HoldsDeclaring ks y d' x c) (sym first.1) h.3) f in
     (ap (λ x. Type_of x d) first.0 ∙ ap (λ x. Type_of ss' x) more.0, more.1)

@@ -1,18 +1,19 @@
 -- No two names of types stand from one place on, where one may end behind each: by the number of tokens that are left, since what
 -- stands in a name stands behind its first token.
 use Rattle.std.proofs.Common.{◌≡◌, refl, ap, sym, ◌∙◌, subst, ℕ, zero, suc, ◌+◌, ◌<◌, ◌≤◌, List, [], ◌∷◌, length, arith, Bool, true, false, true≢false, ◌||◌}
-use Rattle.tree_data.specs.Trees.{Tree, Name_of, Constant_of, Text_of, Paren_of, Postfix_of, Unary_of, Binary_of, Conditional_of, Assign_of, Of_type, Compound_of, Generic_of, Offset_of, Operator_of, Cast_of, Choice_of, Left_of, Fronts, None_before, Front_then, Specifying, Word_of, Typedef_of, Tag_of, Atomic_of, Specifyings, No_specifiers, Specifier_then, Naming, Type_of, Declaring, Declaring_of, Grouping, No_group, Group_of, Deriving, Array_of, Function_of, Derivings, No_derivings, Deriving_then, Bound, Unsized_of, Any_size_of, Sized_of, Static_sized_of, Sized_static_of}
+use Rattle.tree_data.specs.Trees.{Tree, Name_of, Constant_of, Text_of, Paren_of, Postfix_of, Unary_of, Binary_of, Conditional_of, Assign_of, Of_type, Compound_of, Generic_of, Offset_of, Operator_of, Cast_of, Choice_of, Left_of, Fronts, None_before, Front_then, Specifying, Word_of, Typedef_of, Tag_of, Atomic_of, Specifyings, No_specifiers, Specifier_then, Naming, Type_of, Declaring, Declaring_of, Parameters, No_parameters, Fixed_of, Variadic_of, Row, No_more, Parameter_then, Grouping, No_group, Named_of, Group_of, Deriving, Array_of, Function_of, Derivings, No_derivings, Deriving_then, Bound, Unsized_of, Any_size_of, Sized_of, Static_sized_of, Sized_static_of}
 use Rattle.c_parser.specs.declared.kinds.Kind.{Kind}
-use Rattle.c_parser.specs.declared.kinds.Kind.TheVariants.{Identifier, Constant, Text, TypeName, Tag, Atomic, Static, Star, OpenParen, CloseParen, OpenBracket, CloseBracket, Generic, OffsetOf, Colon, Comma, End}
-use Rattle.c_parser.specs.Declarators.{AreThere, IsAbstract}
+use Rattle.c_parser.specs.declared.kinds.Kind.TheVariants.{Identifier, Constant, Text, TypeName, Tag, Atomic, Static, Star, OpenParen, CloseParen, OpenBracket, CloseBracket, Generic, OffsetOf, Colon, Comma, End, TypeWord, Qualifier}
+use Rattle.c_parser.specs.Declarators.{AreThere, IsWritten}
 use Rattle.c_parser.specs.Grammar.{IsBefore, has_type}
-use Rattle.c_parser.specs.Kinds.{kind_at, is_size, starts_type, ends_type, ends_pointers, ends_specifiers, qualifies_at}
-use Rattle.c_parser.specs.Reading.{Holds, HoldFronts, HoldQualifiers, Reads, HoldSpecifying, HoldSpecifyings, HoldsType, HoldsDeclaring, HoldsGrouping, HoldsDeriving, HoldDerivings, HoldsBound}
+use Rattle.c_parser.specs.Kinds.{kind_at, is_size, starts_type, ends_type, ends_pointers, ends_specifiers, opens_parameters, qualifies_at}
+use Rattle.c_parser.specs.Reading.{Holds, HoldFronts, HoldQualifiers, Reads, HoldSpecifying, HoldSpecifyings, HoldsNaming, HoldsType, HoldParameters, HoldRow, HoldsDeclaring, HoldsGrouping, HoldsDeriving, HoldDerivings, HoldsBound}
+use Rattle.c_parser.specs.TypeNames.{RowEnd, at_close, at_dots}
 use Rattle.c_parser.proofs.OneReading.{placed_only}
-use Rattle.c_parser.proofs.Forth.{type_forth, specifyings_forth, grouping_forth, deriving_forth}
+use Rattle.c_parser.proofs.Forth.{type_forth, naming_forth, specifyings_forth, grouping_forth, deriving_forth}
 use Rattle.c_parser.proofs.Marks.{clash, stops_at, is_start, no_type}
 use Rattle.c_parser.proofs.Typed.{Typed, From, later, next}
-use Rattle.c_parser.proofs.Types.{starting, type_starts, pointers_only, pointers_forth, qualifiers_only, qualifiers_forth}
+use Rattle.c_parser.proofs.Types.{starting, naming_starts, pointers_only, pointers_forth, qualifiers_only, qualifiers_forth}
 use Rattle.c_parser.proofs.Views.{starts, front_starts}
 use Rattle.c_parser.proofs.Words.{Qualifies, by_qualifier, by_lone, qualifies_view, qualifies_starts, specifies_not, atomic_not}
 
@@ -200,6 +201,134 @@ pub bound_only : (ks : List Kind) → (x : Bound) → (a c : ℕ) → From ks a 
 bound_only ks x a c w h e x' c' h' e' = views_only ks a c x w (bound_view ks x a c h e) e c' x' (bound_view ks x' a c' h' e') e'
 
 -- arrays and functions
+row_ends_by : (ks : List Kind) → (c : ℕ) → RowEnd ks c → ends_type (kind_at ks c) ≡ true
+row_ends_by ks c (at_close e) = ap ends_type e
+row_ends_by ks c (at_dots e d) = ap ends_type e
+
+pub row_ends : (ks : List Kind) → (ps : Row) → (m c : ℕ) → HoldRow ks ps m c → RowEnd ks c → ends_type (kind_at ks m) ≡ true
+row_ends ks No_more m c h e = ap (λ x. ends_type (kind_at ks x)) (sym h) ∙ row_ends_by ks c e
+row_ends ks (Parameter_then o p ps) m c h e = ap ends_type h.2
+
+row_end_not : {A : Type 0} → (ks : List Kind) → (c : ℕ) → RowEnd ks c → kind_at ks c ≡ Comma → (p : Naming) → (m : ℕ) → HoldsNaming ks true p (c + 1) m → A
+row_end_not ks c (at_close e) k p m h = clash (kind_at ks c) CloseParen Comma e k (λ x. omega (arith, x))
+row_end_not ks c (at_dots e d) k p m h = absurd (true≢false (sym (naming_starts ks true p (c + 1) m h) ∙ ap starts_type d))
+
+pub row_only : (ks : List Kind) → (ps : Row) → (a c : ℕ) → From ks a → HoldRow ks ps a c → RowEnd ks c
+    → (ps' : Row) → (c' : ℕ) → HoldRow ks ps' a c' → RowEnd ks c' → (ps ≡ ps') × (c ≡ c')
+row_only ks No_more a c w h e No_more c' h' e' = (refl, h ∙ sym h')
+row_only ks No_more a c w h e (Parameter_then o p ps) c' h' e' =
+    row_end_not ks a (subst (λ x. RowEnd ks x) h e) h'.2 p h'.0 h'.3
+row_only ks (Parameter_then o p ps) a c w h e No_more c' h' e' =
+    row_end_not ks a (subst (λ x. RowEnd ks x) h' e') h.2 p h.0 h.3
+row_only ks (Parameter_then o p ps) a c w h e (Parameter_then o' p' ps') c' h' e' =
+    let one =
+    w
+    (a + 1)
+    (omega arith)
+    true
+    p
+    h.0
+    h.3
+    (row_ends ks ps h.0 c h.4 e)
+    p'
+    h'.0
+    h'.3
+    (row_ends ks ps' h'.0 c' h'.4 e') in
+    let two =
+    row_only
+    ks
+    ps
+    h.0
+    c
+    (later ks a h.0 (omega (arith, naming_forth ks true p (a + 1) h.0 h.3)) w)
+    h.4
+    e
+    ps'
+    c'
+    (subst (λ x. HoldRow ks ps' x c') (sym one.1) h'.4)
+    e' in (
+      ap (λ x. Parameter_then x p ps) (h.1 ∙ sym h'.1)
+          ∙ ap (λ x. Parameter_then o' x ps) one.0
+          ∙ ap (λ x. Parameter_then o' p' x) two.0,
+      two.1,
+    )
+
+-- parameters, up to the `)`
+pub data Closing (ks : List Kind) (ps : Parameters) (p : Naming) (q : Row) (n c : ℕ) : Type 0 where
+  fixed : ps ≡ Fixed_of p q → c ≡ n → kind_at ks n ≡ CloseParen → Closing ks ps p q n c
+  variadic : ps ≡ Variadic_of p q n (n + 1) → c ≡ n + 2 → kind_at ks n ≡ Comma → Closing ks ps p q n c
+
+pub data Parametered (ks : List Kind) (ps : Parameters) (a c : ℕ) : Type 0 where
+  none_told : ps ≡ No_parameters → c ≡ a → Parametered ks ps a c
+  some_told : (p : Naming) → (q : Row) → (m n : ℕ) → HoldsNaming ks true p a m → HoldRow ks q m n → RowEnd ks n
+      → Closing ks ps p q n c → Parametered ks ps a c
+
+pub parameters_view : (ks : List Kind) → (ps : Parameters) → (a c : ℕ) → HoldParameters ks ps a c → kind_at ks c ≡ CloseParen → Parametered ks ps a c
+parameters_view ks No_parameters a c h e = none_told refl h
+parameters_view ks (Fixed_of p q) a c h e = some_told p q h.0 c h.1 h.2 (at_close e) (fixed refl refl e)
+parameters_view ks (Variadic_of p q o d) a c h e =
+    let two : (o + 1) + 1 ≡ o + 2 = omega arith in
+    some_told
+    p
+    q
+    h.0
+    o
+    h.1
+    h.2
+    (at_dots h.3 (ap (λ x. kind_at ks x) (sym h.4) ∙ h.5))
+    (variadic (ap (λ x. Variadic_of p q o x) h.4) (h.6 ∙ ap (λ x. x + 1) h.4 ∙ two) h.3)
+
+closing_only : (ks : List Kind) → (ps : Parameters) → (p : Naming) → (q : Row) → (n c : ℕ) → Closing ks ps p q n c
+    → (ps' : Parameters) → (c' : ℕ) → Closing ks ps' p q n c' → (ps ≡ ps') × (c ≡ c')
+closing_only ks ps p q n c (fixed i f k) ps' c' (fixed i' f' k') = (i ∙ sym i', f ∙ sym f')
+closing_only ks ps p q n c (fixed i f k) ps' c' (variadic i' f' k') = clash (kind_at ks n) CloseParen Comma k k' (λ x. omega (arith, x))
+closing_only ks ps p q n c (variadic i f k) ps' c' (fixed i' f' k') = clash (kind_at ks n) Comma CloseParen k k' (λ x. omega (arith, x))
+closing_only ks ps p q n c (variadic i f k) ps' c' (variadic i' f' k') = (i ∙ sym i', f ∙ sym f')
+
+pub no_parameter : {A : Type 0} → (ks : List Kind) → (a c : ℕ) → c ≡ a → kind_at ks c ≡ CloseParen → (p : Naming) → (m : ℕ) → HoldsNaming ks true p a m → A
+no_parameter ks a c f e p m h =
+    absurd (true≢false (sym (naming_starts ks true p a m h) ∙ ap starts_type (ap (λ x. kind_at ks x) (sym f) ∙ e)))
+
+told_only : (ks : List Kind) → (ps : Parameters) → (a c : ℕ) → From ks a → Parametered ks ps a c → kind_at ks c ≡ CloseParen
+    → (ps' : Parameters) → (c' : ℕ) → Parametered ks ps' a c' → kind_at ks c' ≡ CloseParen → (ps ≡ ps') × (c ≡ c')
+told_only ks ps a c w (none_told i f) e ps' c' (none_told i' f') e' = (i ∙ sym i', f ∙ sym f')
+told_only ks ps a c w (none_told i f) e ps' c' (some_told p q m n h g z v) e' = no_parameter ks a c f e p m h
+told_only ks ps a c w (some_told p q m n h g z v) e ps' c' (none_told i' f') e' = no_parameter ks a c' f' e' p m h
+told_only ks ps a c w (some_told p q m n h g z v) e ps' c' (some_told p' q' m' n' h' g' z' v') e' =
+    let one = w a (omega arith) true p m h (row_ends ks q m n g z) p' m' h' (row_ends ks q' m' n' g' z') in
+    let two =
+    row_only
+    ks
+    q
+    m
+    n
+    (later ks a m (naming_forth ks true p a m h) w)
+    g
+    z
+    q'
+    n'
+    (subst (λ x. HoldRow ks q' x n') (sym one.1) g')
+    z' in
+    closing_only
+    ks
+    ps
+    p
+    q
+    n
+    c
+    v
+    ps'
+    c'
+    (subst
+    (λ x. Closing ks ps' x q n c')
+    (sym one.0)
+    (subst (λ x. Closing ks ps' p' x n c') (sym two.0) (subst (λ x. Closing ks ps' p' q' x c') (sym two.1) v')))
+
+pub parameters_only : (ks : List Kind) → (ps : Parameters) → (a c : ℕ) → From ks a → HoldParameters ks ps a c → kind_at ks c ≡ CloseParen
+    → (ps' : Parameters) → (c' : ℕ) → HoldParameters ks ps' a c' → kind_at ks c' ≡ CloseParen → (ps ≡ ps') × (c ≡ c')
+parameters_only ks ps a c w h e ps' c' h' e' =
+    told_only ks ps a c w (parameters_view ks ps a c h e) e ps' c' (parameters_view ks ps' a c' h' e') e'
+
 pub deriving_only : (ks : List Kind) → (d : Deriving) → (a b : ℕ) → From ks a → HoldsDeriving ks d a b
     → (d' : Deriving) → (b' : ℕ) → HoldsDeriving ks d' a b' → (d ≡ d') × (b ≡ b')
 deriving_only ks (Array_of o x c) a b w h (Array_of o' x' c') b' h' =
@@ -207,17 +336,19 @@ deriving_only ks (Array_of o x c) a b w h (Array_of o' x' c') b' h' =
       ap (λ y. Array_of y x c) (h.0 ∙ sym h'.0) ∙ ap (λ y. Array_of o' y c) same.0 ∙ ap (λ y. Array_of o' x' y) same.1,
       h.4 ∙ ap (λ y. y + 1) same.1 ∙ sym h'.4,
     )
-deriving_only ks (Array_of o x c) a b w h (Function_of o' c') b' h' =
+deriving_only ks (Array_of o x c) a b w h (Function_of o' ps c') b' h' =
     clash (kind_at ks a) OpenBracket OpenParen h.1 h'.1 (λ y. omega (arith, y))
-deriving_only ks (Function_of o c) a b w h (Array_of o' x c') b' h' =
+deriving_only ks (Function_of o ps c) a b w h (Array_of o' x c') b' h' =
     clash (kind_at ks a) OpenParen OpenBracket h.1 h'.1 (λ y. omega (arith, y))
-deriving_only ks (Function_of o c) a b w h (Function_of o' c') b' h' =
-    let same : c ≡ c' = h.2 ∙ sym h'.2 in
-    (ap (λ y. Function_of y c) (h.0 ∙ sym h'.0) ∙ ap (λ y. Function_of o' y) same, h.4 ∙ ap (λ y. y + 1) same ∙ sym h'.4)
+deriving_only ks (Function_of o ps c) a b w h (Function_of o' ps' c') b' h' =
+    let same = parameters_only ks ps (a + 1) c (next ks a w) h.2 h.3 ps' c' h'.2 h'.3 in (
+      ap (λ y. Function_of y ps c) (h.0 ∙ sym h'.0) ∙ ap (λ y. Function_of o' y c) same.0 ∙ ap (λ y. Function_of o' ps' y) same.1,
+      h.4 ∙ ap (λ y. y + 1) same.1 ∙ sym h'.4,
+    )
 
 pub deriving_ends_not : {A : Type 0} → (ks : List Kind) → (d : Deriving) → (a b : ℕ) → HoldsDeriving ks d a b → ends_type (kind_at ks a) ≡ true → A
 deriving_ends_not ks (Array_of o x c) a b h e = absurd (true≢false (sym e ∙ ap ends_type h.1))
-deriving_ends_not ks (Function_of o c) a b h e = absurd (true≢false (sym e ∙ ap ends_type h.1))
+deriving_ends_not ks (Function_of o ps c) a b h e = absurd (true≢false (sym e ∙ ap ends_type h.1))
 
 pub derivings_only : (ks : List Kind) → (ds : Derivings) → (a b : ℕ) → From ks a → HoldDerivings ks ds a b → ends_type (kind_at ks b) ≡ true
     → (ds' : Derivings) → (b' : ℕ) → HoldDerivings ks ds' a b' → ends_type (kind_at ks b') ≡ true → (ds ≡ ds') × (b ≡ b')
@@ -255,13 +386,14 @@ pub derivings_begin : (ks : List Kind) → (ds : Derivings) → (a b : ℕ) → 
     → ends_pointers (kind_at ks a) ≡ true
 derivings_begin ks No_derivings a b h e = ends_more (kind_at ks a) (ap (λ x. ends_type (kind_at ks x)) (sym h) ∙ e)
 derivings_begin ks (Deriving_then (Array_of o x c) ds) a b h e = ap ends_pointers h.1.1
-derivings_begin ks (Deriving_then (Function_of o c) ds) a b h e = ap ends_pointers h.1.1
+derivings_begin ks (Deriving_then (Function_of o ps c) ds) a b h e = ap ends_pointers h.1.1
 
-pub grouping_begins : (ks : List Kind) → (g : Grouping) → (ds : Derivings) → (a m b : ℕ) → HoldsGrouping ks g a m → HoldDerivings ks ds m b
+pub grouping_begins : (ks : List Kind) → (y : Bool) → (g : Grouping) → (ds : Derivings) → (a m b : ℕ) → HoldsGrouping ks y g a m → HoldDerivings ks ds m b
     → ends_type (kind_at ks b) ≡ true → ends_pointers (kind_at ks a) ≡ true
-grouping_begins ks No_group ds a m b h g e =
+grouping_begins ks y No_group ds a m b h g e =
     ap (λ x. ends_pointers (kind_at ks x)) (sym h) ∙ derivings_begin ks ds m b g e
-grouping_begins ks (Group_of o d c) ds a m b h g e = ap ends_pointers h.1
+grouping_begins ks y (Named_of n) ds a m b h g e = ap ends_pointers h.2
+grouping_begins ks y (Group_of o d c) ds a m b h g e = ap ends_pointers h.1
 
 pub no_star : (ks : List Kind) → (a : ℕ) → ends_pointers (kind_at ks a) ≡ true → kind_at ks a ≡ Star → ⊥
 no_star ks a h e = true≢false (sym h ∙ ap ends_pointers e)
@@ -273,30 +405,54 @@ no_qualifying ks a h (by_lone e n) = true≢false (sym h ∙ ap ends_pointers e)
 pub no_qualifier : (ks : List Kind) → (a : ℕ) → ends_pointers (kind_at ks a) ≡ true → qualifies_at ks a ≡ true → ⊥
 no_qualifier ks a h q = no_qualifying ks a h (qualifies_view ks a q)
 
--- behind the `(` of a group stands no `)`
-pub abstract_begins : (ks : List Kind) → (d : Declaring) → (a b : ℕ) → IsAbstract d → HoldsDeclaring ks d a b → kind_at ks a ≡ CloseParen → ⊥
-abstract_begins ks (Declaring_of (p ∷ ps) g ds) a b i h e = clash (kind_at ks a) Star CloseParen h.2.2 e (λ x. omega (arith, x))
-abstract_begins ks (Declaring_of [] (Group_of o d c) ds) a b i h e =
-    clash (kind_at ks h.0) OpenParen CloseParen h.3.1 (ap (λ x. kind_at ks x) h.2 ∙ e) (λ x. omega (arith, x))
-abstract_begins ks (Declaring_of [] No_group (Deriving_then (Array_of o x c) ds)) a b i h e =
-    clash (kind_at ks h.1) OpenBracket CloseParen h.4.1.1 (ap (λ x. kind_at ks x) (h.3 ∙ h.2) ∙ e) (λ x. omega (arith, x))
-abstract_begins ks (Declaring_of [] No_group (Deriving_then (Function_of o c) ds)) a b i h e =
-    clash (kind_at ks h.1) OpenParen CloseParen h.4.1.1 (ap (λ x. kind_at ks x) (h.3 ∙ h.2) ∙ e) (λ x. omega (arith, x))
-abstract_begins ks (Declaring_of [] No_group No_derivings) a b i h e = absurd i
+-- behind the `(` of a group stands nothing that shows parameters
+pub written_begins : (ks : List Kind) → (y : Bool) → (d : Declaring) → (a b : ℕ) → IsWritten d → HoldsDeclaring ks y d a b
+    → opens_parameters (kind_at ks a) ≡ false
+written_begins ks y (Declaring_of (p ∷ ps) g ds) a b i h = ap opens_parameters h.2.2
+written_begins ks y (Declaring_of [] (Named_of n) ds) a b i h = ap opens_parameters (ap (λ x. kind_at ks x) (sym h.2) ∙ h.3.2)
+written_begins ks y (Declaring_of [] (Group_of o d c) ds) a b i h = ap opens_parameters (ap (λ x. kind_at ks x) (sym h.2) ∙ h.3.1)
+written_begins ks y (Declaring_of [] No_group (Deriving_then (Array_of o x c) ds)) a b i h =
+    ap opens_parameters (ap (λ x. kind_at ks x) (sym (h.3 ∙ h.2)) ∙ h.4.1.1)
+written_begins ks y (Declaring_of [] No_group (Deriving_then (Function_of o ps c) ds)) a b i h =
+    ap opens_parameters (ap (λ x. kind_at ks x) (sym (h.3 ∙ h.2)) ∙ h.4.1.1)
+written_begins ks y (Declaring_of [] No_group No_derivings) a b i h = absurd i
 
--- a `(` that begins no group has a `)` behind it
-pub closes_next : (ks : List Kind) → (ds : Derivings) → (a b : ℕ) → HoldDerivings ks ds a b → ends_type (kind_at ks b) ≡ true
-    → kind_at ks a ≡ OpenParen → kind_at ks (a + 1) ≡ CloseParen
-closes_next ks No_derivings a b h e k = absurd (true≢false (sym e ∙ ap (λ x. ends_type (kind_at ks x)) h ∙ ap ends_type k))
-closes_next ks (Deriving_then (Array_of o x c) ds) a b h e k = clash (kind_at ks a) OpenBracket OpenParen h.1.1 k (λ y. omega (arith, y))
-closes_next ks (Deriving_then (Function_of o c) ds) a b h e k = ap (λ x. kind_at ks x) (sym h.1.2) ∙ h.1.3
+start_opens : (k : Kind) → starts_type k ≡ true → opens_parameters k ≡ true
+start_opens TypeWord h = refl
+start_opens Qualifier h = refl
+start_opens Tag h = refl
+start_opens TypeName h = refl
+start_opens Atomic h = refl
+start_opens _ h = absurd (true≢false (sym h))
+
+told_opens : (ks : List Kind) → (ps : Parameters) → (a c : ℕ) → Parametered ks ps a c → kind_at ks c ≡ CloseParen → opens_parameters (kind_at ks a) ≡ true
+told_opens ks ps a c (none_told i f) e = ap opens_parameters (ap (λ x. kind_at ks x) (sym f) ∙ e)
+told_opens ks ps a c (some_told p q m n h g z v) e = start_opens (kind_at ks a) (naming_starts ks true p a m h)
+
+-- a `(` that begins no group has parameters behind it
+pub parameters_next : (ks : List Kind) → (ds : Derivings) → (a b : ℕ) → HoldDerivings ks ds a b → ends_type (kind_at ks b) ≡ true
+    → kind_at ks a ≡ OpenParen → opens_parameters (kind_at ks (a + 1)) ≡ true
+parameters_next ks No_derivings a b h e k = absurd (true≢false (sym e ∙ ap (λ x. ends_type (kind_at ks x)) h ∙ ap ends_type k))
+parameters_next ks (Deriving_then (Array_of o x c) ds) a b h e k = clash (kind_at ks a) OpenBracket OpenParen h.1.1 k (λ y. omega (arith, y))
+parameters_next ks (Deriving_then (Function_of o ps c) ds) a b h e k =
+    told_opens ks ps (a + 1) c (parameters_view ks ps (a + 1) c h.1.2 h.1.3) h.1.3
+
+pub no_name_next : {A : Type 0} → (ks : List Kind) → (ds : Derivings) → (a b : ℕ) → HoldDerivings ks ds a b → ends_type (kind_at ks b) ≡ true
+    → kind_at ks a ≡ Identifier → A
+no_name_next ks No_derivings a b h e k = absurd (true≢false (sym e ∙ ap (λ x. ends_type (kind_at ks x)) h ∙ ap ends_type k))
+no_name_next ks (Deriving_then (Array_of o x c) ds) a b h e k = clash (kind_at ks a) OpenBracket Identifier h.1.1 k (λ y. omega (arith, y))
+no_name_next ks (Deriving_then (Function_of o ps c) ds) a b h e k = clash (kind_at ks a) OpenParen Identifier h.1.1 k (λ y. omega (arith, y))
+
+group_not : {A : Type 0} → (ks : List Kind) → (y : Bool) → (a : ℕ) → (d : Declaring) → (c : ℕ) → IsWritten d → HoldsDeclaring ks y d (a + 1) c
+    → opens_parameters (kind_at ks (a + 1)) ≡ true → A
+group_not ks y a d c i h o = absurd (true≢false (sym o ∙ written_begins ks y d (a + 1) c i h))
 
 mutual
-  pub declaring_only : (ks : List Kind) → (d : Declaring) → (a b : ℕ) → From ks a → HoldsDeclaring ks d a b → ends_type (kind_at ks b) ≡ true
-      → (d' : Declaring) → (b' : ℕ) → HoldsDeclaring ks d' a b' → ends_type (kind_at ks b') ≡ true → (d ≡ d') × (b ≡ b')
-  declaring_only ks (Declaring_of ps g ds) a b w h e (Declaring_of ps' g' ds') b' h' e' =
-      let begun = grouping_begins ks g ds h.0 h.1 b h.3 h.4 e in
-      let begun' = grouping_begins ks g' ds' h'.0 h'.1 b' h'.3 h'.4 e' in
+  pub declaring_only : (ks : List Kind) → (y : Bool) → (d : Declaring) → (a b : ℕ) → From ks a → HoldsDeclaring ks y d a b → ends_type (kind_at ks b) ≡ true
+      → (d' : Declaring) → (b' : ℕ) → HoldsDeclaring ks y d' a b' → ends_type (kind_at ks b') ≡ true → (d ≡ d') × (b ≡ b')
+  declaring_only ks y (Declaring_of ps g ds) a b w h e (Declaring_of ps' g' ds') b' h' e' =
+      let begun = grouping_begins ks y g ds h.0 h.1 b h.3 h.4 e in
+      let begun' = grouping_begins ks y g' ds' h'.0 h'.1 b' h'.3 h'.4 e' in
       let one =
       pointers_only
       ks
@@ -315,6 +471,7 @@ mutual
       let two =
       grouping_only
       ks
+      y
       g
       h.0
       h.1
@@ -328,7 +485,7 @@ mutual
       h'.1
       ds'
       b'
-      (subst (λ x. HoldsGrouping ks g' x h'.1) (sym one.1) h'.3)
+      (subst (λ x. HoldsGrouping ks y g' x h'.1) (sym one.1) h'.3)
       h'.4
       e' in
       let three =
@@ -337,7 +494,7 @@ mutual
       ds
       h.1
       b
-      (later ks h.0 h.1 (grouping_forth ks g h.0 h.1 h.3) w')
+      (later ks h.0 h.1 (grouping_forth ks y g h.0 h.1 h.3) w')
       h.4
       e
       ds'
@@ -350,17 +507,26 @@ mutual
         three.1,
       )
 
-  pub grouping_only : (ks : List Kind) → (g : Grouping) → (a m : ℕ) → (ds : Derivings) → (b : ℕ) → From ks a → HoldsGrouping ks g a m
+  pub grouping_only : (ks : List Kind) → (y : Bool) → (g : Grouping) → (a m : ℕ) → (ds : Derivings) → (b : ℕ) → From ks a → HoldsGrouping ks y g a m
       → HoldDerivings ks ds m b → ends_type (kind_at ks b) ≡ true
-      → (g' : Grouping) → (m' : ℕ) → (ds' : Derivings) → (b' : ℕ) → HoldsGrouping ks g' a m' → HoldDerivings ks ds' m' b'
+      → (g' : Grouping) → (m' : ℕ) → (ds' : Derivings) → (b' : ℕ) → HoldsGrouping ks y g' a m' → HoldDerivings ks ds' m' b'
       → ends_type (kind_at ks b') ≡ true → (g ≡ g') × (m ≡ m')
-  grouping_only ks No_group a m ds b w h i e No_group m' ds' b' h' i' e' = (refl, h ∙ sym h')
-  grouping_only ks No_group a m ds b w h i e (Group_of o d c) m' ds' b' h' i' e' =
-      absurd (abstract_begins ks d (a + 1) c h'.2 h'.3 (closes_next ks ds a b (subst (λ x. HoldDerivings ks ds x b) h i) e h'.1))
-  grouping_only ks (Group_of o d c) a m ds b w h i e No_group m' ds' b' h' i' e' =
-      absurd (abstract_begins ks d (a + 1) c h.2 h.3 (closes_next ks ds' a b' (subst (λ x. HoldDerivings ks ds' x b') h' i') e' h.1))
-  grouping_only ks (Group_of o d c) a m ds b w h i e (Group_of o' d' c') m' ds' b' h' i' e' =
-      let same = declaring_only ks d (a + 1) c (next ks a w) h.3 (ap ends_type h.4) d' c' h'.3 (ap ends_type h'.4) in (
+  grouping_only ks y No_group a m ds b w h i e No_group m' ds' b' h' i' e' = (refl, h ∙ sym h')
+  grouping_only ks y No_group a m ds b w h i e (Named_of n) m' ds' b' h' i' e' =
+      no_name_next ks ds a b (subst (λ x. HoldDerivings ks ds x b) h i) e h'.2
+  grouping_only ks y No_group a m ds b w h i e (Group_of o d c) m' ds' b' h' i' e' =
+      group_not ks y a d c h'.2 h'.3 (parameters_next ks ds a b (subst (λ x. HoldDerivings ks ds x b) h i) e h'.1)
+  grouping_only ks y (Named_of n) a m ds b w h i e No_group m' ds' b' h' i' e' =
+      no_name_next ks ds' a b' (subst (λ x. HoldDerivings ks ds' x b') h' i') e' h.2
+  grouping_only ks y (Named_of n) a m ds b w h i e (Named_of n') m' ds' b' h' i' e' = (ap Named_of (h.1 ∙ sym h'.1), h.3 ∙ sym h'.3)
+  grouping_only ks y (Named_of n) a m ds b w h i e (Group_of o d c) m' ds' b' h' i' e' =
+      clash (kind_at ks a) Identifier OpenParen h.2 h'.1 (λ x. omega (arith, x))
+  grouping_only ks y (Group_of o d c) a m ds b w h i e No_group m' ds' b' h' i' e' =
+      group_not ks y a d c h.2 h.3 (parameters_next ks ds' a b' (subst (λ x. HoldDerivings ks ds' x b') h' i') e' h.1)
+  grouping_only ks y (Group_of o d c) a m ds b w h i e (Named_of n) m' ds' b' h' i' e' =
+      clash (kind_at ks a) OpenParen Identifier h.1 h'.2 (λ x. omega (arith, x))
+  grouping_only ks y (Group_of o d c) a m ds b w h i e (Group_of o' d' c') m' ds' b' h' i' e' =
+      let same = declaring_only ks y d (a + 1) c (next ks a w) h.3 (ap ends_type h.4) d' c' h'.3 (ap ends_type h'.4) in (
         ap (λ x. Group_of x d c) (h.0 ∙ sym h'.0) ∙ ap (λ x. Group_of o' x c) same.0 ∙ ap (λ x. Group_of o' d' x) same.1,
         h.5 ∙ ap (λ x. x + 1) same.1 ∙ sym h'.5,
       )
@@ -395,6 +561,7 @@ specifying_only ks y (Atomic_of k o t c) a b w h (Atomic_of k' o' t' c') b' h' =
     w
     (o + 1)
     (omega (arith, h.2))
+    false
     t
     c
     h.4
@@ -418,6 +585,7 @@ specifying_strict ks y (Atomic_of k o t c) a b h = omega (arith, h.6, h.2, type_
 
 ends_none : (k : Kind) → ends_specifiers k ≡ true → starts_type k ≡ false
 ends_none Star h = refl
+ends_none Identifier h = refl
 ends_none OpenParen h = refl
 ends_none OpenBracket h = refl
 ends_none CloseParen h = refl
@@ -465,6 +633,7 @@ specifyings_only ks y (Specifier_then s ss) a m w h e (Specifier_then s' ss') m'
 
 -- the whole name
 ends_wider : (k : Kind) → ends_pointers k ≡ true → ends_specifiers k ≡ true
+ends_wider Identifier h = refl
 ends_wider OpenParen h = refl
 ends_wider OpenBracket h = refl
 ends_wider CloseParen h = refl
@@ -473,13 +642,13 @@ ends_wider Comma h = refl
 ends_wider End h = refl
 ends_wider _ h = absurd (true≢false (sym h))
 
-pub declaring_begins : (ks : List Kind) → (d : Declaring) → (a b : ℕ) → HoldsDeclaring ks d a b → ends_type (kind_at ks b) ≡ true
+pub declaring_begins : (ks : List Kind) → (y : Bool) → (d : Declaring) → (a b : ℕ) → HoldsDeclaring ks y d a b → ends_type (kind_at ks b) ≡ true
     → ends_specifiers (kind_at ks a) ≡ true
-declaring_begins ks (Declaring_of [] g ds) a b h e =
+declaring_begins ks y (Declaring_of [] g ds) a b h e =
     ends_wider
     (kind_at ks a)
-    (ap (λ x. ends_pointers (kind_at ks x)) (sym h.2) ∙ grouping_begins ks g ds h.0 h.1 b h.3 h.4 e)
-declaring_begins ks (Declaring_of (p ∷ ps) g ds) a b h e = ap ends_specifiers h.2.2
+    (ap (λ x. ends_pointers (kind_at ks x)) (sym h.2) ∙ grouping_begins ks y g ds h.0 h.1 b h.3 h.4 e)
+declaring_begins ks y (Declaring_of (p ∷ ps) g ds) a b h e = ap ends_specifiers h.2.2
 
 outside : (ks : List Kind) → (p : ℕ) → length ks ≤ p → kind_at ks p ≡ End
 outside [] p h = refl
@@ -492,11 +661,11 @@ some_strict ks y s ss a m h =
     omega (arith, specifying_strict ks y s a h.0 h.1, specifyings_forth ks (has_type ks s || y) ss h.0 m h.2)
 
 typed_by : (ks : List Kind) → (n p : ℕ) → length ks ≤ p + n → Typed ks p
-typed_by ks zero p le t c h e t' c' h' e' =
+typed_by ks zero p le y t c h e t' c' h' e' =
     let end : length ks ≤ p = omega arith in
-    absurd (true≢false (sym (type_starts ks t p c h) ∙ ap starts_type (outside ks p end)))
-typed_by ks (suc n) p le (Type_of No_specifiers d) c h e t' c' h' e' = absurd h.1
-typed_by ks (suc n) p le (Type_of (Specifier_then s ss) d) c h e (Type_of ss' d') c' h' e' =
+    absurd (true≢false (sym (naming_starts ks y t p c h) ∙ ap starts_type (outside ks p end)))
+typed_by ks (suc n) p le y (Type_of No_specifiers d) c h e t' c' h' e' = absurd h.1
+typed_by ks (suc n) p le y (Type_of (Specifier_then s ss) d) c h e (Type_of ss' d') c' h' e' =
     let w : From ks (p + 1) = λ q more. typed_by ks n q (omega (arith, le, more)) in
     let one =
     specifyings_only
@@ -507,14 +676,15 @@ typed_by ks (suc n) p le (Type_of (Specifier_then s ss) d) c h e (Type_of ss' d'
     h.0
     w
     h.2
-    (declaring_begins ks d h.0 c h.3 e)
+    (declaring_begins ks y d h.0 c h.3 e)
     ss'
     h'.0
     h'.2
-    (declaring_begins ks d' h'.0 c' h'.3 e') in
+    (declaring_begins ks y d' h'.0 c' h'.3 e') in
     let two =
     declaring_only
     ks
+    y
     d
     h.0
     c
@@ -523,7 +693,7 @@ typed_by ks (suc n) p le (Type_of (Specifier_then s ss) d) c h e (Type_of ss' d'
     e
     d'
     c'
-    (subst (λ x. HoldsDeclaring ks d' x c') (sym one.1) h'.3)
+    (subst (λ x. HoldsDeclaring ks y d' x c') (sym one.1) h'.3)
     e' in
     (ap (λ x. Type_of x d) one.0 ∙ ap (λ x. Type_of ss' x) two.0, two.1)
 
@@ -535,4 +705,8 @@ everywhere ks a p le = typed_at ks p
 
 pub type_only : (ks : List Kind) → (t : Naming) → (a c : ℕ) → HoldsType ks t a c → ends_type (kind_at ks c) ≡ true
     → (t' : Naming) → (c' : ℕ) → HoldsType ks t' a c' → ends_type (kind_at ks c') ≡ true → (t ≡ t') × (c ≡ c')
-type_only ks t a c = typed_at ks a t c
+type_only ks t a c = typed_at ks a false t c
+
+pub parameter_only : (ks : List Kind) → (t : Naming) → (a c : ℕ) → HoldsNaming ks true t a c → ends_type (kind_at ks c) ≡ true
+    → (t' : Naming) → (c' : ℕ) → HoldsNaming ks true t' a c' → ends_type (kind_at ks c') ≡ true → (t ≡ t') × (c ≡ c')
+parameter_only ks t a c = typed_at ks a true t c

@@ -1,15 +1,15 @@
 -- Places at which no two names of types stand. That expressions have one reading takes this of all places behind their own, and
 -- that names of types have one takes it of expressions in them, so that both follow by the number of tokens that are left.
-use Rattle.std.proofs.Common.{◌≡◌, ℕ, ◌+◌, ◌≤◌, List, arith, true}
+use Rattle.std.proofs.Common.{◌≡◌, ℕ, ◌+◌, ◌≤◌, List, Bool, arith, true}
 use Rattle.tree_data.specs.Trees.{Naming}
 use Rattle.c_parser.specs.declared.kinds.Kind.{Kind}
 use Rattle.c_parser.specs.Kinds.{kind_at, ends_type}
-use Rattle.c_parser.specs.Reading.{HoldsType}
+use Rattle.c_parser.specs.Reading.{HoldsNaming}
 
 abbrev pub Typed : List Kind → ℕ → Type 0
 Typed ks a =
-    (t : Naming) → (c : ℕ) → HoldsType ks t a c → ends_type (kind_at ks c) ≡ true
-    → (t' : Naming) → (c' : ℕ) → HoldsType ks t' a c' → ends_type (kind_at ks c') ≡ true → (t ≡ t') × (c ≡ c')
+    (y : Bool) → (t : Naming) → (c : ℕ) → HoldsNaming ks y t a c → ends_type (kind_at ks c) ≡ true
+    → (t' : Naming) → (c' : ℕ) → HoldsNaming ks y t' a c' → ends_type (kind_at ks c') ≡ true → (t ≡ t') × (c ≡ c')
 
 -- from this place on
 abbrev pub From : List Kind → ℕ → Type 0

@@ -5,7 +5,7 @@ use Rattle.c_parser.specs.declared.kinds.Kind.{Kind}
 use Rattle.c_parser.specs.declared.kinds.Kind.TheVariants.{Star}
 use Rattle.c_parser.specs.Declarators.{spell_pointers, AreQualifiers, ArePointers}
 use Rattle.c_parser.specs.Kinds.{kind_at, starts_type, qualifies_at}
-use Rattle.c_parser.specs.Reading.{HoldSpecifying, HoldQualifiers, HoldPointers, HoldsType}
+use Rattle.c_parser.specs.Reading.{HoldSpecifying, HoldQualifiers, HoldPointers, HoldsNaming, HoldsType}
 use Rattle.c_parser.specs.TypeNames.{FoundQualifiers, FoundPointers}
 use Rattle.c_parser.proofs.Numbers.{Spans, spans_join, spans_split, spans_forth}
 use Rattle.c_parser.proofs.Words.{specifies_starts, qualifies_not}
@@ -66,9 +66,12 @@ starting ks y (Typedef_of n) a b h = ap starts_type h.2
 starting ks y (Tag_of k n) a b h = ap starts_type h.1
 starting ks y (Atomic_of k o t c) a b h = ap starts_type h.1
 
+pub naming_starts : (ks : List Kind) → (y : Bool) → (t : Naming) → (a b : ℕ) → HoldsNaming ks y t a b → starts_type (kind_at ks a) ≡ true
+naming_starts ks y (Type_of No_specifiers d) a b h = absurd h.1
+naming_starts ks y (Type_of (Specifier_then s ss) d) a b h = starting ks false s a h.2.0 h.2.1
+
 pub type_starts : (ks : List Kind) → (t : Naming) → (a b : ℕ) → HoldsType ks t a b → starts_type (kind_at ks a) ≡ true
-type_starts ks (Type_of No_specifiers d) a b h = absurd h.1
-type_starts ks (Type_of (Specifier_then s ss) d) a b h = starting ks false s a h.2.0 h.2.1
+type_starts ks t a b h = naming_starts ks false t a b h
 
 pub qualifiers_only : (ks : List Kind) → (ns : List ℕ) → (a m : ℕ) → HoldQualifiers ks ns a m → (qualifies_at ks m ≡ true → ⊥)
     → (ns' : List ℕ) → (m' : ℕ) → HoldQualifiers ks ns' a m' → (qualifies_at ks m' ≡ true → ⊥) → (ns ≡ ns') × (m ≡ m')

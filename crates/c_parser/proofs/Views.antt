@@ -495,7 +495,7 @@ braced_first ks (Braces_of o p ps t c) a b h n = absurd (n h.3)
 pub no_cast_literal : (ks : List Kind) → (y : Naming) → (a c : ℕ) → Typed ks (a + 1) → (i : Braces) → (b : ℕ) → HoldsType ks y (a + 1) c → kind_at ks c ≡ CloseParen
     → HoldBraces ks i (c + 1) b → CastAt ks a → ⊥
 no_cast_literal ks y a c u i b h l g cast =
-    let same = u y c h (ap ends_type l) cast.name cast.closing cast.holds (ap ends_type cast.closes) in
+    let same = u false y c h (ap ends_type l) cast.name cast.closing cast.holds (ap ends_type cast.closes) in
     braced_first ks i (c + 1) b g (subst (λ k. kind_at ks (k + 1) ≡ OpenBrace → ⊥) (sym same.1) cast.unbraced)
 
 first_primary : (ks : List Kind) → (t : Tree) → (a b : ℕ) → Typed ks (a + 1) → Primary ks t a b → Bare ks a
@@ -804,7 +804,7 @@ sized_primary ks a w s f m (a_paren u c e k r l g) =
 sized_primary ks a w s f m (a_compound y c i e k h l g) =
     let two : (a + 1) + 1 ≡ a + 2 = omega arith in
     let same =
-    w y c (subst (λ x. HoldsType ks y x c) two h) (ap ends_type l) s.name s.closing s.holds (ap ends_type s.closes) in
+    w false y c (subst (λ x. HoldsType ks y x c) two h) (ap ends_type l) s.name s.closing s.holds (ap ends_type s.closes) in
     braced_first ks i (c + 1) m g (subst (λ x. kind_at ks (x + 1) ≡ OpenBrace → ⊥) (sym same.1) s.unbraced)
 
 sized_front : {A : Type 0} → (ks : List Kind) → (a : ℕ) → SizeAt ks a → is_prefix (kind_at ks a) ≡ true → (x : Front) → (m : ℕ)

@@ -1,8 +1,8 @@
 -- Words among specifiers and qualifiers, told apart by their tokens.
 use Rattle.std.proofs.Common.{◌≡◌, refl, ap, sym, ◌∙◌, ℕ, zero, suc, ◌+◌, ◌<◌, List, [], ◌∷◌, length, arith, ◌⊎◌, inl, inr, Bool, true, false, true≢false, ◌&&◌, ◌||◌, not}
 use Rattle.c_parser.specs.declared.kinds.Kind.{Kind}
-use Rattle.c_parser.specs.declared.kinds.Kind.TheVariants.{TypeWord, Qualifier, OpenParen, Atomic}
-use Rattle.c_parser.specs.Kinds.{kind_at, is_specifying, is_qualifier, is_atomic, is_opening, starts_type, atomic_at, specifies_at, qualifies_at, atomic_opens}
+use Rattle.c_parser.specs.declared.kinds.Kind.TheVariants.{Identifier, TypeWord, Qualifier, OpenParen, Atomic, End}
+use Rattle.c_parser.specs.Kinds.{kind_at, is_specifying, is_qualifier, is_atomic, is_opening, starts_type, atomic_at, specifies_at, qualifies_at, atomic_opens, is_identifier, names_at}
 
 either : (p q : Bool) → (p || q) ≡ true → (p ≡ true) ⊎ (q ≡ true)
 either true q h = inl refl
@@ -185,3 +185,26 @@ qualifies_inside ks a h = starts_inside ks a (qualifies_starts ks a h)
 
 pub opens_inside : (ks : List Kind) → (a : ℕ) → atomic_opens ks a ≡ true → a + 1 < length ks
 opens_inside ks a h = opening_inside ks (a + 1) (ap is_opening (opens_next ks a h))
+
+-- a kind that passes a test which `End` fails is that of a token
+pub test_inside : (f : Kind → Bool) → f End ≡ false → (ks : List Kind) → (a : ℕ) → f (kind_at ks a) ≡ true → a < length ks
+test_inside f n [] a h = absurd (true≢false (sym h ∙ n))
+test_inside f n (k ∷ ks) zero h = omega arith
+test_inside f n (k ∷ ks) (suc a) h = omega (arith, test_inside f n ks a h)
+
+-- the name of a declarator
+is_word_identifier : (k : Kind) → is_identifier k ≡ true → k ≡ Identifier
+is_word_identifier Identifier h = refl
+is_word_identifier _ h = absurd (true≢false (sym h))
+
+pub name_may_stand : (ks : List Kind) → (a : ℕ) → (y : Bool) → names_at ks a y ≡ true → y ≡ true
+unfolding names_at
+name_may_stand ks a y h = left_of y (is_identifier (kind_at ks a)) h
+
+pub name_stands : (ks : List Kind) → (a : ℕ) → (y : Bool) → names_at ks a y ≡ true → kind_at ks a ≡ Identifier
+unfolding names_at
+name_stands ks a y h = is_word_identifier (kind_at ks a) (right_of y (is_identifier (kind_at ks a)) h)
+
+pub name_stands_not : (ks : List Kind) → (a : ℕ) → (y : Bool) → names_at ks a y ≡ false → y ≡ true → kind_at ks a ≡ Identifier → ⊥
+unfolding names_at
+name_stands_not ks a y h e k = true≢false (sym (both_true y (is_identifier (kind_at ks a)) e (ap is_identifier k)) ∙ h)

@@ -1,6 +1,6 @@
 -- Parts of declarators that hold no expression (ISO C11 6.7.6, 6.7.7): qualifiers and pointers.
 use Rattle.std.specs.Prelude.{◌≡◌, ℕ, List, [], ◌∷◌, ◌++◌, true}
-use Rattle.tree_data.specs.Trees.{Declaring, Declaring_of, No_group, Group_of, No_derivings, Deriving_then}
+use Rattle.tree_data.specs.Trees.{Declaring, Declaring_of, No_group, Named_of, Group_of, No_derivings, Deriving_then}
 use Rattle.c_parser.specs.declared.kinds.Kind.{Kind}
 use Rattle.c_parser.specs.declared.kinds.Kind.TheVariants.{Star}
 use Rattle.c_parser.specs.Kinds.{kind_at, qualifies_at}
@@ -25,8 +25,9 @@ AreThere [] = ⊥
 AreThere (n ∷ ns) = Unit {0}
 
 -- something stands in the declarator
-abbrev pub IsAbstract : Declaring → Type 0
-IsAbstract (Declaring_of (p ∷ ps) g ds) = Unit {0}
-IsAbstract (Declaring_of [] (Group_of o d c) ds) = Unit {0}
-IsAbstract (Declaring_of [] No_group (Deriving_then d ds)) = Unit {0}
-IsAbstract (Declaring_of [] No_group No_derivings) = ⊥
+abbrev pub IsWritten : Declaring → Type 0
+IsWritten (Declaring_of (p ∷ ps) g ds) = Unit {0}
+IsWritten (Declaring_of [] (Named_of n) ds) = Unit {0}
+IsWritten (Declaring_of [] (Group_of o d c) ds) = Unit {0}
+IsWritten (Declaring_of [] No_group (Deriving_then d ds)) = Unit {0}
+IsWritten (Declaring_of [] No_group No_derivings) = ⊥

@@ -1,14 +1,14 @@
 -- The grammar of expressions (ISO C11 6.5) and of initializers (6.7.9): what a tree spells, and which trees are proper. A
 -- case a production; productions that go on to the left or to the right by themselves are lists, of one part at least.
 use Rattle.std.specs.Prelude.{◌≡◌, Bool, false, ℕ, zero, suc, ◌+◌, ◌≤◌, ◌||◌, List, [], ◌∷◌, ◌++◌, length, Option, Some, None, true}
-use Rattle.tree_data.specs.Trees.{Tree, Name_of, Constant_of, Text_of, Paren_of, Postfix_of, Unary_of, Binary_of, Conditional_of, Assign_of, Of_type, Compound_of, Behind, Operand_of, Index_of, Call_of, Call_with_of, Member_of, Step_of, Behinds, None_behind, Behind_then, Front, Operator_of, Cast_of, Choice_of, Left_of, Fronts, None_before, Front_then, Braces, Braces_of, Initial, Value_of, List_of, Piece, Plain_of, Designated_of, Pieces, No_pieces, Piece_then, Designator, Element_of, Field_of, Designators, No_designators, Designator_then, Generic_of, Offset_of, Association, Typed_of, Default_of, Associations, No_associations, Association_then, Specifying, Word_of, Typedef_of, Tag_of, Atomic_of, Specifyings, No_specifiers, Specifier_then, Naming, Type_of, Declaring, Declaring_of, Grouping, No_group, Group_of, Deriving, Array_of, Function_of, Derivings, No_derivings, Deriving_then, Bound, Unsized_of, Any_size_of, Sized_of, Static_sized_of, Sized_static_of}
+use Rattle.tree_data.specs.Trees.{Tree, Name_of, Constant_of, Text_of, Paren_of, Postfix_of, Unary_of, Binary_of, Conditional_of, Assign_of, Of_type, Compound_of, Behind, Operand_of, Index_of, Call_of, Call_with_of, Member_of, Step_of, Behinds, None_behind, Behind_then, Front, Operator_of, Cast_of, Choice_of, Left_of, Fronts, None_before, Front_then, Braces, Braces_of, Initial, Value_of, List_of, Piece, Plain_of, Designated_of, Pieces, No_pieces, Piece_then, Designator, Element_of, Field_of, Designators, No_designators, Designator_then, Generic_of, Offset_of, Association, Typed_of, Default_of, Associations, No_associations, Association_then, Specifying, Word_of, Typedef_of, Tag_of, Atomic_of, Specifyings, No_specifiers, Specifier_then, Naming, Type_of, Declaring, Declaring_of, No_parameters, Fixed_of, Variadic_of, Parameters, Row, No_more, Parameter_then, Named_of, Grouping, No_group, Group_of, Deriving, Array_of, Function_of, Derivings, No_derivings, Deriving_then, Bound, Unsized_of, Any_size_of, Sized_of, Static_sized_of, Sized_static_of}
 use Rattle.c_parser.specs.declared.answers.ParseError.{ParseError}
 use Rattle.c_parser.specs.declared.answers.ParseError.TheVariants.{Syntax, TooDeep, NoMemory}
 use Rattle.c_parser.specs.declared.kinds.Kind.{Kind}
-use Rattle.c_parser.specs.declared.kinds.Kind.TheVariants.{Identifier, Constant, Text, OpenParen, CloseParen, OpenBracket, CloseBracket, OpenBrace, CloseBrace, Step, Question, Colon, Comma, Generic, OffsetOf, Default, TypeName, Tag, Star, Atomic, Static}
+use Rattle.c_parser.specs.declared.kinds.Kind.TheVariants.{Identifier, Constant, Text, OpenParen, CloseParen, OpenBracket, CloseBracket, OpenBrace, CloseBrace, Step, Question, Colon, Comma, Generic, OffsetOf, Default, Ellipsis, TypeName, Tag, Star, Atomic, Static}
 use Rattle.c_parser.specs.Brackets.{too_deep}
 use Rattle.c_parser.specs.Kinds.{kind_at, level_at, is_prefix, casts_at, is_size, is_word, is_equals, is_dot, is_member, is_type_word, specifies_at}
-use Rattle.c_parser.specs.Declarators.{spell_pointers, AreQualifiers, AreThere, ArePointers, IsAbstract}
+use Rattle.c_parser.specs.Declarators.{spell_pointers, AreQualifiers, AreThere, ArePointers, IsWritten}
 use Rattle.c_parser.specs.Levels.{expression, assignment_expression, conditional_expression, logical_OR_expression, unary_expression, postfix_expression, primary_expression, IsBinary, behinds_level, rank}
 
 -- of a comma that may be left out
@@ -104,11 +104,21 @@ abbrev mutual
 
   pub spell_grouping : Grouping → List ℕ
   spell_grouping No_group = []
+  spell_grouping (Named_of n) = n ∷ []
   spell_grouping (Group_of o d c) = o ∷ (spell_declaring d ++ c ∷ [])
 
   pub spell_deriving : Deriving → List ℕ
   spell_deriving (Array_of o b c) = o ∷ (spell_bound b ++ c ∷ [])
-  spell_deriving (Function_of o c) = o ∷ c ∷ []
+  spell_deriving (Function_of o ps c) = o ∷ (spell_parameters ps ++ c ∷ [])
+
+  pub spell_parameters : Parameters → List ℕ
+  spell_parameters No_parameters = []
+  spell_parameters (Fixed_of p ps) = spell_type p ++ spell_row ps
+  spell_parameters (Variadic_of p ps m d) = spell_type p ++ (spell_row ps ++ (m ∷ d ∷ []))
+
+  pub spell_row : Row → List ℕ
+  spell_row No_more = []
+  spell_row (Parameter_then o p ps) = o ∷ (spell_type p ++ spell_row ps)
 
   pub spell_derivings : Derivings → List ℕ
   spell_derivings No_derivings = []
@@ -217,13 +227,13 @@ abbrev mutual
   IsFormed kinds (Of_type k o t c) =
       (is_size (kind_at kinds k) ≡ true)
       × (kind_at kinds o ≡ OpenParen)
-      × IsType kinds t
+      × IsNaming kinds false t
       × (kind_at kinds c ≡ CloseParen)
       × (kind_at kinds (c + 1) ≡ OpenBrace → ⊥)
   -- 6.5.2 postfix-expression : ( type-name ) { initializer-list } | ( type-name ) { initializer-list , }
   IsFormed kinds (Compound_of o t c i) =
       (kind_at kinds o ≡ OpenParen)
-      × IsType kinds t
+      × IsNaming kinds false t
       × (kind_at kinds c ≡ CloseParen)
       × AreBraced kinds i
   -- 6.5.1.1 generic-selection : _Generic ( assignment-expression , generic-assoc-list )
@@ -239,7 +249,7 @@ abbrev mutual
   IsFormed kinds (Offset_of k o t m n bs c) =
       (kind_at kinds k ≡ OffsetOf)
       × (kind_at kinds o ≡ OpenParen)
-      × IsType kinds t
+      × IsNaming kinds false t
       × (kind_at kinds m ≡ Comma)
       × (is_word (kind_at kinds n) ≡ true)
       × AreSteps kinds bs
@@ -295,7 +305,7 @@ abbrev mutual
       (l ≡ unary_expression)
       × (kind_at kinds o ≡ OpenParen)
       × (casts_at kinds o ≡ true)
-      × IsType kinds t
+      × IsNaming kinds false t
       × (kind_at kinds c ≡ CloseParen)
       × (kind_at kinds (c + 1) ≡ OpenBrace → ⊥)
   -- 6.5.15 logical-OR-expression ? expression :
@@ -360,7 +370,7 @@ abbrev mutual
   -- 6.5.1.1 generic-association : type-name : assignment-expression | default : assignment-expression
   pub IsAssociated : List Kind → Association → Type 0
   IsAssociated kinds (Typed_of t c e) =
-      IsType kinds t
+      IsNaming kinds false t
       × (kind_at kinds c ≡ Colon)
       × (assignment_expression ≤ rank kinds e) × IsFormed kinds e
   IsAssociated kinds (Default_of d c e) =
@@ -381,7 +391,7 @@ abbrev mutual
   IsSpecifying kinds typed (Tag_of k n) = (kind_at kinds k ≡ Tag) × (is_word (kind_at kinds n) ≡ true)
   -- 6.7.2.4 atomic-type-specifier : _Atomic ( type-name )
   IsSpecifying kinds typed (Atomic_of k o t c) =
-      (kind_at kinds k ≡ Atomic) × (kind_at kinds o ≡ OpenParen) × IsType kinds t × (kind_at kinds c ≡ CloseParen)
+      (kind_at kinds k ≡ Atomic) × (kind_at kinds o ≡ OpenParen) × IsNaming kinds false t × (kind_at kinds c ≡ CloseParen)
 
   pub AreSpecifying : List Kind → Bool → Specifyings → Type 0
   AreSpecifying kinds typed No_specifiers = Unit {0}
@@ -389,25 +399,42 @@ abbrev mutual
       IsSpecifying kinds typed s × AreSpecifying kinds (has_type kinds s || typed) ss
 
   -- 6.7.7 type-name : specifier-qualifier-list abstract-declarator opt
-  pub IsType : List Kind → Naming → Type 0
-  IsType kinds (Type_of ss d) = AreSome ss × AreSpecifying kinds false ss × IsDeclaring kinds d
+  -- 6.7.6 parameter-declaration : declaration-specifiers declarator | declaration-specifiers abstract-declarator opt, so far with
+  -- the specifiers of a type's name; `named` says whether a name may be declared
+  pub IsNaming : List Kind → Bool → Naming → Type 0
+  IsNaming kinds named (Type_of ss d) = AreSome ss × AreSpecifying kinds false ss × IsDeclaring kinds named d
 
   -- 6.7.7 abstract-declarator : pointer | pointer opt direct-abstract-declarator, each part left out or there
-  pub IsDeclaring : List Kind → Declaring → Type 0
-  IsDeclaring kinds (Declaring_of ps g ds) = ArePointers kinds ps × IsGrouping kinds g × AreDerived kinds ds
+  pub IsDeclaring : List Kind → Bool → Declaring → Type 0
+  IsDeclaring kinds named (Declaring_of ps g ds) = ArePointers kinds ps × IsGrouping kinds named g × AreDerived kinds ds
 
   -- 6.7.7 direct-abstract-declarator : ( abstract-declarator ), in which something stands
-  pub IsGrouping : List Kind → Grouping → Type 0
-  IsGrouping kinds No_group = Unit {0}
-  IsGrouping kinds (Group_of o d c) =
-      (kind_at kinds o ≡ OpenParen) × IsAbstract d × IsDeclaring kinds d × (kind_at kinds c ≡ CloseParen)
+  pub IsGrouping : List Kind → Bool → Grouping → Type 0
+  IsGrouping kinds named No_group = Unit {0}
+  -- 6.7.6 direct-declarator : identifier | ( declarator ), so far an identifier that is no typedef name
+  IsGrouping kinds named (Named_of n) = (named ≡ true) × (kind_at kinds n ≡ Identifier)
+  IsGrouping kinds named (Group_of o d c) =
+      (kind_at kinds o ≡ OpenParen) × IsWritten d × IsDeclaring kinds named d × (kind_at kinds c ≡ CloseParen)
 
   pub IsDerived : List Kind → Deriving → Type 0
   -- 6.7.7 direct-abstract-declarator opt [ .. ]
   IsDerived kinds (Array_of o b c) =
       (kind_at kinds o ≡ OpenBracket) × IsBound kinds b × (kind_at kinds c ≡ CloseBracket)
-  -- direct-abstract-declarator opt ( parameter-type-list opt ), so far without parameters
-  IsDerived kinds (Function_of o c) = (kind_at kinds o ≡ OpenParen) × (kind_at kinds c ≡ CloseParen)
+  -- direct-abstract-declarator opt ( parameter-type-list opt )
+  IsDerived kinds (Function_of o ps c) =
+      (kind_at kinds o ≡ OpenParen) × AreParameters kinds ps × (kind_at kinds c ≡ CloseParen)
+
+  -- 6.7.6 parameter-type-list : parameter-list | parameter-list , ...
+  pub AreParameters : List Kind → Parameters → Type 0
+  AreParameters kinds No_parameters = Unit {0}
+  AreParameters kinds (Fixed_of p ps) = IsNaming kinds true p × AreMore kinds ps
+  AreParameters kinds (Variadic_of p ps m d) =
+      IsNaming kinds true p × AreMore kinds ps × (kind_at kinds m ≡ Comma) × (kind_at kinds d ≡ Ellipsis)
+
+  -- 6.7.6 parameter-list : parameter-declaration | parameter-list , parameter-declaration
+  pub AreMore : List Kind → Row → Type 0
+  AreMore kinds No_more = Unit {0}
+  AreMore kinds (Parameter_then o p ps) = (kind_at kinds o ≡ Comma) × IsNaming kinds true p × AreMore kinds ps
 
   pub AreDerived : List Kind → Derivings → Type 0
   AreDerived kinds No_derivings = Unit {0}
@@ -428,8 +455,12 @@ abbrev mutual
       × AreQualifiers kinds ns
       × (kind_at kinds n ≡ Static)
       × (assignment_expression ≤ rank kinds t) × IsFormed kinds t
-  -- [ * ]
+  -- [ * ], so far also where 6.7.6 has qualifiers in front of the `*`, behind a name
   IsBound kinds (Any_size_of n) = kind_at kinds n ≡ Star
+
+-- 6.7.7 type-name
+abbrev pub IsType : List Kind → Naming → Type 0
+IsType kinds t = IsNaming kinds false t
 
 -- the tree is of the nonterminal n
 abbrev pub Proper : List Kind → ℕ → Tree → Type 0

@@ -121,8 +121,9 @@ ends_type Comma = true
 ends_type End = true
 ends_type _ = false
 
--- in front of such a token pointers may end: what an array or a function or a group begins with, or the name of a type ends
+-- in front of such a token pointers may end: a name, what an array or a function or a group begins with, or what ends a name
 abbrev pub ends_pointers : Kind → Bool
+ends_pointers Identifier = true
 ends_pointers OpenParen = true
 ends_pointers OpenBracket = true
 ends_pointers CloseParen = true
@@ -134,6 +135,7 @@ ends_pointers _ = false
 -- in front of such a token specifiers may end
 abbrev pub ends_specifiers : Kind → Bool
 ends_specifiers Star = true
+ends_specifiers Identifier = true
 ends_specifiers OpenParen = true
 ends_specifiers OpenBracket = true
 ends_specifiers CloseParen = true
@@ -183,6 +185,24 @@ qualifies_at kinds at = is_qualifier (kind_at kinds at) || atomic_at kinds at
 -- `_Atomic ( type-name )` begins here
 unfoldable pub atomic_opens : List Kind → ℕ → Bool
 atomic_opens kinds at = is_atomic (kind_at kinds at) && is_opening (kind_at kinds (at + 1))
+
+-- behind a `(` at the front of a declarator such a token shows parameters, and any other a declarator in parentheses (6.7.6.3p11)
+abbrev pub opens_parameters : Kind → Bool
+opens_parameters CloseParen = true
+opens_parameters TypeWord = true
+opens_parameters Qualifier = true
+opens_parameters Tag = true
+opens_parameters TypeName = true
+opens_parameters Atomic = true
+opens_parameters _ = false
+
+abbrev pub is_identifier : Kind → Bool
+is_identifier Identifier = true
+is_identifier _ = false
+
+-- the name that a declarator declares stands here, where it may have one
+unfoldable pub names_at : List Kind → ℕ → Bool → Bool
+names_at kinds at named = named && is_identifier (kind_at kinds at)
 
 -- what an array or a function begins with in a declarator (6.7.6)
 abbrev pub is_deriving : Kind → Bool

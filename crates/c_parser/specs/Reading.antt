@@ -1,16 +1,16 @@
 -- A proper tree by the place at which its tokens begin and the place behind them, which is what the parser reads.
 use Rattle.std.specs.Prelude.{◌≡◌, ℕ, ◌+◌, ◌<◌, ◌≤◌, ◌||◌, Bool, List, [], ◌∷◌, length, Option, None, Result, Ok, Err, Some, true, false}
-use Rattle.tree_data.specs.Trees.{Tree, Name_of, Constant_of, Text_of, Paren_of, Postfix_of, Unary_of, Binary_of, Conditional_of, Assign_of, Of_type, Compound_of, Behind, Operand_of, Index_of, Call_of, Call_with_of, Member_of, Step_of, Behinds, None_behind, Behind_then, Front, Operator_of, Cast_of, Choice_of, Left_of, Fronts, None_before, Front_then, Braces, Braces_of, Initial, Value_of, List_of, Piece, Plain_of, Designated_of, Pieces, No_pieces, Piece_then, Designator, Element_of, Field_of, Designators, No_designators, Designator_then, Generic_of, Offset_of, Association, Typed_of, Default_of, Associations, No_associations, Association_then, Specifying, Word_of, Typedef_of, Tag_of, Atomic_of, Specifyings, No_specifiers, Specifier_then, Naming, Type_of, Declaring, Declaring_of, Grouping, No_group, Group_of, Deriving, Array_of, Function_of, Derivings, No_derivings, Deriving_then, Bound, Unsized_of, Any_size_of, Sized_of, Static_sized_of, Sized_static_of}
+use Rattle.tree_data.specs.Trees.{Tree, Name_of, Constant_of, Text_of, Paren_of, Postfix_of, Unary_of, Binary_of, Conditional_of, Assign_of, Of_type, Compound_of, Behind, Operand_of, Index_of, Call_of, Call_with_of, Member_of, Step_of, Behinds, None_behind, Behind_then, Front, Operator_of, Cast_of, Choice_of, Left_of, Fronts, None_before, Front_then, Braces, Braces_of, Initial, Value_of, List_of, Piece, Plain_of, Designated_of, Pieces, No_pieces, Piece_then, Designator, Element_of, Field_of, Designators, No_designators, Designator_then, Generic_of, Offset_of, Association, Typed_of, Default_of, Associations, No_associations, Association_then, Specifying, Word_of, Typedef_of, Tag_of, Atomic_of, Specifyings, No_specifiers, Specifier_then, Naming, Type_of, Declaring, Declaring_of, No_parameters, Fixed_of, Variadic_of, Parameters, Row, No_more, Parameter_then, Named_of, Grouping, No_group, Group_of, Deriving, Array_of, Function_of, Derivings, No_derivings, Deriving_then, Bound, Unsized_of, Any_size_of, Sized_of, Static_sized_of, Sized_static_of}
 use Rattle.c_parser.specs.declared.answers.ParseError.{ParseError}
 use Rattle.c_parser.specs.declared.answers.ParseError.TheVariants as told
 use Rattle.c_parser.specs.declared.answers.Stop.{Stop}
 use Rattle.c_parser.specs.declared.answers.Stop.TheVariants.{Syntax, NoMemory}
 use Rattle.c_parser.specs.declared.kinds.Kind.{Kind}
-use Rattle.c_parser.specs.declared.kinds.Kind.TheVariants.{Identifier, Constant, Text, OpenParen, CloseParen, OpenBracket, CloseBracket, OpenBrace, CloseBrace, Step, Question, Colon, Comma, Generic, OffsetOf, Default, TypeName, Tag, Star, Atomic, Static}
+use Rattle.c_parser.specs.declared.kinds.Kind.TheVariants.{Identifier, Constant, Text, OpenParen, CloseParen, OpenBracket, CloseBracket, OpenBrace, CloseBrace, Step, Question, Colon, Comma, Generic, OffsetOf, Default, Ellipsis, TypeName, Tag, Star, Atomic, Static}
 use Rattle.c_parser.specs.Brackets.{too_deep}
 use Rattle.c_parser.specs.Grammar.{IsMore, IsAny, IsBefore, AreSteps, goes_on, has_type, AreSome}
 use Rattle.c_parser.specs.Kinds.{kind_at, level_at, is_prefix, casts_at, is_size, is_word, is_equals, is_dot, is_member, specifies_at, qualifies_at}
-use Rattle.c_parser.specs.Declarators.{AreThere, IsAbstract}
+use Rattle.c_parser.specs.Declarators.{AreThere, IsWritten}
 use Rattle.c_parser.specs.Levels.{IsBinary, behinds_level, rank}
 
 abbrev pub HoldTexts : List Kind → List ℕ → ℕ → ℕ → Type 0
@@ -55,12 +55,12 @@ abbrev mutual
   Holds ks (Of_type k o t c) a b =
       (k ≡ a) × (is_size (kind_at ks a) ≡ true)
       × (o ≡ a + 1) × (kind_at ks o ≡ OpenParen)
-      × HoldsType ks t (o + 1) c
+      × HoldsNaming ks false t (o + 1) c
       × (kind_at ks c ≡ CloseParen) × (b ≡ c + 1)
       × (kind_at ks b ≡ OpenBrace → ⊥)
   Holds ks (Compound_of o t c i) a b =
       (o ≡ a) × (kind_at ks a ≡ OpenParen)
-      × HoldsType ks t (a + 1) c
+      × HoldsNaming ks false t (a + 1) c
       × (kind_at ks c ≡ CloseParen)
       × HoldBraces ks i (c + 1) b
   Holds ks (Generic_of k o t gs c) a b =
@@ -70,7 +70,7 @@ abbrev mutual
       × (kind_at ks c ≡ CloseParen) × (b ≡ c + 1)
   Holds ks (Offset_of k o t m n bs c) a b =
       (k ≡ a) × (kind_at ks a ≡ OffsetOf) × (o ≡ a + 1) × (kind_at ks o ≡ OpenParen)
-      × HoldsType ks t (o + 1) m
+      × HoldsNaming ks false t (o + 1) m
       × (kind_at ks m ≡ Comma) × (n ≡ m + 1) × (is_word (kind_at ks n) ≡ true)
       × AreSteps ks bs × HoldBehinds ks 16 bs (n + 1) c
       × (kind_at ks c ≡ CloseParen) × (b ≡ c + 1)
@@ -102,7 +102,7 @@ abbrev mutual
       (l ≡ 15) × (o ≡ a) × (is_prefix (kind_at ks a) ≡ true) × (b ≡ a + 1)
   HoldsFront ks l (Cast_of o t c) a b =
       (l ≡ 15) × (o ≡ a) × (kind_at ks a ≡ OpenParen) × (casts_at ks a ≡ true)
-      × HoldsType ks t (a + 1) c
+      × HoldsNaming ks false t (a + 1) c
       × (kind_at ks c ≡ CloseParen) × (b ≡ c + 1)
       × (kind_at ks b ≡ OpenBrace → ⊥)
   HoldsFront ks l (Choice_of t q e c) a b =
@@ -154,7 +154,7 @@ abbrev mutual
 
   pub HoldsAssociation : List Kind → Association → ℕ → ℕ → Type 0
   HoldsAssociation ks (Typed_of t c e) a b =
-      HoldsType ks t a c × (kind_at ks c ≡ Colon) × (2 ≤ rank ks e) × Holds ks e (c + 1) b
+      HoldsNaming ks false t a c × (kind_at ks c ≡ Colon) × (2 ≤ rank ks e) × Holds ks e (c + 1) b
   HoldsAssociation ks (Default_of d c e) a b =
       (d ≡ a) × (kind_at ks a ≡ Default) × (c ≡ a + 1) × (kind_at ks c ≡ Colon)
       × (2 ≤ rank ks e) × Holds ks e (c + 1) b
@@ -171,32 +171,45 @@ abbrev mutual
       (k ≡ a) × (kind_at ks a ≡ Tag) × (n ≡ a + 1) × (is_word (kind_at ks n) ≡ true) × (b ≡ n + 1)
   HoldSpecifying ks typed (Atomic_of k o t c) a b =
       (k ≡ a) × (kind_at ks a ≡ Atomic) × (o ≡ a + 1) × (kind_at ks o ≡ OpenParen)
-      × HoldsType ks t (o + 1) c × (kind_at ks c ≡ CloseParen) × (b ≡ c + 1)
+      × HoldsNaming ks false t (o + 1) c × (kind_at ks c ≡ CloseParen) × (b ≡ c + 1)
 
   pub HoldSpecifyings : List Kind → Bool → Specifyings → ℕ → ℕ → Type 0
   HoldSpecifyings ks typed No_specifiers a b = b ≡ a
   HoldSpecifyings ks typed (Specifier_then s ss) a b =
       (m : ℕ) × HoldSpecifying ks typed s a m × HoldSpecifyings ks (has_type ks s || typed) ss m b
 
-  pub HoldsType : List Kind → Naming → ℕ → ℕ → Type 0
-  HoldsType ks (Type_of ss d) a b =
-      (m : ℕ) × AreSome ss × HoldSpecifyings ks false ss a m × HoldsDeclaring ks d m b
+  pub HoldsNaming : List Kind → Bool → Naming → ℕ → ℕ → Type 0
+  HoldsNaming ks named (Type_of ss d) a b =
+      (m : ℕ) × AreSome ss × HoldSpecifyings ks false ss a m × HoldsDeclaring ks named d m b
 
-  pub HoldsDeclaring : List Kind → Declaring → ℕ → ℕ → Type 0
-  HoldsDeclaring ks (Declaring_of ps g ds) a b =
-      (m : ℕ) × (n : ℕ) × HoldPointers ks ps a m × HoldsGrouping ks g m n × HoldDerivings ks ds n b
+  pub HoldsDeclaring : List Kind → Bool → Declaring → ℕ → ℕ → Type 0
+  HoldsDeclaring ks named (Declaring_of ps g ds) a b =
+      (m : ℕ) × (n : ℕ) × HoldPointers ks ps a m × HoldsGrouping ks named g m n × HoldDerivings ks ds n b
 
-  pub HoldsGrouping : List Kind → Grouping → ℕ → ℕ → Type 0
-  HoldsGrouping ks No_group a b = b ≡ a
-  HoldsGrouping ks (Group_of o d c) a b =
-      (o ≡ a) × (kind_at ks a ≡ OpenParen) × IsAbstract d × HoldsDeclaring ks d (a + 1) c
+  pub HoldsGrouping : List Kind → Bool → Grouping → ℕ → ℕ → Type 0
+  HoldsGrouping ks named No_group a b = b ≡ a
+  HoldsGrouping ks named (Named_of n) a b = (named ≡ true) × (n ≡ a) × (kind_at ks a ≡ Identifier) × (b ≡ a + 1)
+  HoldsGrouping ks named (Group_of o d c) a b =
+      (o ≡ a) × (kind_at ks a ≡ OpenParen) × IsWritten d × HoldsDeclaring ks named d (a + 1) c
       × (kind_at ks c ≡ CloseParen) × (b ≡ c + 1)
 
   pub HoldsDeriving : List Kind → Deriving → ℕ → ℕ → Type 0
   HoldsDeriving ks (Array_of o x c) a b =
       (o ≡ a) × (kind_at ks a ≡ OpenBracket) × HoldsBound ks x (a + 1) c × (kind_at ks c ≡ CloseBracket) × (b ≡ c + 1)
-  HoldsDeriving ks (Function_of o c) a b =
-      (o ≡ a) × (kind_at ks a ≡ OpenParen) × (c ≡ a + 1) × (kind_at ks c ≡ CloseParen) × (b ≡ c + 1)
+  HoldsDeriving ks (Function_of o ps c) a b =
+      (o ≡ a) × (kind_at ks a ≡ OpenParen) × HoldParameters ks ps (a + 1) c × (kind_at ks c ≡ CloseParen) × (b ≡ c + 1)
+
+  pub HoldParameters : List Kind → Parameters → ℕ → ℕ → Type 0
+  HoldParameters ks No_parameters a b = b ≡ a
+  HoldParameters ks (Fixed_of p ps) a b = (m : ℕ) × HoldsNaming ks true p a m × HoldRow ks ps m b
+  HoldParameters ks (Variadic_of p ps o d) a b =
+      (m : ℕ) × HoldsNaming ks true p a m × HoldRow ks ps m o
+      × (kind_at ks o ≡ Comma) × (d ≡ o + 1) × (kind_at ks d ≡ Ellipsis) × (b ≡ d + 1)
+
+  pub HoldRow : List Kind → Row → ℕ → ℕ → Type 0
+  HoldRow ks No_more a b = b ≡ a
+  HoldRow ks (Parameter_then o p ps) a b =
+      (m : ℕ) × (o ≡ a) × (kind_at ks a ≡ Comma) × HoldsNaming ks true p (a + 1) m × HoldRow ks ps m b
 
   pub HoldDerivings : List Kind → Derivings → ℕ → ℕ → Type 0
   HoldDerivings ks No_derivings a b = b ≡ a
@@ -210,6 +223,10 @@ abbrev mutual
   HoldsBound ks (Sized_static_of ns n t) a b =
       AreThere ns × HoldQualifiers ks ns a n × (kind_at ks n ≡ Static) × (2 ≤ rank ks t) × Holds ks t (n + 1) b
   HoldsBound ks (Any_size_of n) a b = (n ≡ a) × (kind_at ks a ≡ Star) × (b ≡ a + 1)
+
+-- the name of a type stands from a to b
+abbrev pub HoldsType : List Kind → Naming → ℕ → ℕ → Type 0
+HoldsType ks t a b = HoldsNaming ks false t a b
 
 -- a tree of the nonterminal n stands from a to b
 abbrev pub Reads : List Kind → ℕ → Tree → ℕ → ℕ → Type 0
@@ -306,11 +323,14 @@ pub record FoundSteps (ks : List Kind) (a : ℕ) (xs : Behinds) (b : ℕ) : Type
   pub forth : a ≤ b
   pub inside : b ≤ length ks
 
--- the name of a type, of which nothing more stands here
-pub record FoundType (ks : List Kind) (a : ℕ) (t : Naming) (b : ℕ) : Type 0 where
-  pub reads : HoldsType ks t a b
+-- specifiers and a declarator, of which nothing more stands here
+pub record FoundNaming (ks : List Kind) (named : Bool) (a : ℕ) (t : Naming) (b : ℕ) : Type 0 where
+  pub reads : HoldsNaming ks named t a b
   pub forth : a < b
   pub inside : b ≤ length ks
+
+abbrev pub FoundType : List Kind → ℕ → Naming → ℕ → Type 0
+FoundType ks a t b = FoundNaming ks false a t b
 
 -- the result is what it has to be, or memory is wanting
 abbrev pub IsWant : Stop → Type 0

@@ -8,13 +8,13 @@ use Rattle.tok_data.specs.declared.tokens.PpKind.{PpKind}
 use Rattle.tok_data.specs.declared.tokens.PpKind.TheVariants as pp
 use Rattle.tok_data.specs.Keywords.{is_keyword}
 use Rattle.c_parser.specs.declared.kinds.Kind.{Kind}
-use Rattle.c_parser.specs.declared.kinds.Kind.TheVariants.{Identifier, TypeName, TypeWord, Qualifier, Tag, SizeOf, AlignOf, Constant, Text, OpenParen, CloseParen, OpenBracket, CloseBracket, OpenBrace, CloseBrace, Member, Step, Ampersand, Star, Sign, Complement, Quotient, Shift, Relation, Equality, Caret, Bar, And, Or, Question, Colon, Assignment, Equals, Dot, Comma, Generic, OffsetOf, Default, Atomic, Static, Other}
+use Rattle.c_parser.specs.declared.kinds.Kind.TheVariants.{Identifier, TypeName, TypeWord, Qualifier, Tag, SizeOf, AlignOf, Constant, Text, OpenParen, CloseParen, OpenBracket, CloseBracket, OpenBrace, CloseBrace, Member, Step, Ampersand, Star, Sign, Complement, Quotient, Shift, Relation, Equality, Caret, Bar, And, Or, Question, Colon, Assignment, Equals, Dot, Comma, Generic, OffsetOf, Default, Ellipsis, Atomic, Static, Other}
 
 -- punctuators, digraphs as what they stand for
 unfoldable pub marks : List (List ℕ × Kind)
 marks =
     (codes "(", OpenParen) ∷ (codes ")", CloseParen) ∷ (codes ",", Comma) ∷ (codes "=", Equals)
-    ∷ (codes "->", Member) ∷ (codes ".", Dot) ∷ (codes "[", OpenBracket) ∷ (codes "]", CloseBracket)
+    ∷ (codes "...", Ellipsis) ∷ (codes "->", Member) ∷ (codes ".", Dot) ∷ (codes "[", OpenBracket) ∷ (codes "]", CloseBracket)
     ∷ (codes "*", Star) ∷ (codes "&", Ampersand) ∷ (codes "+", Sign) ∷ (codes "-", Sign)
     ∷ (codes "==", Equality) ∷ (codes "!=", Equality) ∷ (codes "<", Relation) ∷ (codes ">", Relation)
     ∷ (codes "<=", Relation) ∷ (codes ">=", Relation) ∷ (codes "&&", And) ∷ (codes "||", Or)

@@ -1,14 +1,14 @@
 -- What the parser found of the name of a type at a place (ISO C11 6.7.7).
-use Rattle.std.specs.Prelude.{◌≡◌, ℕ, ◌<◌, ◌≤◌, List, length, Bool, true, false, Option, Some, None, ◌||◌}
+use Rattle.std.specs.Prelude.{◌≡◌, ℕ, ◌+◌, ◌<◌, ◌≤◌, List, length, Bool, true, false, Option, Some, None, ◌||◌}
 use Rattle.tree_data.specs.declared.types.Specifier.{Specifier}
 use Rattle.tree_data.specs.Seen.{specifier_of}
-use Rattle.tree_data.specs.Trees.{Specifying, Specifyings, Declaring, Grouping, Deriving, Derivings, Bound}
+use Rattle.tree_data.specs.Trees.{Specifying, Specifyings, Declaring, Grouping, Deriving, Derivings, Bound, Parameters, Row}
 use Rattle.c_parser.specs.declared.answers.Stop.{Stop}
 use Rattle.c_parser.specs.declared.kinds.Kind.{Kind}
-use Rattle.c_parser.specs.declared.kinds.Kind.TheVariants.{Star}
+use Rattle.c_parser.specs.declared.kinds.Kind.TheVariants.{Star, CloseParen, Comma, Ellipsis}
 use Rattle.c_parser.specs.Grammar.{has_type}
 use Rattle.c_parser.specs.Kinds.{kind_at, ends_specifiers, qualifies_at}
-use Rattle.c_parser.specs.Reading.{HoldQualifiers, HoldPointers, HoldSpecifying, HoldSpecifyings, HoldsDeclaring, HoldsGrouping, HoldsDeriving, HoldDerivings, HoldsBound, IsWant}
+use Rattle.c_parser.specs.Reading.{HoldQualifiers, HoldPointers, HoldSpecifying, HoldSpecifyings, HoldsDeclaring, HoldsGrouping, HoldsDeriving, HoldDerivings, HoldsBound, HoldParameters, HoldRow, IsWant}
 
 -- no specifier or qualifier stands here
 abbrev pub NoMore : List Kind → Bool → ℕ → Type 0
@@ -50,13 +50,13 @@ pub record FoundPointers (kinds : List Kind) (a : ℕ) (ps : List (ℕ × List �
   pub forth : a ≤ b
   pub inside : b ≤ length kinds
 
-pub record FoundDeclaring (kinds : List Kind) (a : ℕ) (d : Declaring) (b : ℕ) : Type 0 where
-  pub reads : HoldsDeclaring kinds d a b
+pub record FoundDeclaring (kinds : List Kind) (named : Bool) (a : ℕ) (d : Declaring) (b : ℕ) : Type 0 where
+  pub reads : HoldsDeclaring kinds named d a b
   pub forth : a ≤ b
   pub inside : b ≤ length kinds
 
-pub record FoundGrouping (kinds : List Kind) (a : ℕ) (g : Grouping) (b : ℕ) : Type 0 where
-  pub reads : HoldsGrouping kinds g a b
+pub record FoundGrouping (kinds : List Kind) (named : Bool) (a : ℕ) (g : Grouping) (b : ℕ) : Type 0 where
+  pub reads : HoldsGrouping kinds named g a b
   pub forth : a ≤ b
   pub inside : b ≤ length kinds
 
@@ -72,5 +72,21 @@ pub record FoundDerivings (kinds : List Kind) (a : ℕ) (ds : Derivings) (b : �
 
 pub record FoundBound (kinds : List Kind) (a : ℕ) (x : Bound) (b : ℕ) : Type 0 where
   pub reads : HoldsBound kinds x a b
+  pub forth : a ≤ b
+  pub inside : b ≤ length kinds
+
+pub record FoundParameters (kinds : List Kind) (a : ℕ) (ps : Parameters) (b : ℕ) : Type 0 where
+  pub reads : HoldParameters kinds ps a b
+  pub forth : a ≤ b
+  pub inside : b ≤ length kinds
+
+-- behind the last parameter stands `)`, or `,` and `...`
+pub data RowEnd (kinds : List Kind) (c : ℕ) : Type 0 where
+  at_close : kind_at kinds c ≡ CloseParen → RowEnd kinds c
+  at_dots : kind_at kinds c ≡ Comma → kind_at kinds (c + 1) ≡ Ellipsis → RowEnd kinds c
+
+pub record FoundRow (kinds : List Kind) (a : ℕ) (ps : Row) (b : ℕ) : Type 0 where
+  pub reads : HoldRow kinds ps a b
+  pub dots : kind_at kinds b ≡ Comma → kind_at kinds (b + 1) ≡ Ellipsis
   pub forth : a ≤ b
   pub inside : b ≤ length kinds

@@ -1,18 +1,19 @@
 // Abstract declarators (ISO C11 6.7.7): pointers, a declarator in parentheses, arrays and functions.
 ghost use Rattle.std.specs.Prelude.{◌≡◌, true, false, ℕ, ◌+◌, ◌<◌, ◌≤◌, length, IfOk, IfErr};
-ghost use Rattle.tree_data.specs.Seen.{pointers_of, declarator_of, group_of, deriving_of, derivings_of, bound_of};
+ghost use Rattle.tree_data.specs.Seen.{pointers_of, declarator_of, group_of, deriving_of, derivings_of, bound_of, parameters_of, parameter_row_of};
 ghost use Rattle.tree_data.specs.Trees as tree;
 ghost use Rattle.tree_data.specs.Trees.{Declaring, Grouping, Derivings, No_derivings};
-ghost use Rattle.c_parser.specs.declared.kinds.Kind.TheVariants.{OpenParen, OpenBracket, CloseBracket, Static};
+ghost use Rattle.c_parser.specs.declared.kinds.Kind.TheVariants.{OpenParen, CloseParen, OpenBracket, CloseBracket, Static};
 ghost use Rattle.c_parser.specs.Kinds as spec;
-ghost use Rattle.c_parser.specs.Reading.{HoldsDeclaring, HoldsGrouping, HoldsDeriving, HoldDerivings, HoldsBound, MustGive};
-ghost use Rattle.c_parser.specs.TypeNames.{FoundQualifiers, FoundPointers, FoundDeclaring, FoundGrouping, FoundDeriving, FoundDerivings, FoundBound};
+ghost use Rattle.c_parser.specs.Reading.{HoldsDeclaring, HoldsGrouping, HoldsDeriving, HoldDerivings, HoldsBound, HoldParameters, HoldRow, MustGive};
+ghost use Rattle.c_parser.specs.TypeNames.{FoundQualifiers, FoundPointers, FoundDeclaring, FoundGrouping, FoundDeriving, FoundDerivings, FoundBound, FoundParameters, FoundRow, RowEnd};
 
 use crate::answers::Stop;
 use crate::expressions::{ASSIGNMENT, level};
-use crate::kinds::{Kind, any_size_at, kind_at, qualifies_at};
+use crate::kinds::{Kind, any_size_at, kind_at, names_at, qualifies_at};
+use crate::type_names::specified;
 use std::alloc::Global;
-use tree_data::{Bound, Declarator, Deriving, Group, Pointer};
+use tree_data::{Bound, Declarator, Deriving, Group, Parameters, Pointer, TypeName};
 
 // All qualifiers that stand here.
 fn qualifiers(alloc: Global, kinds: &[Kind], at: u32) -> Result<(Vec<u32>, u32), Stop>
@@ -62,23 +63,27 @@ fn pointers(alloc: Global, kinds: &[Kind], at: u32) -> Result<(Vec<Pointer>, u32
     }
 }
 
-// A declarator in parentheses, or nothing: a `(` with a `)` behind it opens the parameters of a function.
+// A name where one may stand, a declarator in parentheses, or nothing. A `(` behind which `)` or what a type's name begins with
+// stands opens the parameters of a function (6.7.6.3p11).
 #[cycle(parser)]
-fn group(alloc: Global, kinds: &[Kind], at: u32) -> Result<(Group, u32), Stop>
+fn group(alloc: Global, kinds: &[Kind], at: u32, named: bool) -> Result<(Group, u32), Stop>
     requires size { length kinds.now ≤ 2000000 }
     requires inside { at ≤ length kinds.now }
-    ensures found { IfOk result (λ r. FoundGrouping kinds.now at (group_of r.0) r.1) }
-    ensures only { (g : Grouping) → (m : ℕ) → (ds : Derivings) → (end : ℕ) → HoldsGrouping kinds.now g at m
+    ensures found { IfOk result (λ r. FoundGrouping kinds.now named at (group_of r.0) r.1) }
+    ensures only { (g : Grouping) → (m : ℕ) → (ds : Derivings) → (end : ℕ) → HoldsGrouping kinds.now named g at m
         → HoldDerivings kinds.now ds m end → spec.ends_type (spec.kind_at kinds.now end) ≡ true
         → MustGive result (λ r. (group_of r.0 ≡ g) × (r.1 ≡ m)) }
 {
+    if names_at(kinds, at, named) {
+        return Ok((Group::named(at), at + 1));
+    }
     let Kind::OpenParen = kind_at(kinds, at) else {
         return Ok((Group::none(), at));
     };
-    if let Kind::CloseParen = kind_at(kinds, at + 1) {
+    if kind_at(kinds, at + 1).opens_parameters() {
         return Ok((Group::none(), at));
     }
-    let (inner, closing) = match declarator(alloc, kinds, at + 1) {
+    let (inner, closing) = match declarator(alloc, kinds, at + 1, named) {
         Ok(found) => found,
         Err(stop) => return Err(stop),
     };
@@ -196,8 +201,74 @@ fn array(alloc: Global, kinds: &[Kind], at: u32) -> Result<(Deriving, u32), Stop
     Ok((Deriving::array(at, bound, closing), closing + 1))
 }
 
-// A function without parameters.
-fn function(kinds: &[Kind], at: u32) -> Result<(Deriving, u32), Stop>
+// The parameters behind the first, each with the comma in front of it, up to a `,` with `...` behind it.
+#[cycle(parser)]
+fn more_parameters(
+    alloc: Global,
+    kinds: &[Kind],
+    at: u32,
+) -> Result<(Vec<(u32, TypeName)>, u32), Stop>
+    requires size { length kinds.now ≤ 2000000 }
+    requires inside { at ≤ length kinds.now }
+    ensures found { IfOk result (λ r. FoundRow kinds.now at (tree.row (parameter_row_of r.0.items) tree.No_more) r.1) }
+    ensures only { (ps : tree.Row) → (end : ℕ) → HoldRow kinds.now ps at end → RowEnd kinds.now end
+        → MustGive result (λ r. (tree.row (parameter_row_of r.0.items) tree.No_more ≡ ps) × (r.1 ≡ end)) }
+{
+    let mut more = Vec::new(alloc);
+    let mut end = at;
+    'parameters: loop {
+        let Kind::Comma = kind_at(kinds, end) else {
+            return Ok((more, end));
+        };
+        if let Kind::Ellipsis = kind_at(kinds, end + 1) {
+            return Ok((more, end));
+        }
+        let (one, next) = match specified(alloc, kinds, end + 1, true) {
+            Ok(found) => found,
+            Err(stop) => return Err(stop),
+        };
+        let Ok(()) = more.push((end, one)) else {
+            return Err(Stop::NoMemory);
+        };
+        end = next;
+    }
+}
+
+// The parameters of a function, behind which `)` has to stand.
+#[cycle(parser)]
+fn parameters(alloc: Global, kinds: &[Kind], at: u32) -> Result<(Parameters, u32), Stop>
+    requires size { length kinds.now ≤ 2000000 }
+    requires inside { at ≤ length kinds.now }
+    ensures found { IfOk result (λ r. FoundParameters kinds.now at (parameters_of r.0) r.1) }
+    ensures only { (ps : tree.Parameters) → (end : ℕ) → HoldParameters kinds.now ps at end → spec.kind_at kinds.now end ≡ CloseParen
+        → MustGive result (λ r. (parameters_of r.0 ≡ ps) × (r.1 ≡ end)) }
+{
+    if let Kind::CloseParen = kind_at(kinds, at) {
+        return Ok((Parameters::none(), at));
+    }
+    let (first, behind) = match specified(alloc, kinds, at, true) {
+        Ok(found) => found,
+        Err(stop) => return Err(stop),
+    };
+    let (more, end) = match more_parameters(alloc, kinds, behind) {
+        Ok(found) => found,
+        Err(stop) => return Err(stop),
+    };
+    let Kind::Comma = kind_at(kinds, end) else {
+        return match Parameters::fixed(alloc, first, more) {
+            Ok(parameters) => Ok((parameters, end)),
+            Err(_) => Err(Stop::NoMemory),
+        };
+    };
+    match Parameters::variadic(alloc, first, more, end, end + 1) {
+        Ok(parameters) => Ok((parameters, end + 2)),
+        Err(_) => Err(Stop::NoMemory),
+    }
+}
+
+// A function.
+#[cycle(parser)]
+fn function(alloc: Global, kinds: &[Kind], at: u32) -> Result<(Deriving, u32), Stop>
     requires size { length kinds.now ≤ 2000000 }
     requires inside { at < length kinds.now }
     requires kind { spec.kind_at kinds.now at ≡ OpenParen }
@@ -205,10 +276,14 @@ fn function(kinds: &[Kind], at: u32) -> Result<(Deriving, u32), Stop>
     ensures only { (d : tree.Deriving) → (end : ℕ) → HoldsDeriving kinds.now d at end
         → MustGive result (λ r. (deriving_of r.0 ≡ d) × (r.1 ≡ end)) }
 {
-    let Kind::CloseParen = kind_at(kinds, at + 1) else {
-        return Err(Stop::Syntax(at + 1));
+    let (parameters, closing) = match parameters(alloc, kinds, at + 1) {
+        Ok(found) => found,
+        Err(stop) => return Err(stop),
     };
-    Ok((Deriving::function(at, at + 1), at + 2))
+    let Kind::CloseParen = kind_at(kinds, closing) else {
+        return Err(Stop::Syntax(closing));
+    };
+    Ok((Deriving::function(at, parameters, closing), closing + 1))
 }
 
 // An array or a function.
@@ -223,7 +298,7 @@ fn array_or_function(alloc: Global, kinds: &[Kind], at: u32) -> Result<(Deriving
 {
     match kind_at(kinds, at) {
         Kind::OpenBracket => array(alloc, kinds, at),
-        Kind::OpenParen => function(kinds, at),
+        Kind::OpenParen => function(alloc, kinds, at),
         _ => Err(Stop::Syntax(at)),
     }
 }
@@ -255,13 +330,18 @@ fn derivings(alloc: Global, kinds: &[Kind], at: u32) -> Result<(Vec<Deriving>, u
     }
 }
 
-// An abstract declarator, or nothing.
+// A declarator, abstract or nothing, or one with a name where one may stand.
 #[cycle(parser)]
-pub(crate) fn declarator(alloc: Global, kinds: &[Kind], at: u32) -> Result<(Declarator, u32), Stop>
+pub(crate) fn declarator(
+    alloc: Global,
+    kinds: &[Kind],
+    at: u32,
+    named: bool,
+) -> Result<(Declarator, u32), Stop>
     requires size { length kinds.now ≤ 2000000 }
     requires inside { at ≤ length kinds.now }
-    ensures found { IfOk result (λ r. FoundDeclaring kinds.now at (declarator_of r.0) r.1) }
-    ensures only { (d : Declaring) → (end : ℕ) → HoldsDeclaring kinds.now d at end
+    ensures found { IfOk result (λ r. FoundDeclaring kinds.now named at (declarator_of r.0) r.1) }
+    ensures only { (d : Declaring) → (end : ℕ) → HoldsDeclaring kinds.now named d at end
         → spec.ends_type (spec.kind_at kinds.now end) ≡ true
         → MustGive result (λ r. (declarator_of r.0 ≡ d) × (r.1 ≡ end)) }
 {
@@ -269,7 +349,7 @@ pub(crate) fn declarator(alloc: Global, kinds: &[Kind], at: u32) -> Result<(Decl
         Ok(found) => found,
         Err(stop) => return Err(stop),
     };
-    let (group, next) = match group(alloc, kinds, behind) {
+    let (group, next) = match group(alloc, kinds, behind, named) {
         Ok(found) => found,
         Err(stop) => return Err(stop),
     };

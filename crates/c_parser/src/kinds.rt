@@ -57,6 +57,8 @@ pub(crate) enum Kind {
     // `__offsetof`.
     OffsetOf,
     Default,
+    // `...`.
+    Ellipsis,
     // Of no use in an expression.
     Other,
     // No token is left.
@@ -176,10 +178,32 @@ impl Kind {
         matches!(self, Kind::CloseBracket)
     }
 
+    // Whether it shows parameters behind a `(` at the front of a declarator (6.7.6.3p11).
+    pub fn opens_parameters(self) -> bool
+        ensures { result ≡ spec.opens_parameters self }
+    {
+        matches!(
+            self,
+            Kind::CloseParen
+                | Kind::TypeWord
+                | Kind::Qualifier
+                | Kind::Tag
+                | Kind::TypeName
+                | Kind::Atomic
+        )
+    }
+
     pub fn is_opening(self) -> bool
         ensures { result ≡ spec.is_opening self }
     {
         matches!(self, Kind::OpenParen)
+    }
+
+    // Whether it is an identifier that is no typedef name.
+    pub fn is_identifier(self) -> bool
+        ensures { result ≡ spec.is_identifier self }
+    {
+        matches!(self, Kind::Identifier)
     }
 
     // Whether it is an identifier, a typedef name or not.
@@ -261,6 +285,14 @@ pub(crate) fn any_size_at(kinds: &[Kind], at: u32) -> bool
     ensures { result ≡ spec.any_size_at kinds.now at }
 {
     kind_at(kinds, at).is_star() && kind_at(kinds, at + 1).is_closing_bracket()
+}
+
+// Whether the name that a declarator declares stands here, where it may have one (6.7.6).
+#[tactic(auto, unfolding(crate::specs::Kinds::names_at))]
+pub(crate) fn names_at(kinds: &[Kind], at: u32, named: bool) -> bool
+    ensures { result ≡ spec.names_at kinds.now at named }
+{
+    named && kind_at(kinds, at).is_identifier()
 }
 
 // Whether no operator stands in front of this token that takes a unary-expression.

@@ -10,11 +10,12 @@ use std::alloc::{AllocError, Global};
 use std::collections::HashSet;
 use tok_data::{OutToken, PpKind, is_keyword};
 
-static MARKS: [(&str, Kind); 48] = [
+static MARKS: [(&str, Kind); 49] = [
     ("(", Kind::OpenParen),
     (")", Kind::CloseParen),
     (",", Kind::Comma),
     ("=", Kind::Equals),
+    ("...", Kind::Ellipsis),
     ("->", Kind::Member),
     (".", Kind::Dot),
     ("[", Kind::OpenBracket),

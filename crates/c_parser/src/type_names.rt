@@ -4,7 +4,7 @@ ghost use Rattle.tree_data.specs.Seen.{specifier_of, specifiers_of, type_of};
 ghost use Rattle.tree_data.specs.Trees.{Naming, Atomic_of, Specifyings, No_specifiers, specifyings};
 ghost use Rattle.c_parser.specs.declared.kinds.Kind.TheVariants.{CloseParen};
 ghost use Rattle.c_parser.specs.Kinds as spec;
-ghost use Rattle.c_parser.specs.Reading.{HoldsType, HoldSpecifyings, FoundType, MustGive};
+ghost use Rattle.c_parser.specs.Reading.{HoldsNaming, HoldsType, HoldSpecifyings, FoundNaming, FoundType, MustGive};
 ghost use Rattle.c_parser.specs.TypeNames.{FoundSpecifying, FoundSpecifiers, Specified, FailsSpecifying};
 
 use crate::answers::Stop;
@@ -110,13 +110,18 @@ fn specifiers(alloc: Global, kinds: &[Kind], at: u32) -> Result<(Vec<Specifier>,
     }
 }
 
-// The name of a type, behind which `)`, `:`, `,` or nothing has to stand.
+// Specifiers and a declarator, behind which `)`, `:`, `,` or nothing has to stand; whether it may have a name.
 #[cycle(parser)]
-pub(crate) fn type_name(alloc: Global, kinds: &[Kind], at: u32) -> Result<(TypeName, u32), Stop>
+pub(crate) fn specified(
+    alloc: Global,
+    kinds: &[Kind],
+    at: u32,
+    named: bool,
+) -> Result<(TypeName, u32), Stop>
     requires size { length kinds.now ≤ 2000000 }
     requires inside { at ≤ length kinds.now }
-    ensures found { IfOk result (λ r. FoundType kinds.now at (type_of r.0) r.1) }
-    ensures only { (t : Naming) → (end : ℕ) → HoldsType kinds.now t at end → spec.ends_type (spec.kind_at kinds.now end) ≡ true
+    ensures found { IfOk result (λ r. FoundNaming kinds.now named at (type_of r.0) r.1) }
+    ensures only { (t : Naming) → (end : ℕ) → HoldsNaming kinds.now named t at end → spec.ends_type (spec.kind_at kinds.now end) ≡ true
         → MustGive result (λ r. (type_of r.0 ≡ t) × (r.1 ≡ end)) }
 {
     let (specifiers, behind) = match specifiers(alloc, kinds, at) {
@@ -126,8 +131,20 @@ pub(crate) fn type_name(alloc: Global, kinds: &[Kind], at: u32) -> Result<(TypeN
     if specifiers.as_slice().is_empty() {
         return Err(Stop::Syntax(behind));
     }
-    match declarator(alloc, kinds, behind) {
+    match declarator(alloc, kinds, behind, named) {
         Ok((declarator, end)) => Ok((TypeName::new(Specs::new(specifiers), declarator), end)),
         Err(stop) => Err(stop),
     }
+}
+
+// The name of a type, behind which `)`, `:`, `,` or nothing has to stand.
+#[cycle(parser)]
+pub(crate) fn type_name(alloc: Global, kinds: &[Kind], at: u32) -> Result<(TypeName, u32), Stop>
+    requires size { length kinds.now ≤ 2000000 }
+    requires inside { at ≤ length kinds.now }
+    ensures found { IfOk result (λ r. FoundType kinds.now at (type_of r.0) r.1) }
+    ensures only { (t : Naming) → (end : ℕ) → HoldsType kinds.now t at end → spec.ends_type (spec.kind_at kinds.now end) ≡ true
+        → MustGive result (λ r. (type_of r.0 ≡ t) × (r.1 ≡ end)) }
+{
+    specified(alloc, kinds, at, false)
 }

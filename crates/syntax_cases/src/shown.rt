@@ -2,8 +2,8 @@
 use std::alloc::{AllocError, Global};
 use tok_data::OutToken;
 use tree_data::{
-    Association, Bound, Braces, Choice, Declarator, Deriving, Designator, Expr, Group, Init, Piece,
-    Prefix, Specifier, Suffix, TypeName,
+    Association, Bound, Braces, Choice, Declarator, Deriving, Designator, Expr, Group, Init,
+    Parameters, Piece, Prefix, Specifier, Suffix, TypeName,
 };
 
 fn spelling(tokens: &[OutToken], at: u32) -> &str {
@@ -144,7 +144,40 @@ fn show_bound(out: &mut String, tokens: &[OutToken], bound: &Bound) -> Result<()
 fn open_deriving(out: &mut String, deriving: &Deriving) -> Result<(), AllocError> {
     match deriving {
         Deriving::Array(_, _, _) => out.push_str("(array "),
-        Deriving::Function(_, _) => out.push_str("(func "),
+        Deriving::Function(_, _, _) => out.push_str("(func "),
+    }
+}
+
+// The first parameter and the others.
+#[cycle(show)]
+fn show_row(
+    out: &mut String,
+    tokens: &[OutToken],
+    first: &TypeName,
+    more: &[(u32, TypeName)],
+) -> Result<(), AllocError> {
+    out.push_str(" (param ")?;
+    show_specified(out, tokens, first)?;
+    for pair in more {
+        out.push_str(" (param ")?;
+        show_specified(out, tokens, &pair.1)?;
+    }
+    Ok(())
+}
+
+#[cycle(show)]
+fn show_parameters(
+    out: &mut String,
+    tokens: &[OutToken],
+    parameters: &Parameters,
+) -> Result<(), AllocError> {
+    match parameters {
+        Parameters::NoParameters => Ok(()),
+        Parameters::Fixed(first, more) => show_row(out, tokens, first, more.as_slice()),
+        Parameters::Variadic(first, more, _, _) => {
+            show_row(out, tokens, first, more.as_slice())?;
+            out.push_str(" ...")
+        }
     }
 }
 
@@ -154,8 +187,9 @@ fn close_deriving(
     tokens: &[OutToken],
     deriving: &Deriving,
 ) -> Result<(), AllocError> {
-    if let Deriving::Array(_, bound, _) = deriving {
-        show_bound(out, tokens, bound)?;
+    match deriving {
+        Deriving::Array(_, bound, _) => show_bound(out, tokens, bound)?,
+        Deriving::Function(_, parameters, _) => show_parameters(out, tokens, parameters)?,
     }
     out.push_str(")")
 }
@@ -164,6 +198,7 @@ fn close_deriving(
 fn show_group(out: &mut String, tokens: &[OutToken], group: &Group) -> Result<(), AllocError> {
     match group {
         Group::NoGroup => out.push_str("_"),
+        Group::Named(at) => spell(out, tokens, *at),
         Group::Grouped(_, inner, _) => {
             out.push_str("(paren ")?;
             show_declarator(out, tokens, inner)?;
@@ -204,9 +239,14 @@ fn show_declarator(
     close(out, declarator.pointers.len())
 }
 
+// Specifiers and a declarator, and the `)` behind them.
 #[cycle(show)]
-fn show_name(out: &mut String, tokens: &[OutToken], name: &TypeName) -> Result<(), AllocError> {
-    out.push_str("(type (specs")?;
+fn show_specified(
+    out: &mut String,
+    tokens: &[OutToken],
+    name: &TypeName,
+) -> Result<(), AllocError> {
+    out.push_str("(specs")?;
     for specifier in &name.specs.specifiers {
         out.push_str(" ")?;
         show_specifier(out, tokens, specifier)?;
@@ -214,6 +254,12 @@ fn show_name(out: &mut String, tokens: &[OutToken], name: &TypeName) -> Result<(
     out.push_str(") ")?;
     show_declarator(out, tokens, &name.declarator)?;
     out.push_str(")")
+}
+
+#[cycle(show)]
+fn show_name(out: &mut String, tokens: &[OutToken], name: &TypeName) -> Result<(), AllocError> {
+    out.push_str("(type ")?;
+    show_specified(out, tokens, name)
 }
 
 #[cycle(show)]

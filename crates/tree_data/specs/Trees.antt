@@ -92,22 +92,34 @@ mutual
   pub data Naming : Type 0 where
     Type_of : Specifyings → Declaring → Naming
 
-  -- each `*` with the qualifiers behind it, a declarator in parentheses, and the arrays and functions behind these
+  -- each `*` with the qualifiers behind it, a name or a declarator in parentheses, and the arrays and functions behind these
   pub data Declaring : Type 0 where
     Declaring_of : List (ℕ × List ℕ) → Grouping → Derivings → Declaring
 
   pub data Grouping : Type 0 where
     No_group : Grouping
+    Named_of : ℕ → Grouping
     Group_of : ℕ → Declaring → ℕ → Grouping
 
-  -- an array, or a function without parameters
+  -- an array, or a function
   pub data Deriving : Type 0 where
     Array_of : ℕ → Bound → ℕ → Deriving
-    Function_of : ℕ → ℕ → Deriving
+    Function_of : ℕ → Parameters → ℕ → Deriving
 
   pub data Derivings : Type 0 where
     No_derivings : Derivings
     Deriving_then : Deriving → Derivings → Derivings
+
+  -- none, or the first and each other one with the comma in front of it, and with `, ...` behind them or without; a parameter is
+  -- written as the name of a type is, with a name or without
+  pub data Parameters : Type 0 where
+    No_parameters : Parameters
+    Fixed_of : Naming → Row → Parameters
+    Variadic_of : Naming → Row → ℕ → ℕ → Parameters
+
+  pub data Row : Type 0 where
+    No_more : Row
+    Parameter_then : ℕ → Naming → Row → Row
 
   -- what stands in the brackets of an array: qualifiers; `*`; a size with qualifiers in front of it; one with `static` and
   -- qualifiers in front of it, or with qualifiers and `static`
@@ -146,6 +158,10 @@ specifyings (s ∷ ss) more = Specifier_then s (specifyings ss more)
 abbrev pub derivings : List Deriving → Derivings → Derivings
 derivings [] more = more
 derivings (d ∷ ds) more = Deriving_then d (derivings ds more)
+
+abbrev pub row : List (ℕ × Naming) → Row → Row
+row [] more = more
+row (p ∷ ps) more = Parameter_then p.0 p.1 (row ps more)
 
 abbrev pub operand : ℕ × Tree → Behind
 operand p = Operand_of p.0 p.1

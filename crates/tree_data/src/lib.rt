@@ -11,4 +11,6 @@ pub use expr::Expr;
 pub use inits::{Braces, Designator, Init, Piece};
 pub use parts::{Choice, Suffix};
 pub use selections::Association;
-pub use types::{Bound, Declarator, Deriving, Group, Pointer, Prefix, Specifier, Specs, TypeName};
+pub use types::{
+    Bound, Declarator, Deriving, Group, Parameters, Pointer, Prefix, Specifier, Specs, TypeName,
+};

@@ -1,7 +1,7 @@
 // Names of types (ISO C11 6.7.7), and what stands in front of an operand.
 ghost use Rattle.std.specs.Prelude.{◌≡◌, IfOk};
 ghost use Rattle.tree_data.specs.Seen as seen;
-ghost use Rattle.tree_data.specs.Seen.{prefix_of, specifier_of, specs_of, declarator_of, group_of, deriving_of, bound_of, type_of, naming};
+ghost use Rattle.tree_data.specs.Seen.{prefix_of, specifier_of, specs_of, declarator_of, group_of, parameters_of, deriving_of, bound_of, type_of, naming};
 ghost use Rattle.tree_data.specs.Trees as spec;
 
 use crate::expr::Expr;
@@ -35,8 +35,7 @@ pub struct Specs {
     pub specifiers: Vec<Specifier>,
 }
 
-/// A declarator (6.7.6, 6.7.7), so far one without a name: its pointers from left to right, a declarator in parentheses if
-/// there is one, and the arrays and functions behind it from left to right. What stands in the parentheses is outermost;
+/// A declarator (6.7.6, 6.7.7): its pointers from left to right, a name or a declarator in parentheses if there is one, and the arrays and functions behind it from left to right. What stands in the parentheses is outermost;
 /// of the rest the first array or function is, and the last pointer is the outermost of the pointers.
 #[derive(Drop)]
 #[cycle(trees)]
@@ -46,12 +45,14 @@ pub struct Declarator {
     pub derivings: Vec<Deriving>,
 }
 
-/// What the pointers of a declarator stand in front of, so far without a name.
+/// What the pointers of a declarator stand in front of.
 #[derive(Drop)]
 #[cycle(trees)]
 pub enum Group {
     /// Nothing, or an array or a function.
     NoGroup,
+    /// The name that is declared.
+    Named(u32),
     /// `( declarator )`, in which something stands.
     Grouped(u32, Box<Declarator>, u32),
 }
@@ -62,8 +63,20 @@ pub enum Group {
 pub enum Deriving {
     /// `[`, what stands in the brackets, and `]`.
     Array(u32, Bound, u32),
-    /// `( )`, without parameters.
-    Function(u32, u32),
+    /// `(`, the parameters, and `)`.
+    Function(u32, Parameters, u32),
+}
+
+/// The parameters of a function (6.7.6.3). Each is specifiers and a declarator, with a name or without.
+#[derive(Drop)]
+#[cycle(trees)]
+pub enum Parameters {
+    /// None are told.
+    NoParameters,
+    /// The first, and each other one with the comma in front of it.
+    Fixed(Box<TypeName>, Vec<(u32, TypeName)>),
+    /// The same with `,` and `...` behind them.
+    Variadic(Box<TypeName>, Vec<(u32, TypeName)>, u32, u32),
 }
 
 /// What stands in the brackets of an array (6.7.6.2, 6.7.7).
@@ -168,6 +181,13 @@ impl Group {
         Group::NoGroup
     }
 
+    /// A name.
+    pub fn named(at: u32) -> Group
+        ensures { group_of result ≡ spec.Named_of at }
+    {
+        Group::Named(at)
+    }
+
     /// A declarator in parentheses.
     pub fn of(
         alloc: Global,
@@ -190,11 +210,47 @@ impl Deriving {
         Deriving::Array(opening, bound, closing)
     }
 
-    /// A function without parameters.
-    pub fn function(opening: u32, closing: u32) -> Deriving
-        ensures { deriving_of result ≡ spec.Function_of opening closing }
+    /// A function.
+    pub fn function(opening: u32, parameters: Parameters, closing: u32) -> Deriving
+        ensures { deriving_of result ≡ spec.Function_of opening (parameters_of parameters) closing }
     {
-        Deriving::Function(opening, closing)
+        Deriving::Function(opening, parameters, closing)
+    }
+}
+
+impl Parameters {
+    /// No parameters.
+    pub fn none() -> Parameters
+        ensures { parameters_of result ≡ spec.No_parameters }
+    {
+        Parameters::NoParameters
+    }
+
+    /// So many as there are.
+    pub fn fixed(
+        alloc: Global,
+        first: TypeName,
+        more: Vec<(u32, TypeName)>,
+    ) -> Result<Parameters, AllocError>
+        ensures { IfOk result (λ p. parameters_of p ≡ spec.Fixed_of (type_of first) (spec.row (seen.parameter_row_of more.items) spec.No_more)) }
+    {
+        let first = Box::new(alloc, first)?;
+        Ok(Parameters::Fixed(first, more))
+    }
+
+    /// With more arguments behind them.
+    pub fn variadic(
+        alloc: Global,
+        first: TypeName,
+        more: Vec<(u32, TypeName)>,
+        comma: u32,
+        dots: u32,
+    ) -> Result<Parameters, AllocError>
+        ensures { IfOk result (λ p. parameters_of p
+            ≡ spec.Variadic_of (type_of first) (spec.row (seen.parameter_row_of more.items) spec.No_more) comma dots) }
+    {
+        let first = Box::new(alloc, first)?;
+        Ok(Parameters::Variadic(first, more, comma, dots))
     }
 }
 

@@ -1,14 +1,15 @@
-use Rattle.c_parser.proofs.Abstract.{no_group, group_fails, group_left_open, group_found, group_same, static_fails, static_found, static_same, unsized_found, unsized_same, last_static_fails, last_static_found, last_static_same, sized_fails, sized_found, sized_same, any_found, any_same, array_fails, array_left_open, array_found, found_deriving_only, nothing_derives, derivings_found, derivings_same, derivings_fail, derivings_push, group_missing, derivings_missing, declaring_found, declaring_same}
-use Rattle.c_parser.proofs.SpecifierLists.{atomic_found, atomic_specified, atomic_fails, specifiers_end, specifiers_only, specifiers_fail, specifiers_push, specifiers_missing, none_specifying, some_specifying, declarator_missing, type_found, name_only}
-use Rattle.c_parser.proofs.Words.{opens_inside, opens_next}
-use Rattle.c_parser.specs.TypeNames.{FoundGrouping, FoundBound, FoundDeriving, FoundDeclaring}
+use Rattle.c_parser.proofs.ParameterLists.{parameter_row_found, parameter_row_same, parameter_row_fails, parameter_row_push, none_same, first_missing, rest_missing, fixed_same, variadic_same, fixed_found, variadic_found}
+use Rattle.c_parser.proofs.Abstract.{no_group, group_fails, group_left_open, group_found, group_same, static_fails, static_found, static_same, unsized_found, unsized_same, last_static_fails, last_static_found, last_static_same, sized_fails, sized_found, sized_same, any_found, any_same, array_fails, array_left_open, array_found, found_deriving_only, nothing_derives, derivings_found, derivings_same, derivings_fail, derivings_push, group_missing, derivings_missing, declaring_found, declaring_same, name_found, name_same, function_found, function_fails, function_left_open}
+use Rattle.c_parser.proofs.SpecifierLists.{atomic_found, atomic_specified, atomic_fails, specifiers_end, specifiers_only, specifiers_fail, specifiers_push, specifiers_missing, none_specifying, some_specifying, declarator_missing, naming_found, name_only}
+use Rattle.c_parser.proofs.Words.{opens_inside, opens_next, name_stands, name_stands_not}
+use Rattle.c_parser.specs.TypeNames.{FoundGrouping, FoundBound, FoundDeriving, FoundDeclaring, FoundParameters}
 use Rattle.tree_data.specs.Trees.{Atomic_of, Type_of}
 use Rattle.tree_data.specs.Seen.{declarator_of}
 use Rattle.c_parser.specs.declared.before.Begun.TheVariants.{Literal}
 use Rattle.std.proofs.Common.{ap, sym, ◌∙◌, subst, arith, ◌+◌, ◌≤◌, ◌<◌, ◌≡◌, refl, length, ◌==◌}
 use Rattle.c_parser.specs.Beginnings.{start_of}
-use Rattle.c_parser.specs.Kinds.{level_of, is_word, is_designating, is_prefix, is_deriving}
-use Rattle.c_parser.specs.Reading.{Reads, Found, FoundBehind, FoundBraces, FoundInitial, FoundDesignator, FoundAssociation, FoundFront, FoundType}
+use Rattle.c_parser.specs.Kinds.{level_of, is_word, is_designating, is_prefix, is_deriving, opens_parameters}
+use Rattle.c_parser.specs.Reading.{Reads, Found, FoundBehind, FoundBraces, FoundInitial, FoundDesignator, FoundAssociation, FoundFront, FoundNaming}
 use Rattle.c_parser.proofs.Fronts.{value_fails, no_place, places_end, test_fails, middle_fails, no_colon, tests_end, unary_fails, operand_of_fails, unary_found}
 use Rattle.c_parser.proofs.Marks.{is_step, member_none}
 use Rattle.c_parser.proofs.Generics.{default_found, default_only, default_unparted, default_fails, typed_found, typed_only, type_first_fails, typed_unparted, typed_fails, choices_found, choices_only, choices_fail, generic_unopened, control_fails, nothing_chosen, choices_of_fail, generic_left_open, generic_found, steps_found, steps_only, steps_fail, offset_unopened, offset_type_fails, offset_unparted, offset_unnamed, offset_steps_fail, offset_left_open, offset_found}
@@ -913,14 +914,15 @@ type_names::specifiers-specifiers-preserved t c =
     (rw c.in-Ok-Some.field-0-is at c.in-Ok-Some.ensures.found)
     c.in-Ok.ensures.items
 
-pub type_names::type_name-returns-in-Err : goal.type_names::type_name-returns-in-Err
-type_names::type_name-returns-in-Err t c = record { found = tt; only = specifiers_missing _ _ _ c.in-Err.ensures.only }
+pub type_names::specified-returns-in-Err : goal.type_names::specified-returns-in-Err
+type_names::specified-returns-in-Err t c = record { found = tt; only = specifiers_missing _ _ _ _ c.in-Err.ensures.only }
 
-pub type_names::type_name-returns-then-is_empty : goal.type_names::type_name-returns-then-is_empty
-type_names::type_name-returns-then-is_empty t c = record {
+pub type_names::specified-returns-then-is_empty : goal.type_names::specified-returns-then-is_empty
+type_names::specified-returns-then-is_empty t c = record {
   found = tt;
   only =
       none_specifying
+      _
       _
       _
       _
@@ -929,15 +931,16 @@ type_names::type_name-returns-then-is_empty t c = record {
       c.in-Ok.ensures.only;
 }
 
-pub type_names::type_name-returns-in-Ok-declarator : goal.type_names::type_name-returns-in-Ok-declarator
-type_names::type_name-returns-in-Ok-declarator t c =
+pub type_names::specified-returns-in-Ok-declarator : goal.type_names::specified-returns-in-Ok-declarator
+type_names::specified-returns-in-Ok-declarator t c =
     let is = c.new-in-Ok-declarator.ensures ∙ ap (λ x. Type_of x (declarator_of c.in-Ok-declarator.declarator)) c.new.ensures in
     record {
       found =
           subst
-          (λ x. FoundType c.args.kinds.now c.args.at x c.in-Ok-declarator.end)
+          (λ x. FoundNaming c.args.kinds.now c.args.named c.args.at x c.in-Ok-declarator.end)
           (sym is)
-          (type_found
+          (naming_found
+          _
           _
           _
           _
@@ -950,38 +953,58 @@ type_names::type_name-returns-in-Ok-declarator t c =
           c.in-Ok.ensures.found
           c.in-Ok-declarator.ensures.found);
       only = λ u end h e.
-          let same = name_only _ _ _ _ _ _ c.in-Ok.ensures.only c.in-Ok-declarator.ensures.only u end h e in
+          let same = name_only _ _ _ _ _ _ _ c.in-Ok.ensures.only c.in-Ok-declarator.ensures.only u end h e in
           (is ∙ same.0, same.1);
     }
 
-pub type_names::type_name-returns-in-Err-declarator : goal.type_names::type_name-returns-in-Err-declarator
-type_names::type_name-returns-in-Err-declarator t c = record {
+pub type_names::specified-returns-in-Err-declarator : goal.type_names::specified-returns-in-Err-declarator
+type_names::specified-returns-in-Err-declarator t c = record {
   found = tt;
-  only = declarator_missing _ _ _ _ c.in-Ok.ensures.only _ c.in-Err-declarator.ensures.only;
+  only = declarator_missing _ _ _ _ _ c.in-Ok.ensures.only _ c.in-Err-declarator.ensures.only;
 }
 
-pub declarators::group-returns-in_default : goal.declarators::group-returns-in_default
-declarators::group-returns-in_default t c =
-    let only = no_group _ _ (λ k. absurd (c.in_default.not-OpenParen (c.kind_at.ensures.kind ∙ k))) in
+pub declarators::group-returns-then-names_at : goal.declarators::group-returns-then-names_at
+declarators::group-returns-then-names_at t c =
+    let named = sym c.names_at.ensures ∙ c.if-names_at.true in
+    let only = name_same _ c.args.named _ (name_stands _ _ _ named) in
     record {
       found =
           subst
-          (λ x. FoundGrouping c.args.kinds.now c.args.at x c.args.at)
+          (λ x. FoundGrouping c.args.kinds.now c.args.named c.args.at x (c.args.at + 1))
+          (sym c.named.ensures)
+          (name_found _ _ _ named);
+      only = λ g m ds end h i e. let same = only g m ds end h i e in (c.named.ensures ∙ same.0, same.1);
+    }
+
+pub declarators::group-returns-in_default : goal.declarators::group-returns-in_default
+declarators::group-returns-in_default t c =
+    let only =
+    no_group
+    _
+    _
+    _
+    (name_stands_not _ _ _ (sym c.names_at.ensures ∙ c.if-names_at.false))
+    (λ k. absurd (c.in_default.not-OpenParen (c.kind_at.ensures.kind ∙ k))) in
+    record {
+      found =
+          subst
+          (λ x. FoundGrouping c.args.kinds.now c.args.named c.args.at x c.args.at)
           (sym c.none.ensures)
           (record { reads = refl; forth = omega arith; inside = c.requires.inside });
       only = λ g m ds end h i e. let same = only g m ds end h i e in (c.none.ensures ∙ same.0, same.1);
     }
 
-pub declarators::group-returns-in-CloseParen : goal.declarators::group-returns-in-CloseParen
-declarators::group-returns-in-CloseParen t c =
-    let only = no_group _ _ (λ k. sym c.in-CloseParen.ensures.kind) in
+pub declarators::group-returns-then-opens_parameters : goal.declarators::group-returns-then-opens_parameters
+declarators::group-returns-then-opens_parameters t c =
+    let next = ap opens_parameters (sym c.kind_at-2.ensures.kind) ∙ sym c.opens_parameters.ensures ∙ c.if-opens_parameters.true in
+    let only = no_group _ _ _ (name_stands_not _ _ _ (sym c.names_at.ensures ∙ c.if-names_at.false)) (λ k. next) in
     record {
       found =
           subst
-          (λ x. FoundGrouping c.args.kinds.now c.args.at x c.args.at)
-          (sym c.none-in-CloseParen.ensures)
+          (λ x. FoundGrouping c.args.kinds.now c.args.named c.args.at x c.args.at)
+          (sym c.none-then-opens_parameters.ensures)
           (record { reads = refl; forth = omega arith; inside = c.requires.inside });
-      only = λ g m ds end h i e. let same = only g m ds end h i e in (c.none-in-CloseParen.ensures ∙ same.0, same.1);
+      only = λ g m ds end h i e. let same = only g m ds end h i e in (c.none-then-opens_parameters.ensures ∙ same.0, same.1);
     }
 
 pub declarators::group-returns-in-Err : goal.declarators::group-returns-in-Err
@@ -991,47 +1014,51 @@ declarators::group-returns-in-Err t c = record {
       group_fails
       _
       _
+      _
       (sym c.in-OpenParen.ensures.kind)
-      (λ k. c.in_default-kind_at.not-CloseParen (c.kind_at-2.ensures.kind ∙ k))
+      (ap opens_parameters (sym c.kind_at-2.ensures.kind) ∙ sym c.opens_parameters.ensures ∙ c.if-opens_parameters.false)
       _
       c.in-Err.ensures.only;
 }
 
-pub declarators::group-returns-in_default-kind_at-2 : goal.declarators::group-returns-in_default-kind_at-2
-declarators::group-returns-in_default-kind_at-2 t c = record {
+pub declarators::group-returns-in_default-kind_at : goal.declarators::group-returns-in_default-kind_at
+declarators::group-returns-in_default-kind_at t c = record {
   found = tt;
   only =
       group_left_open
       _
       _
+      _
       (sym c.in-OpenParen.ensures.kind)
-      (λ k. c.in_default-kind_at.not-CloseParen (c.kind_at-2.ensures.kind ∙ k))
+      (ap opens_parameters (sym c.kind_at-2.ensures.kind) ∙ sym c.opens_parameters.ensures ∙ c.if-opens_parameters.false)
       _
       _
       c.in-Ok.ensures.only
-      (λ k. c.in_default-kind_at-2.not-CloseParen (c.kind_at-3.ensures.kind ∙ k))
+      (λ k. c.in_default-kind_at.not-CloseParen (c.kind_at-3.ensures.kind ∙ k))
       c.args.at;
 }
 
 pub declarators::group-returns-in-Ok-of : goal.declarators::group-returns-in-Ok-of
 declarators::group-returns-in-Ok-of t c =
     let here = sym c.in-OpenParen.ensures.kind in
-    let only = group_same _ _ here (λ k. c.in_default-kind_at.not-CloseParen (c.kind_at-2.ensures.kind ∙ k)) _ _ c.in-Ok.ensures.only in
+    let next = (ap opens_parameters (sym c.kind_at-2.ensures.kind) ∙ sym c.opens_parameters.ensures ∙ c.if-opens_parameters.false) in
+    let only = group_same _ c.args.named _ here next _ _ c.in-Ok.ensures.only in
     record {
       found =
           subst
-          (λ x. FoundGrouping c.args.kinds.now c.args.at x (c.in-Ok.found.1 + 1))
+          (λ x. FoundGrouping c.args.kinds.now c.args.named c.args.at x (c.in-Ok.found.1 + 1))
           (sym c.in-Ok-of.ensures)
           (group_found
           _
           _
+          _
           here
-          (λ k. c.in_default-kind_at.not-CloseParen (c.kind_at-2.ensures.kind ∙ k))
+          next
           _
           _
           c.in-Ok.ensures.found
-          (sym c.in-CloseParen-kind_at.ensures.kind)
-          c.in-CloseParen-kind_at.ensures.inside);
+          (sym c.in-CloseParen.ensures.kind)
+          c.in-CloseParen.ensures.inside);
       only = λ g m ds end h i e. let same = only g m ds end h i e in (c.in-Ok-of.ensures ∙ same.0, same.1);
     }
 
@@ -1242,7 +1269,7 @@ declarators::derivings-derivings-preserved t c =
 pub declarators::declarator-returns-in-Err-group : goal.declarators::declarator-returns-in-Err-group
 declarators::declarator-returns-in-Err-group t c = record {
   found = tt;
-  only = group_missing _ _ _ _ c.in-Ok.ensures.found _ c.in-Err-group.ensures.only;
+  only = group_missing _ _ _ _ _ c.in-Ok.ensures.found _ c.in-Err-group.ensures.only;
 }
 
 pub declarators::declarator-returns-in-Err-derivings : goal.declarators::declarator-returns-in-Err-derivings
@@ -1250,6 +1277,7 @@ declarators::declarator-returns-in-Err-derivings t c = record {
   found = tt;
   only =
       derivings_missing
+      _
       _
       _
       _
@@ -1270,6 +1298,7 @@ declarators::declarator-returns-in-Ok-derivings t c =
     _
     _
     _
+    _
     c.in-Ok.ensures.found
     _
     _
@@ -1280,9 +1309,10 @@ declarators::declarator-returns-in-Ok-derivings t c =
     record {
       found =
           subst
-          (λ x. FoundDeclaring c.args.kinds.now c.args.at x c.in-Ok-derivings.end)
+          (λ x. FoundDeclaring c.args.kinds.now c.args.named c.args.at x c.in-Ok-derivings.end)
           (sym c.new.ensures)
           (declaring_found
+          _
           _
           _
           _
@@ -1317,3 +1347,155 @@ before::size-typed-requires t c =
       omega (arith, c.decreases, here),
       (c.requires.size, (here, type_opens _ _ (size_typed _ _ c.requires.kind))),
     )
+
+pub declarators::more_parameters-returns-in_default : goal.declarators::more_parameters-returns-in_default
+declarators::more_parameters-returns-in_default t c =
+    record {
+      found = parameter_row_found _ _ _ _ c.parameters.invariant (λ k. absurd (c.in_default.not-Comma (c.kind_at.ensures.kind ∙ k)));
+      only = parameter_row_same _ _ _ _ c.parameters.invariant (λ k. absurd (c.in_default.not-Comma (c.kind_at.ensures.kind ∙ k)));
+    }
+
+pub declarators::more_parameters-returns-in-Ellipsis : goal.declarators::more_parameters-returns-in-Ellipsis
+declarators::more_parameters-returns-in-Ellipsis t c =
+    record {
+      found = parameter_row_found _ _ _ _ c.parameters.invariant (λ k. sym c.in-Ellipsis.ensures.kind);
+      only = parameter_row_same _ _ _ _ c.parameters.invariant (λ k. sym c.in-Ellipsis.ensures.kind);
+    }
+
+pub declarators::more_parameters-returns-in-Err : goal.declarators::more_parameters-returns-in-Err
+declarators::more_parameters-returns-in-Err t c = record {
+  found = tt;
+  only =
+      parameter_row_fails
+      _
+      _
+      _
+      _
+      c.parameters.invariant
+      (sym c.in-Comma.ensures.kind)
+      (λ k. c.in_default-kind_at.not-Ellipsis (c.kind_at-in-parameters.ensures.kind ∙ k))
+      _
+      c.in-Err.ensures.only;
+}
+
+pub declarators::more_parameters-parameters-preserved : goal.declarators::more_parameters-parameters-preserved
+declarators::more_parameters-parameters-preserved t c =
+    parameter_row_push
+    _
+    _
+    _
+    _
+    _
+    _
+    _
+    c.parameters.invariant
+    (sym c.in-Comma.ensures.kind)
+    (λ k. c.in_default-kind_at.not-Ellipsis (c.kind_at-in-parameters.ensures.kind ∙ k))
+    c.in-Ok.ensures.found
+    c.in-Ok.ensures.only
+    c.in-Ok-push.ensures.items
+
+pub declarators::parameters-returns-in-CloseParen : goal.declarators::parameters-returns-in-CloseParen
+declarators::parameters-returns-in-CloseParen t c =
+    let only = none_same _ _ (sym c.in-CloseParen.ensures.kind) in
+    record {
+      found =
+          subst
+          (λ x. FoundParameters c.args.kinds.now c.args.at x c.args.at)
+          (sym c.none.ensures)
+          (record { reads = refl; forth = omega arith; inside = c.requires.inside });
+      only = λ ps end h e. let same = only ps end h e in (c.none.ensures ∙ same.0, same.1);
+    }
+
+pub declarators::parameters-returns-in-Err : goal.declarators::parameters-returns-in-Err
+declarators::parameters-returns-in-Err t c = record {
+  found = tt;
+  only = first_missing _ _ (λ k. c.in_default.not-CloseParen (c.kind_at.ensures.kind ∙ k)) _ c.in-Err.ensures.only;
+}
+
+pub declarators::parameters-returns-in-Err-more_parameters : goal.declarators::parameters-returns-in-Err-more_parameters
+declarators::parameters-returns-in-Err-more_parameters t c = record {
+  found = tt;
+  only = rest_missing _ _ (λ k. c.in_default.not-CloseParen (c.kind_at.ensures.kind ∙ k)) _ _ c.in-Ok.ensures.only _ c.in-Err-more_parameters.ensures.only;
+}
+
+pub declarators::parameters-returns-in-Ok-fixed : goal.declarators::parameters-returns-in-Ok-fixed
+declarators::parameters-returns-in-Ok-fixed t c =
+    let only =
+    fixed_same
+    _
+    _
+    (λ k. c.in_default.not-CloseParen (c.kind_at.ensures.kind ∙ k))
+    _
+    _
+    c.in-Ok.ensures.only
+    _
+    _
+    c.in-Ok-more_parameters.ensures.only
+    (λ k. c.in_default-kind_at.not-Comma (c.kind_at-2.ensures.kind ∙ k)) in
+    record {
+      found =
+          subst
+          (λ x. FoundParameters c.args.kinds.now c.args.at x c.in-Ok-more_parameters.found.1)
+          (sym c.in-Ok-fixed.ensures)
+          (fixed_found _ _ _ _ c.in-Ok.ensures.found _ _ c.in-Ok-more_parameters.ensures.found);
+      only = λ ps end h e. let same = only ps end h e in (c.in-Ok-fixed.ensures ∙ same.0, same.1);
+    }
+
+pub declarators::parameters-returns-in-Ok-variadic : goal.declarators::parameters-returns-in-Ok-variadic
+declarators::parameters-returns-in-Ok-variadic t c =
+    let only =
+    variadic_same
+    _
+    _
+    (λ k. c.in_default.not-CloseParen (c.kind_at.ensures.kind ∙ k))
+    _
+    _
+    c.in-Ok.ensures.only
+    _
+    _
+    c.in-Ok-more_parameters.ensures.only
+    (sym c.in-Comma.ensures.kind) in
+    record {
+      found =
+          subst
+          (λ x. FoundParameters c.args.kinds.now c.args.at x (c.in-Ok-more_parameters.found.1 + 2))
+          (sym c.in-Ok-variadic.ensures)
+          (variadic_found _ _ _ _ c.in-Ok.ensures.found _ _ c.in-Ok-more_parameters.ensures.found (sym c.in-Comma.ensures.kind));
+      only = λ ps end h e. let same = only ps end h e in (c.in-Ok-variadic.ensures ∙ same.0, same.1);
+    }
+
+pub declarators::function-returns-in-Err : goal.declarators::function-returns-in-Err
+declarators::function-returns-in-Err t c = record { found = tt; only = function_fails _ _ c.requires.kind _ c.in-Err.ensures.only }
+
+pub declarators::function-returns-in_default : goal.declarators::function-returns-in_default
+declarators::function-returns-in_default t c = record {
+  found = tt;
+  only =
+      function_left_open
+      _
+      _
+      c.requires.kind
+      _
+      _
+      c.in-Ok.ensures.only
+      (λ k. c.in_default.not-CloseParen (c.kind_at.ensures.kind ∙ k))
+      c.args.at;
+}
+
+pub declarators::function-returns : goal.declarators::function-returns
+declarators::function-returns t c =
+    let made =
+    subst
+    (λ x. FoundDeriving c.args.kinds.now c.args.at x (c.in-Ok.found.1 + 1))
+    (sym c.function.ensures)
+    (function_found
+    _
+    _
+    c.requires.kind
+    _
+    _
+    c.in-Ok.ensures.found
+    (sym c.in-CloseParen.ensures.kind)
+    c.in-CloseParen.ensures.inside) in
+    record { found = made; only = found_deriving_only _ _ _ _ made }

@@ -1,11 +1,12 @@
 use Rattle.std.proofs.Common.{◌+◌, ◌-◌, ◌*◌, length}
-use Rattle.tree_data.specs.Seen.{operands_of, suffixes_of, choices_of, lefts_of, pieces_of, designators_of, associations_of, prefixes_of, specifiers_of, derivings_of}
+use Rattle.tree_data.specs.Seen.{operands_of, suffixes_of, choices_of, lefts_of, pieces_of, designators_of, associations_of, prefixes_of, specifiers_of, derivings_of, parameter_row_of}
 use Rattle.c_parser.specs.Beginnings.{start_of}
 use Rattle.c_parser.proofs.Fronts.{Fore}
 use Rattle.c_parser.proofs.Generics.{Choices, Steps}
 use Rattle.c_parser.proofs.Initials.{Row, Path}
 use Rattle.c_parser.proofs.Parsing.{Loop}
 use Rattle.c_parser.proofs.Abstract.{Derived}
+use Rattle.c_parser.proofs.ParameterLists.{Rowing}
 use Rattle.c_parser.proofs.SpecifierLists.{Specifiers}
 use Rattle.c_parser.proofs.+parser.Given as goal
 
@@ -174,8 +175,8 @@ invariant-declarators::derivings-derivings l = Derived l.kinds l.fn.at (deriving
 abbrev pub decreases-declarators::derivings-derivings : goal.decreases-declarators::derivings-derivings
 decreases-declarators::derivings-derivings l = length l.kinds - l.end
 
-abbrev pub decreases-type_names::type_name : goal.decreases-type_names::type_name
-decreases-type_names::type_name l = 64 * (length l.kinds.now - l.at) + 44
+abbrev pub decreases-type_names::specified : goal.decreases-type_names::specified
+decreases-type_names::specified l = 64 * (length l.kinds.now - l.at) + 44
 
 abbrev pub decreases-type_names::specifiers : goal.decreases-type_names::specifiers
 decreases-type_names::specifiers l = 64 * (length l.kinds.now - l.at) + 43
@@ -209,3 +210,21 @@ decreases-declarators::static_bound l = 64 * (length l.kinds.now - l.at) + 40
 
 abbrev pub decreases-declarators::bound_behind : goal.decreases-declarators::bound_behind
 decreases-declarators::bound_behind l = 64 * (length l.kinds.now - l.behind) + 40
+
+abbrev pub decreases-type_names::type_name : goal.decreases-type_names::type_name
+decreases-type_names::type_name l = 64 * (length l.kinds.now - l.at) + 45
+
+abbrev pub invariant-declarators::more_parameters-parameters : goal.invariant-declarators::more_parameters-parameters
+invariant-declarators::more_parameters-parameters l = Rowing l.kinds l.fn.at (parameter_row_of l.more.items) l.end
+
+abbrev pub decreases-declarators::more_parameters-parameters : goal.decreases-declarators::more_parameters-parameters
+decreases-declarators::more_parameters-parameters l = length l.kinds - l.end
+
+abbrev pub decreases-declarators::more_parameters : goal.decreases-declarators::more_parameters
+decreases-declarators::more_parameters l = 64 * (length l.kinds.now - l.at) + 45
+
+abbrev pub decreases-declarators::parameters : goal.decreases-declarators::parameters
+decreases-declarators::parameters l = 64 * (length l.kinds.now - l.at) + 46
+
+abbrev pub decreases-declarators::function : goal.decreases-declarators::function
+decreases-declarators::function l = 64 * (length l.kinds.now - l.at) + 37
