@@ -111,7 +111,7 @@ fn show_specifier(
         }
         Specifier::Atomic(_, _, name, _) => {
             out.push_str("(atomic ")?;
-            show_name(out, tokens, name)?;
+            show_name(out, tokens, "(type ", name)?;
             out.push_str(")")
         }
     }
@@ -148,23 +148,7 @@ fn open_deriving(out: &mut String, deriving: &Deriving) -> Result<(), AllocError
     }
 }
 
-// The first parameter and the others.
-#[cycle(show)]
-fn show_row(
-    out: &mut String,
-    tokens: &[OutToken],
-    first: &TypeName,
-    more: &[(u32, TypeName)],
-) -> Result<(), AllocError> {
-    out.push_str(" (param ")?;
-    show_specified(out, tokens, first)?;
-    for pair in more {
-        out.push_str(" (param ")?;
-        show_specified(out, tokens, &pair.1)?;
-    }
-    Ok(())
-}
-
+// The first parameter and the others, and `...`.
 #[cycle(show)]
 fn show_parameters(
     out: &mut String,
@@ -173,9 +157,18 @@ fn show_parameters(
 ) -> Result<(), AllocError> {
     match parameters {
         Parameters::NoParameters => Ok(()),
-        Parameters::Fixed(first, more) => show_row(out, tokens, first, more.as_slice()),
+        Parameters::Fixed(first, more) => {
+            show_name(out, tokens, " (param ", first)?;
+            for pair in more {
+                show_name(out, tokens, " (param ", &pair.1)?;
+            }
+            Ok(())
+        }
         Parameters::Variadic(first, more, _, _) => {
-            show_row(out, tokens, first, more.as_slice())?;
+            show_name(out, tokens, " (param ", first)?;
+            for pair in more {
+                show_name(out, tokens, " (param ", &pair.1)?;
+            }
             out.push_str(" ...")
         }
     }
@@ -239,13 +232,15 @@ fn show_declarator(
     close(out, declarator.pointers.len())
 }
 
-// Specifiers and a declarator, and the `)` behind them.
+// Specifiers and a declarator, behind a word for what they are.
 #[cycle(show)]
-fn show_specified(
+fn show_name(
     out: &mut String,
     tokens: &[OutToken],
+    opening: &str,
     name: &TypeName,
 ) -> Result<(), AllocError> {
+    out.push_str(opening)?;
     out.push_str("(specs")?;
     for specifier in &name.specs.specifiers {
         out.push_str(" ")?;
@@ -257,18 +252,12 @@ fn show_specified(
 }
 
 #[cycle(show)]
-fn show_name(out: &mut String, tokens: &[OutToken], name: &TypeName) -> Result<(), AllocError> {
-    out.push_str("(type ")?;
-    show_specified(out, tokens, name)
-}
-
-#[cycle(show)]
 fn open_prefix(out: &mut String, tokens: &[OutToken], prefix: &Prefix) -> Result<(), AllocError> {
     match prefix {
         Prefix::Operator(at) => open_unary(out, tokens, *at),
         Prefix::Cast(_, name, _) => {
             out.push_str("(cast ")?;
-            show_name(out, tokens, name)?;
+            show_name(out, tokens, "(type ", name)?;
             out.push_str(" ")
         }
     }
@@ -286,7 +275,7 @@ fn show_of_type(
         true => out.push_str("(sizeof ")?,
         false => out.push_str("(alignof ")?,
     }
-    show_name(out, tokens, name)?;
+    show_name(out, tokens, "(type ", name)?;
     out.push_str(")")
 }
 
@@ -435,7 +424,7 @@ fn show_association(
     match association {
         Association::Typed(name, _, expr) => {
             out.push_str(" (")?;
-            show_name(out, tokens, name)?;
+            show_name(out, tokens, "(type ", name)?;
             out.push_str(" ")?;
             show(out, tokens, expr)?;
             out.push_str(")")
@@ -484,7 +473,7 @@ fn show_offset(out: &mut String, tokens: &[OutToken], expr: &Expr) -> Result<(),
         return Ok(());
     };
     out.push_str("(offsetof ")?;
-    show_name(out, tokens, name)?;
+    show_name(out, tokens, "(type ", name)?;
     out.push_str(" .")?;
     spell(out, tokens, *member)?;
     for step in steps {
@@ -515,7 +504,7 @@ fn show(out: &mut String, tokens: &[OutToken], expr: &Expr) -> Result<(), AllocE
         Expr::OfType(keyword, _, name, _) => show_of_type(out, tokens, *keyword, name),
         Expr::Compound(_, name, _, list) => {
             out.push_str("(compound ")?;
-            show_name(out, tokens, name)?;
+            show_name(out, tokens, "(type ", name)?;
             out.push_str(" ")?;
             show_braces(out, tokens, list)?;
             out.push_str(")")
@@ -548,6 +537,6 @@ pub fn shown_name(
     name: &TypeName,
 ) -> Result<String, AllocError> {
     let mut out = String::new(alloc);
-    show_name(&mut out, tokens, name)?;
+    show_name(&mut out, tokens, "(type ", name)?;
     Ok(out)
 }
