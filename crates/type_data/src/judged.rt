@@ -50,3 +50,12 @@ pub struct Fault {
     pub names: Listing<Name>,
     pub types: Listing<CType>,
 }
+
+/// Why a construct has no meaning.
+#[derive(Drop)]
+pub enum CheckError {
+    /// It breaks a rule.
+    Broken(Fault),
+    /// Memory was refused.
+    NoMemory,
+}

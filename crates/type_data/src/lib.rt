@@ -8,13 +8,14 @@ mod layouts;
 mod members;
 mod names;
 mod qualifiers;
+mod sharing;
 mod tags;
 mod types;
 mod values;
 
 pub use basics::Basic;
 pub use integers::IntTy;
-pub use judged::{Constancy, Fault, Judged, Place};
+pub use judged::{CheckError, Constancy, Fault, Judged, Place};
 pub use layouts::Layout;
 pub use members::{Member, Space, TagInfo, TagKind};
 pub use names::{ItemName, TagId};

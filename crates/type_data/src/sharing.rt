@@ -1,0 +1,138 @@
+// Copies of what is known of types, tags and expressions, and of faults, which share names and types.
+ghost use Rattle.std.specs.Prelude.{◌≡◌, IfOk};
+
+use crate::judged::{Fault, Judged};
+use crate::layouts::Layout;
+use crate::members::{Member, TagInfo};
+use crate::types::CType;
+use shared_list::Listing;
+use shared_text::Name;
+use std::alloc::{AllocError, Global};
+
+fn share_name(name: &Option<Name>) -> Result<Option<Name>, AllocError>
+    ensures { IfOk result (λ copy. copy ≡ name.now) }
+{
+    match name {
+        Some(name) => {
+            let name = name.share()?;
+            Ok(Some(name))
+        }
+        None => Ok(None),
+    }
+}
+
+fn share_members(alloc: Global, members: &[Member]) -> Result<Listing<Member>, AllocError>
+    ensures { IfOk result (λ copy. copy ≡ members.now) }
+{
+    let mut copies = Vec::new(alloc);
+    for member in members {
+        let copy = member.share()?;
+        copies.push(copy)?;
+    }
+    Ok(Listing::from_vec(copies))
+}
+
+fn share_names(alloc: Global, names: &[Name]) -> Result<Listing<Name>, AllocError>
+    ensures { IfOk result (λ copy. copy ≡ names.now) }
+{
+    let mut copies = Vec::new(alloc);
+    for name in names {
+        let copy = name.share()?;
+        copies.push(copy)?;
+    }
+    Ok(Listing::from_vec(copies))
+}
+
+fn share_types(alloc: Global, types: &[CType]) -> Result<Listing<CType>, AllocError>
+    ensures { IfOk result (λ copy. copy ≡ types.now) }
+{
+    let mut copies = Vec::new(alloc);
+    for ty in types {
+        let copy = ty.share()?;
+        copies.push(copy)?;
+    }
+    Ok(Listing::from_vec(copies))
+}
+
+impl Layout {
+    /// The same layout. Its cost is linear in the number of members.
+    pub fn copy(&self, alloc: Global) -> Result<Layout, AllocError>
+        ensures { IfOk result (λ copy. copy ≡ self.now) }
+    {
+        let offsets = Vec::from_slice(alloc, self.offsets())?;
+        Ok(Layout::new(self.size(), self.align(), offsets))
+    }
+}
+
+impl Member {
+    /// The same member, whose name and type are shared. It takes no memory, but may be refused where one of them is shared
+    /// 2^64 times.
+    pub fn share(&self) -> Result<Member, AllocError>
+        ensures { IfOk result (λ copy. copy ≡ self.now) }
+    {
+        let name = share_name(&self.name)?;
+        let ty = self.ty.share()?;
+        Ok(Member {
+            name,
+            ty,
+            qual: self.qual,
+            width: self.width,
+            align: self.align,
+            value: self.value,
+        })
+    }
+}
+
+impl TagInfo {
+    /// The same of a tag, whose names and types are shared. Its cost is linear in the number of members.
+    pub fn share(&self, alloc: Global) -> Result<TagInfo, AllocError>
+        ensures { IfOk result (λ copy. copy ≡ self.now) }
+    {
+        let name = share_name(&self.name)?;
+        let members = match &self.members {
+            Some(members) => Some(share_members(alloc, members.as_slice())?),
+            None => None,
+        };
+        let layout = match &self.layout {
+            Some(layout) => Some(layout.copy(alloc)?),
+            None => None,
+        };
+        Ok(TagInfo {
+            kind: self.kind,
+            name,
+            members,
+            layout,
+        })
+    }
+}
+
+impl Judged {
+    /// The same expression, whose type is shared. It takes no memory, but may be refused where that is shared 2^64 times.
+    pub fn share(&self) -> Result<Judged, AllocError>
+        ensures { IfOk result (λ copy. copy ≡ self.now) }
+    {
+        let ty = self.ty.share()?;
+        Ok(Judged {
+            ty,
+            qual: self.qual,
+            place: self.place,
+            constant: self.constant,
+        })
+    }
+}
+
+impl Fault {
+    /// The same fault, whose names and types are shared. Its cost is linear in their number.
+    pub fn share(&self, alloc: Global) -> Result<Fault, AllocError>
+        ensures { IfOk result (λ copy. copy ≡ self.now) }
+    {
+        let names = share_names(alloc, self.names.as_slice())?;
+        let types = share_types(alloc, self.types.as_slice())?;
+        Ok(Fault {
+            rule: self.rule,
+            at: self.at,
+            names,
+            types,
+        })
+    }
+}
