@@ -6,6 +6,7 @@ pub mod Floating
 pub mod Integer
 pub mod Kept
 pub mod Operators
+pub mod Productions
 pub mod Ranges
 pub mod Strings
 pub mod Texts

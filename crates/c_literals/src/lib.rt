@@ -7,6 +7,7 @@ mod digits;
 mod escapes;
 mod floatings;
 mod integers;
+mod laws;
 mod literal;
 mod ops;
 mod prefix;
@@ -18,6 +19,7 @@ mod text;
 
 pub use characters::character;
 pub use floatings::integer;
+pub use laws::{floatings_are_constants, integers_are_constants};
 pub use literal::Literal;
 pub use ops::{Op, convert, value_op};
 pub use strings::{LitError, StrValue, string_pieces};
