@@ -5,7 +5,7 @@ use Rattle.std.specs.Prelude.{slice_get}
 use Rattle.io_edges.specs.Store.{Entry}
 use Rattle.io_edges.specs.Wire.{Traffic, after_write}
 use Rattle.io_edges.specs.declared.ends.Mark.{Mark}
-use Rattle.lsp_framing.specs.Frames.{Framed, Rest, Empty, Open, Bad, frames}
+use Rattle.lsp_framing.specs.Frames.{Parted, Rest, Empty, Open, Bad, frames}
 use Rattle.lsp_framing.specs.Standing.{Standing, Follows, IsEmptyOrOpen}
 use Rattle.lsp_framing.specs.declared.FrameKind.{FrameKind}
 use Rattle.lsp_framing.specs.declared.FrameKind.TheVariants.{Cut}
@@ -59,8 +59,8 @@ ends_bad stays options w0 w a0 a s standing size place kind stands going =
       outcome = whatever_left w0 options (status.BadFrame place kind) going.taken going.out going.answers (λ left.
           let same : frames (going.taken ++ left) ≡ frames going.taken = stays going.taken left place kind at_end.1 in
           plain_by options (going.taken ++ left) going.answers (through going.out going.answers s) (Bad place kind)
-          (ap (λ (f : Framed). play f.contents (fresh options) going.answers) same ∙ ap (λ (cs : List (List ℕ)). play cs (fresh options) going.answers) all ∙ going.played)
-          (ap (λ (f : Framed). f.rest) same ∙ at_end.1));
+          (ap (λ (f : Parted). play f.contents (fresh options) going.answers) same ∙ ap (λ (cs : List (List ℕ)). play cs (fresh options) going.answers) all ∙ going.played)
+          (ap (λ (f : Parted). f.rest) same ∙ at_end.1));
     }
 
 nothing_written : (w : Option Traffic) → w ≡ option_map (after_write []) w

@@ -5,7 +5,8 @@ use Rattle.serde_json.specs.View.{items_of}
 use Rattle.serde_json.specs.Written.{compact_text, items_text}
 use Rattle.serde_json.proofs.OnLiterals.{serde_json_on_literals}
 use Rattle.c_session.specs.Ties.Published.{number_data, publish_start, publish_end, version_part}
-use Rattle.c_session.specs.Replies.{header, framed, publish, publish_data}
+use Rattle.lsp_framing.specs.Written.{header_of, framed}
+use Rattle.c_session.specs.Replies.{publish, publish_data}
 
 -- the text as it is made of its members
 spelled_out : (items uri version : List ℕ) → List ℕ
@@ -42,10 +43,10 @@ versioned body text z version is written made = made ∙ rw (is, written) (appen
 
 -- ---- a content behind its header
 
-framed_is : (content : List ℕ) → header (length content) ++ content ≡ framed content
+framed_is : (content : List ℕ) → header_of (length content) ++ content ≡ framed content
 unfolding framed
 framed_is content = refl
 
-pub framed_behind : (old mid new content : List ℕ) → mid ≡ old ++ header (length content) → new ≡ mid ++ content → new ≡ old ++ framed content
+pub framed_behind : (old mid new content : List ℕ) → mid ≡ old ++ header_of (length content) → new ≡ mid ++ content → new ≡ old ++ framed content
 framed_behind old mid new content first then =
-    then ∙ ap (λ m. m ++ content) first ∙ append_assoc old (header (length content)) content ∙ ap (λ f. old ++ f) (framed_is content)
+    then ∙ ap (λ m. m ++ content) first ∙ append_assoc old (header_of (length content)) content ∙ ap (λ f. old ++ f) (framed_is content)

@@ -10,16 +10,9 @@ use Rattle.text_lines.specs.Positions.{pos_at}
 use Rattle.text_lines.specs.declared.encoding.Encoding.{Encoding}
 use Rattle.text_lines.specs.declared.encoding.Encoding.TheVariants.{Utf8, Utf16, Utf32}
 use Rattle.text_lines.specs.declared.pos.Pos.{Pos}
+use Rattle.lsp_framing.specs.Written.{framed}
 use Rattle.json_view.specs.declared.id.Id.{Id}
 use Rattle.json_view.specs.declared.id.Id.TheVariants.{Text, Int, Big}
-
--- the header of a content of so many bytes
-abbrev pub header : ℕ → List ℕ
-header n = codes "Content-Length: " ++ decimal n ++ 13 ∷ 10 ∷ 13 ∷ 10 ∷ []
-
--- a content behind its header
-unfoldable pub framed : List ℕ → List ℕ
-framed content = header (length content) ++ content
 
 abbrev pub id_data : Id → Data
 id_data (Text text) = string text

@@ -1,8 +1,9 @@
 // The bytes of each answer: a JSON-RPC 2.0 message behind its header (LSP 3.17, base protocol).
 ghost use Rattle.std.specs.Prelude.{◌≡◌, ◌++◌, false, option_map, IfOk, OnOk};
+ghost use Rattle.lsp_framing.specs.Written.{header_of, framed};
 ghost use Rattle.serde_json.specs.View.{view};
 ghost use Rattle.serde_json.specs.Written.{has_float, compact_text};
-ghost use Rattle.c_session.specs.Replies.{header, framed, id_data, id_or_null, response_data, error_data, log_data, response, error, log, encoding_name, initialize_result};
+ghost use Rattle.c_session.specs.Replies.{id_data, id_or_null, response_data, error_data, log_data, response, error, log, encoding_name, initialize_result};
 
 use json_view::Id;
 use serde_json::{Value, json};
@@ -11,7 +12,7 @@ use text_lines::Encoding;
 
 /// Writes the header of a content of so many bytes behind what is written.
 fn push_header(alloc: Global, out: &mut Vec<u8>, length: usize) -> Result<(), AllocError>
-    ensures { OnOk result (out.new.items ≡ out.old.items ++ header length) }
+    ensures { OnOk result (out.new.items ≡ out.old.items ++ header_of length) }
 {
     let header = format!(in alloc; "Content-Length: {length}\r\n\r\n")?;
     out.extend_from_slice(header.as_bytes())?;

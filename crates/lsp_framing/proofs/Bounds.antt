@@ -12,7 +12,7 @@ use Rattle.lsp_framing.specs.declared.FrameKind.TheVariants.{HeaderLong, NoLengt
 use Rattle.lsp_framing.specs.Lines.{Header, Ended, Fault, Unended, header, header_from, with_number, with_length, with_field, with_line, agrees, is_number, is_name, is_unbroken, trimmed, or_fault, longest_header, longest_content}
 use Rattle.lsp_framing.specs.Scanned.{lines_met, lines_from, line_ended}
 use Rattle.lsp_framing.proofs.Scanning.{header_scans}
-use Rattle.lsp_framing.specs.Frames.{Front, Whole, Faulty, Unfinished, front, front_by, Bad, Framed, frames_by, frames_from, frames}
+use Rattle.lsp_framing.specs.Frames.{Front, Whole, Faulty, Unfinished, front, front_by, Bad, Parted, frames_by, frames_from, frames}
 use Rattle.lsp_framing.proofs.Reading.{ended_length}
 
 -- what bounds a header part
@@ -132,7 +132,7 @@ unfolding front
 front_short bytes = front_by_short (header bytes) bytes (header_is_within bytes)
 
 -- the contents are short, and a fault lies within the input
-record IsShort (f : Framed) (n : ℕ) : Type 0 where
+record IsShort (f : Parted) (n : ℕ) : Type 0 where
   contents : AllByRecursion (λ content. length content ≤ longest_content) f.contents
   bad : (place : ℕ) (kind : FrameKind) → f.rest ≡ Bad place kind → place ≤ n
 

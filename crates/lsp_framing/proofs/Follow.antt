@@ -7,7 +7,7 @@ use Rattle.lsp_framing.specs.declared.FrameKind.{FrameKind}
 use Rattle.lsp_framing.specs.declared.FrameKind.TheVariants.{HeaderLong}
 use Rattle.lsp_framing.specs.Lines.{Header, Ended, Unended, header, header_from, longest_header}
 use Rattle.lsp_framing.specs.Scanned.{lines_met}
-use Rattle.lsp_framing.specs.Frames.{Front, Whole, Faulty, Unfinished, front, front_by, Empty, Open, Bad, Framed, framed, after, frames_by, frames_from, frames}
+use Rattle.lsp_framing.specs.Frames.{Front, Whole, Faulty, Unfinished, front, front_by, Empty, Open, Bad, Parted, parted, after, frames_by, frames_from, frames}
 use Rattle.lsp_framing.specs.Standing.{Standing, Follows, IsEmptyOrOpen}
 use Rattle.lsp_framing.specs.Known.{KnowsHeader, KnowsContent, KnowsFault, Reads}
 use Rattle.lsp_framing.proofs.Windows.{header_short}
@@ -62,13 +62,13 @@ whole_front size len bytes k h =
     ∙ ap (λ t. cond t (Whole size (take len (drop size (take (size + len) bytes)))) Unfinished) test
     ∙ ap (λ t. Whole size t) (ap (λ t. take len t) (drop-take size len bytes) ∙ take_all len (take len (drop size bytes)) (omega (arith, length-take len (drop size bytes))))
 
-skip_all : (bytes : List ℕ) (place skip : ℕ) → skip ≡ length bytes → frames_from place skip bytes ≡ framed [] Empty
+skip_all : (bytes : List ℕ) (place skip : ℕ) → skip ≡ length bytes → frames_from place skip bytes ≡ parted [] Empty
 skip_all [] place skip e = refl
 skip_all (x ∷ bytes) place zero e = absurd (omega (arith, e))
 skip_all (x ∷ bytes) place (suc skip) e = skip_all bytes (place + 1) skip (omega (arith, e))
 
 pub one_frame : (bytes : List ℕ) (place size : ℕ) (content : List ℕ) → front bytes ≡ Whole size content → length bytes ≡ size + length content → 0 < size
-    → frames_from place 0 bytes ≡ framed (content ∷ []) Empty
+    → frames_from place 0 bytes ≡ parted (content ∷ []) Empty
 one_frame [] place size content e n some = absurd (omega (arith, n))
 one_frame (x ∷ bytes) place size content e n some =
     ap (λ f. frames_by f place (λ s. frames_from (place + 1) s bytes)) e
@@ -101,20 +101,20 @@ open_at : (bytes : List ℕ) (place : ℕ) → front bytes ≡ Unfinished
     → ((frames_from place 0 bytes).contents ≡ []) × IsEmptyOrOpen (frames_from place 0 bytes).rest
 open_at [] place e = (refl, tt)
 open_at (x ∷ bytes) place e =
-    let same : frames_from place 0 (x ∷ bytes) ≡ framed [] Open = ap (λ f. frames_by f place (λ s. frames_from (place + 1) s bytes)) e in
-    let P : Framed → Type 0 = λ t. (t.contents ≡ []) × IsEmptyOrOpen t.rest in
+    let same : frames_from place 0 (x ∷ bytes) ≡ parted [] Open = ap (λ f. frames_by f place (λ s. frames_from (place + 1) s bytes)) e in
+    let P : Parted → Type 0 = λ t. (t.contents ≡ []) × IsEmptyOrOpen t.rest in
     subst P (sym same) (refl, tt)
 
 pub follows_open : (fed : List ℕ) (given : ℕ) (s : Standing) → Follows fed given s → front s.bytes ≡ Unfinished
     → (length (frames fed).contents ≡ given) × IsEmptyOrOpen (frames fed).rest
 follows_open fed given s f e =
     let o = open_at s.bytes s.place e in
-    let P : Framed → Type 0 = λ t. (length t.contents ≡ given) × IsEmptyOrOpen t.rest in
+    let P : Parted → Type 0 = λ t. (length t.contents ≡ given) × IsEmptyOrOpen t.rest in
     subst P (sym (frames_are fed given s f))
     (ap length (ap (λ t. (frames f.before).contents ++ t) o.0 ∙ append-nil (frames f.before).contents) ∙ f.given_is, o.1)
 
 faulty_at : (bytes : List ℕ) (place at : ℕ) (kind : FrameKind) → front bytes ≡ Faulty at kind
-    → frames_from place 0 bytes ≡ framed [] (Bad (place + at) kind)
+    → frames_from place 0 bytes ≡ parted [] (Bad (place + at) kind)
 faulty_at [] place at kind e = absurd (cc (front_nil))
 faulty_at (x ∷ bytes) place at kind e = ap (λ f. frames_by f place (λ s. frames_from (place + 1) s bytes)) e
 
@@ -137,7 +137,7 @@ abbrev pub behind : Standing → ℕ → Standing
 behind s n = record { place = s.place + n; bytes = drop n s.bytes }
 
 with_frame : (before bytes : List ℕ) (size len : ℕ) → (frames before).rest ≡ Empty → KnowsContent size len bytes → size + len ≤ length bytes
-    → frames (before ++ take (size + len) bytes) ≡ framed ((frames before).contents ++ take len (drop size bytes) ∷ []) Empty
+    → frames (before ++ take (size + len) bytes) ≡ parted ((frames before).contents ++ take len (drop size bytes) ∷ []) Empty
 with_frame before bytes size len whole k h =
     let long : length (take (size + len) bytes) ≡ size + length (take len (drop size bytes)) =
     omega (arith, length-take-le (size + len) bytes h, length-take len (drop size bytes), length-drop size bytes) in
@@ -203,7 +203,7 @@ pub follows_idle : (fed : List ℕ) (given : ℕ) (s : Standing) → Follows fed
 follows_idle fed given s f =
     let all = frames_are fed given s f in (
       λ e.
-          let same : frames fed ≡ framed ((frames f.before).contents ++ []) Empty =
+          let same : frames fed ≡ parted ((frames f.before).contents ++ []) Empty =
           all ∙ ap (λ t. after (frames f.before).contents (frames_from s.place 0 t)) e in
           (ap (λ t. length t.contents) same ∙ ap length (append-nil (frames f.before).contents) ∙ f.given_is, ap (λ t. t.rest) same),
       λ (n, r).

@@ -8,7 +8,7 @@ use Rattle.lsp_framing.specs.declared.FrameKind.TheVariants.{HeaderLong}
 use Rattle.lsp_framing.specs.Lines.{Header, Ended, Fault, Unended, header, header_from, lines, with_line, or_fault, longest_header}
 use Rattle.lsp_framing.specs.Scanned.{lines_met, lines_from, line_ended}
 use Rattle.lsp_framing.proofs.Scanning.{header_scans}
-use Rattle.lsp_framing.specs.Frames.{Front, Whole, Faulty, Unfinished, front, front_by, Empty, Bad, Framed, framed, after, frames_by, frames_from, frames}
+use Rattle.lsp_framing.specs.Frames.{Front, Whole, Faulty, Unfinished, front, front_by, Empty, Bad, Parted, parted, after, frames_by, frames_from, frames}
 
 -- a header part that ended or has a fault isn't changed by more bytes
 abbrev IsMore : Header → Header → Type 0
@@ -151,7 +151,7 @@ frames_join (x ∷ a) b place zero h e =
           ∙ ap (λ m. after (content ∷ (frames_from (place + 1) n a).contents) (frames_from m 0 b)) p
 
 -- more bytes leave the contents, and a fault for good
-record Extends (x y : Framed) : Type 0 where
+record Extends (x y : Parted) : Type 0 where
   more : List (List ℕ)
   contents : y.contents ≡ x.contents ++ more
   bad : (place : ℕ) (kind : FrameKind) → x.rest ≡ Bad place kind → y ≡ x
@@ -170,7 +170,7 @@ frames_extend (x ∷ a) b place zero =
         bad = λ p k h. absurd (cc);
       }
       by_front (Faulty at kind) later stays again =
-          let same : frames_by later place (λ s. frames_from (place + 1) s (a ++ b)) ≡ framed [] (Bad (place + at) kind) =
+          let same : frames_by later place (λ s. frames_from (place + 1) s (a ++ b)) ≡ parted [] (Bad (place + at) kind) =
           ap (λ f. frames_by f place (λ s. frames_from (place + 1) s (a ++ b))) stays in
           record { more = []; contents = ap (λ t. t.contents) same; bad = λ p k h. same }
       by_front (Whole size content) later stays again =
@@ -184,7 +184,7 @@ frames_extend (x ∷ a) b place zero =
             bad = λ p k h. same ∙ ap (λ t. after (content ∷ []) t) (r.bad p k h);
           }
 
-pub frames_nil : frames [] ≡ framed [] Empty
+pub frames_nil : frames [] ≡ parted [] Empty
 unfolding frames
 frames_nil = refl
 

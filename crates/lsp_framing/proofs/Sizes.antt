@@ -12,7 +12,7 @@ use Rattle.std.proofs.lemmas.List.Quantifiers.{position-Some}
 use Rattle.lsp_framing.specs.declared.FrameKind.{FrameKind}
 use Rattle.lsp_framing.specs.declared.FrameKind.TheVariants.{BadLength, BadField, HeaderLong}
 use Rattle.lsp_framing.specs.Lines.{Header, Ended, Fault, Unended, header, header_from, lines, with_number, with_length, with_field, with_line, is_number, is_name, is_unbroken, is_blank, trimmed, or_fault, longest_header}
-use Rattle.lsp_framing.specs.Frames.{Front, Whole, Faulty, Unfinished, front, front_by, Open, Bad, framed, after, shifted, frames_by, frames_from, frames}
+use Rattle.lsp_framing.specs.Frames.{Front, Whole, Faulty, Unfinished, front, front_by, Open, Bad, parted, after, shifted, frames_by, frames_from, frames}
 use Rattle.lsp_framing.proofs.Laws.{front_within, FrontWithin}
 
 -- a line that states a length has sixteen bytes at the least: the field's name, the `:` and a digit
@@ -131,7 +131,7 @@ shifts (x ∷ bytes) by place zero = by_front (front (x ∷ bytes)) (λ n. shift
   by_front : (f : Front) → ((n : ℕ) → frames_from (by + (place + 1)) n bytes ≡ shifted by (frames_from (place + 1) n bytes))
       → frames_by f (by + place) (λ s. frames_from ((by + place) + 1) s bytes) ≡ shifted by (frames_by f place (λ s. frames_from (place + 1) s bytes))
   by_front Unfinished again = refl
-  by_front (Faulty at kind) again = let e : (by + place) + at ≡ by + (place + at) = omega arith in ap (λ n. framed [] (Bad n kind)) e
+  by_front (Faulty at kind) again = let e : (by + place) + at ≡ by + (place + at) = omega arith in ap (λ n. parted [] (Bad n kind)) e
   by_front (Whole size content) again =
       let n = size + length content - 1 in
       let e : (by + place) + 1 ≡ by + (place + 1) = omega arith in
@@ -163,14 +163,14 @@ frame_in_front bytes size content e = of_front bytes e (subst IsLong e (front_lo
       ∙ shifts (drop n bytes) (size + length content) 0 0
       ∙ ap (λ m. shifted (size + length content) (frames_from 0 0 (drop m (x ∷ bytes)))) whole)
 
-pub fault_in_front : (bytes : List ℕ) (at : ℕ) (kind : FrameKind) → front bytes ≡ Faulty at kind → bytes ≢ [] → frames bytes ≡ framed [] (Bad at kind)
+pub fault_in_front : (bytes : List ℕ) (at : ℕ) (kind : FrameKind) → front bytes ≡ Faulty at kind → bytes ≢ [] → frames bytes ≡ parted [] (Bad at kind)
 unfolding frames
 fault_in_front [] at kind e some = absurd (some refl)
 fault_in_front (x ∷ bytes) at kind e some =
     let place : 0 + at ≡ at = omega arith in
-    ap (λ f. frames_by f 0 (λ s. frames_from 1 s bytes)) e ∙ ap (λ n. framed [] (Bad n kind)) place
+    ap (λ f. frames_by f 0 (λ s. frames_from 1 s bytes)) e ∙ ap (λ n. parted [] (Bad n kind)) place
 
-pub open_in_front : (bytes : List ℕ) → front bytes ≡ Unfinished → bytes ≢ [] → frames bytes ≡ framed [] Open
+pub open_in_front : (bytes : List ℕ) → front bytes ≡ Unfinished → bytes ≢ [] → frames bytes ≡ parted [] Open
 unfolding frames
 open_in_front [] e some = absurd (some refl)
 open_in_front (x ∷ bytes) e some = ap (λ f. frames_by f 0 (λ s. frames_from 1 s bytes)) e

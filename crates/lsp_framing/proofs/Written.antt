@@ -13,8 +13,8 @@ use Rattle.lsp_framing.specs.declared.FrameKind.TheVariants.{BadField}
 use Rattle.lsp_framing.specs.Lines.{Ended, header, header_from, with_number, with_length, with_field, with_line, is_number, is_name, is_unbroken, is_blank, trimmed, or_fault, longest_header, longest_content}
 use Rattle.lsp_framing.specs.Scanned.{lines_met, lines_from, line_ended}
 use Rattle.lsp_framing.proofs.Scanning.{header_scans}
-use Rattle.lsp_framing.specs.Frames.{Whole, Unfinished, front, Empty, framed, after, frames_from, frames}
-use Rattle.lsp_framing.specs.Written.{written}
+use Rattle.lsp_framing.specs.Frames.{Whole, Unfinished, front, Empty, parted, after, frames_from, frames}
+use Rattle.lsp_framing.specs.Written.{framed}
 use Rattle.lsp_framing.proofs.Follow.{front_is, one_frame}
 use Rattle.lsp_framing.proofs.Laws.{frames_join}
 
@@ -166,6 +166,14 @@ front_read c cs content h e short =
 literal_no_lf : (ds : List ℕ) → HasNoLF ds → HasNoLF (codes "Content-Length: " ++ ds)
 literal_no_lf ds h = (refl, (refl, (refl, (refl, (refl, (refl, (refl, (refl, (refl, (refl, (refl, (refl, (refl, (refl, (refl, (refl, h))))))))))))))))
 
+-- a frame with the header part and the content in one
+abbrev written : List ℕ → List ℕ
+written content = (codes "Content-Length: " ++ decimal (length content)) ++ 13 ∷ 10 ∷ 13 ∷ 10 ∷ content
+
+framed_is : (content : List ℕ) → framed content ≡ written content
+unfolding framed
+framed_is content = append_assoc (codes "Content-Length: " ++ decimal (length content)) (13 ∷ 10 ∷ 13 ∷ 10 ∷ []) content
+
 written_front : (content : List ℕ) → length content ≤ longest_content
     → front (written content) ≡ Whole (20 + length (decimal (length content))) content
 written_front content h =
@@ -181,13 +189,13 @@ written_front content h =
     ∙ ap (λ k. Whole k content) size
 
 written_frame : (content : List ℕ) (place : ℕ) → length content ≤ longest_content
-    → frames_from place 0 (written content) ≡ framed (content ∷ []) Empty
+    → frames_from place 0 (written content) ≡ parted (content ∷ []) Empty
 written_frame content place h =
     one_frame (written content) place (20 + length (decimal (length content))) content (written_front content h)
     (omega (arith, length-append (codes "Content-Length: " ++ decimal (length content)) (13 ∷ 10 ∷ 13 ∷ 10 ∷ content))) (omega arith)
 
 all_written : (contents : List (List ℕ)) (place : ℕ) → AllByRecursion (λ content. length content ≤ longest_content) contents
-    → frames_from place 0 (flat_map written contents) ≡ framed contents Empty
+    → frames_from place 0 (flat_map written contents) ≡ parted contents Empty
 all_written [] place h = refl
 all_written (content ∷ contents) place h =
     let one = written_frame content place h.0 in
@@ -196,6 +204,6 @@ all_written (content ∷ contents) place h =
     ∙ ap (λ t. after (content ∷ []) t) (all_written contents (place + length (written content)) h.1)
 
 pub written_are_read : (contents : List (List ℕ)) → AllByRecursion (λ content. length content ≤ longest_content) contents
-    → frames (flat_map written contents) ≡ framed contents Empty
+    → frames (flat_map framed contents) ≡ parted contents Empty
 unfolding frames
-written_are_read contents h = all_written contents 0 h
+written_are_read contents h = ap (λ (f : List ℕ → List ℕ). frames (flat_map f contents)) (λ i content. framed_is content i) ∙ all_written contents 0 h

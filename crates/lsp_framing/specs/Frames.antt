@@ -26,16 +26,16 @@ pub data Rest : Type 0 where
   Bad : ℕ → FrameKind → Rest
 
 -- the contents of the whole frames from the front of an input, and what stands behind them
-pub record Framed : Type 0 where
+pub record Parted : Type 0 where
   pub contents : List (List ℕ)
   pub rest : Rest
 
-abbrev pub framed : List (List ℕ) → Rest → Framed
-framed contents rest = record { contents = contents; rest = rest }
+abbrev pub parted : List (List ℕ) → Rest → Parted
+parted contents rest = record { contents = contents; rest = rest }
 
 -- these contents, and then the others
-abbrev pub after : List (List ℕ) → Framed → Framed
-after contents others = framed (contents ++ others.contents) others.rest
+abbrev pub after : List (List ℕ) → Parted → Parted
+after contents others = parted (contents ++ others.contents) others.rest
 
 -- the same, `by` bytes further on
 abbrev pub shifted_rest : ℕ → Rest → Rest
@@ -43,19 +43,19 @@ shifted_rest by Empty = Empty
 shifted_rest by Open = Open
 shifted_rest by (Bad place kind) = Bad (by + place) kind
 
-abbrev pub shifted : ℕ → Framed → Framed
-shifted by others = framed others.contents (shifted_rest by others.rest)
+abbrev pub shifted : ℕ → Parted → Parted
+shifted by others = parted others.contents (shifted_rest by others.rest)
 
-abbrev pub frames_by : Front → ℕ → (ℕ → Framed) → Framed
+abbrev pub frames_by : Front → ℕ → (ℕ → Parted) → Parted
 frames_by (Whole size content) place behind = after (content ∷ []) (behind (size + length content - 1))
-frames_by (Faulty at kind) place behind = framed [] (Bad (place + at) kind)
-frames_by Unfinished place behind = framed [] Open
+frames_by (Faulty at kind) place behind = parted [] (Bad (place + at) kind)
+frames_by Unfinished place behind = parted [] Open
 
 -- The frames of the bytes that stand at `place` of an input, of which the first `skip` belong to a frame before.
-abbrev pub frames_from : ℕ → ℕ → List ℕ → Framed
-frames_from place skip [] = framed [] Empty
+abbrev pub frames_from : ℕ → ℕ → List ℕ → Parted
+frames_from place skip [] = parted [] Empty
 frames_from place (suc skip) (b ∷ rest) = frames_from (place + 1) skip rest
 frames_from place zero (b ∷ rest) = frames_by (front (b ∷ rest)) place (λ skip. frames_from (place + 1) skip rest)
 
-unfoldable pub frames : List ℕ → Framed
+unfoldable pub frames : List ℕ → Parted
 frames bytes = frames_from 0 0 bytes

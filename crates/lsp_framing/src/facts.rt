@@ -1,14 +1,14 @@
 //! What the definition of frames gives alone, whatever the code does. These functions do nothing.
 ghost use Rattle.std.specs.Prelude.{◌≡◌, ◌≢◌, ℕ, ◌+◌, ◌*◌, ◌≤◌, List, [], ◌∷◌, ◌++◌, length, take, drop, slice_get, Some};
 ghost use Rattle.lsp_framing.specs.declared.FrameKind.{FrameKind};
-ghost use Rattle.lsp_framing.specs.Frames.{front, Whole, Faulty, Unfinished, frames, framed, after, shifted, Empty, Open, Bad};
+ghost use Rattle.lsp_framing.specs.Frames.{front, Whole, Faulty, Unfinished, frames, parted, after, shifted, Empty, Open, Bad};
 ghost use Rattle.lsp_framing.specs.Lines.{longest_content};
-ghost use Rattle.lsp_framing.specs.Written.{written};
+ghost use Rattle.lsp_framing.specs.Written.{framed};
 ghost use Rattle.std.specs.List.{AllByRecursion, flat_map};
 
 /// No byte is no frame.
 pub fn frames_nil()
-    ensures { frames [] ≡ framed [] Empty }
+    ensures { frames [] ≡ parted [] Empty }
 {}
 
 /// A whole frame in front gives its content, and behind it stand the frames of the bytes that follow it.
@@ -19,12 +19,12 @@ pub fn frame_in_front()
 
 /// A fault in front is what stands.
 pub fn fault_in_front()
-    ensures { (bytes : List ℕ) (at : ℕ) (kind : FrameKind) → front bytes ≡ Faulty at kind → bytes ≢ [] → frames bytes ≡ framed [] (Bad at kind) }
+    ensures { (bytes : List ℕ) (at : ℕ) (kind : FrameKind) → front bytes ≡ Faulty at kind → bytes ≢ [] → frames bytes ≡ parted [] (Bad at kind) }
 {}
 
 /// Bytes that may yet become a frame or a fault are what stands.
 pub fn open_in_front()
-    ensures { (bytes : List ℕ) → front bytes ≡ Unfinished → bytes ≢ [] → frames bytes ≡ framed [] Open }
+    ensures { (bytes : List ℕ) → front bytes ≡ Unfinished → bytes ≢ [] → frames bytes ≡ parted [] Open }
 {}
 
 /// A frame has twenty bytes at the least, so an input has few contents.
@@ -53,8 +53,8 @@ pub fn contents_short()
         → slice_get (frames bytes).contents i ≡ Some content → length content ≤ longest_content }
 {}
 
-/// Frames that are written one behind the other are read.
+/// Contents that are framed and written one behind the other are read.
 pub fn written_are_read()
     ensures { (contents : List (List ℕ)) → AllByRecursion (λ content. length content ≤ longest_content) contents
-        → frames (flat_map written contents) ≡ framed contents Empty }
+        → frames (flat_map framed contents) ≡ parted contents Empty }
 {}
