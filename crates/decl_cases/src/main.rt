@@ -11,8 +11,7 @@ use scope_tables::{Anchor, Entity, EntityKind, Life, Linkage, Scopes};
 use std::alloc::{AllocError, Global};
 use std::io;
 use std::io::Read;
-use type_data::{Fault, Space, Tags};
-use type_rel::CheckError;
+use type_data::{CheckError, Fault, Space, Tags};
 use words::{parts_of, scope_named, tags_of};
 
 fn kind_name(kind: &EntityKind) -> &'static str {

@@ -8,8 +8,8 @@ use Rattle.type_data.specs.declared.judged.Fault.{Fault}
 use Rattle.type_data.specs.declared.members.Space.TheVariants.{Ordinary}
 use Rattle.type_data.specs.declared.members.TagInfo.{TagInfo}
 use Rattle.type_data.specs.declared.names.TagId.{TagId}
-use Rattle.type_rel.specs.declared.checks.CheckError.{CheckError}
-use Rattle.type_rel.specs.declared.checks.CheckError.TheVariants.{Broken}
+use Rattle.type_data.specs.declared.judged.CheckError.{CheckError}
+use Rattle.type_data.specs.declared.judged.CheckError.TheVariants.{Broken}
 use Rattle.type_rel.specs.Kinds.{is_bad}
 use Rattle.decl_rules.specs.declared.parts.DeclParts.{DeclParts}
 use Rattle.decl_rules.specs.Alignment.{has_bad_alignment}

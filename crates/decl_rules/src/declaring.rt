@@ -1,7 +1,7 @@
 // One declarator or parameter.
 ghost use Rattle.std.specs.Prelude.{◌≡◌, ◌≢◌, Err, IfOk, option_map};
 ghost use Rattle.decl_rules.specs.Declarations as spec;
-ghost use Rattle.type_rel.specs.declared.checks.CheckError.TheVariants.{NoMemory};
+ghost use Rattle.type_data.specs.declared.judged.CheckError.TheVariants.{NoMemory};
 
 use crate::alignment::has_bad_alignment;
 use crate::entities::entity;
@@ -13,8 +13,8 @@ use crate::shapes::{bad_return, has_no_function, has_no_name, misshaped};
 use crate::storage::{has_bad_thread, is_misplaced, specifies_no_function};
 use scope_tables::{Entity, Linkage, Scopes};
 use std::alloc::{AllocError, Global};
-use type_data::{Fault, Space, Tags};
-use type_rel::{CheckError, is_bad};
+use type_data::{CheckError, Fault, Space, Tags};
+use type_rel::is_bad;
 
 fn misspecified(alloc: Global, decl: &DeclParts, tags: &Tags) -> Option<Fault>
     ensures { result ≡ spec.misspecified decl.now tags.now }

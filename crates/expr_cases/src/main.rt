@@ -16,9 +16,8 @@ use std::alloc::{AllocError, Global};
 use std::io;
 use std::io::Read;
 use tags::tags_of;
-use type_data::{Fault, Judged, Qual, Tags};
+use type_data::{CheckError, Fault, Judged, Qual, Tags};
 use type_print::print;
-use type_rel::CheckError;
 
 fn shown_fault(alloc: Global, tags: &Tags, fault: &Fault) -> Result<String, AllocError> {
     let rule = fault.rule;

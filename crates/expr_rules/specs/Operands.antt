@@ -6,8 +6,8 @@ use Rattle.type_data.specs.declared.judged.Place.{Place}
 use Rattle.type_data.specs.declared.judged.Place.TheVariants as place
 use Rattle.type_data.specs.Types.{Ty, Bad_type}
 use Rattle.type_rel.specs.Arithmetic.{promoted, usual}
-use Rattle.type_rel.specs.declared.checks.CheckError.{CheckError}
-use Rattle.type_rel.specs.declared.checks.CheckError.TheVariants.{Broken}
+use Rattle.type_data.specs.declared.judged.CheckError.{CheckError}
+use Rattle.type_data.specs.declared.judged.CheckError.TheVariants.{Broken}
 use Rattle.type_rel.specs.Kinds.{unqualified}
 
 -- what a construct is, or the rule that it breaks

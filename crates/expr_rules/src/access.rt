@@ -3,7 +3,7 @@ ghost use Rattle.std.specs.Prelude.{◌≡◌, ◌≢◌, Err, IfOk, option_map}
 ghost use Rattle.expr_rules.specs.Members;
 ghost use Rattle.expr_rules.specs.Postfix as spec;
 ghost use Rattle.expr_rules.specs.Shown.{shown};
-ghost use Rattle.type_rel.specs.declared.checks.CheckError.TheVariants.{NoMemory};
+ghost use Rattle.type_data.specs.declared.judged.CheckError.TheVariants.{NoMemory};
 
 use crate::answers::{refuse_name, refuse_type};
 use crate::constants::address_if;
@@ -11,8 +11,8 @@ use crate::kinds::{both_quals, is_array};
 use crate::members::{Found, member};
 use shared_text::Name;
 use std::alloc::{AllocError, Global};
-use type_data::{CType, Constancy, Judged, Node, Place, Qual, Tags};
-use type_rel::{CheckError, UNQUALIFIED, converted, has_members};
+use type_data::{CType, CheckError, Constancy, Judged, Node, Place, Qual, Tags};
+use type_rel::{UNQUALIFIED, converted, has_members};
 
 fn qualified(alloc: Global, ty: &CType, qual: Qual) -> Result<CType, AllocError>
     ensures { IfOk result (λ t. t ≡ Members.qualified ty.now qual) }

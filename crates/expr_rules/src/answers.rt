@@ -1,13 +1,13 @@
 // What a row answers.
 ghost use Rattle.std.specs.Prelude.{◌≡◌, ◌≢◌, [], ◌∷◌, Err, IfOk};
 ghost use Rattle.expr_rules.specs.Operands as spec;
-ghost use Rattle.type_rel.specs.declared.checks.CheckError.TheVariants.{NoMemory};
+ghost use Rattle.type_data.specs.declared.judged.CheckError.TheVariants.{NoMemory};
 
 use shared_list::Listing;
 use shared_text::Name;
 use std::alloc::{AllocError, Global};
-use type_data::{CType, Constancy, Fault, Judged, Node};
-use type_rel::{CheckError, value};
+use type_data::{CType, CheckError, Constancy, Fault, Judged, Node};
+use type_rel::value;
 
 /// What has a fault.
 pub(crate) fn bad() -> Judged

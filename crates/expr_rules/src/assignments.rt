@@ -1,7 +1,7 @@
 // The conditional, assignment and comma operators (ISO C11 6.5.15 to 6.5.17).
 ghost use Rattle.std.specs.Prelude.{◌≡◌, ◌≢◌, Err, IfOk};
 ghost use Rattle.expr_rules.specs.Assignments as spec;
-ghost use Rattle.type_rel.specs.declared.checks.CheckError.TheVariants.{NoMemory};
+ghost use Rattle.type_data.specs.declared.judged.CheckError.TheVariants.{NoMemory};
 
 use crate::answers::{refuse_type, refuse_types};
 use crate::binary::{are_arithmetic, are_integers, is_moved, is_null_beside, refused};
@@ -10,8 +10,8 @@ use crate::kinds::{both_quals, is_scalar};
 use crate::operands::usual_type;
 use c_literals::Op;
 use std::alloc::{AllocError, Global};
-use type_data::{CType, Constancy, Judged, Node, Qual, Tags};
-use type_rel::{CheckError, assignable, compatible, composite, converted, is_void_beside, value};
+use type_data::{CType, CheckError, Constancy, Judged, Node, Qual, Tags};
+use type_rel::{assignable, compatible, composite, converted, is_void_beside, value};
 
 fn pointers_both(
     alloc: Global,

@@ -1,7 +1,7 @@
 // Binary operators (ISO C11 6.5.5 to 6.5.14). Operands are converted ones.
 ghost use Rattle.std.specs.Prelude.{◌≡◌, ◌≢◌, Ok, Err};
 ghost use Rattle.expr_rules.specs.Binary as spec;
-ghost use Rattle.type_rel.specs.declared.checks.CheckError.TheVariants.{NoMemory};
+ghost use Rattle.type_data.specs.declared.judged.CheckError.TheVariants.{NoMemory};
 
 use crate::answers::refuse_types;
 use crate::constants;
@@ -9,10 +9,10 @@ use crate::kinds::{is_integer, is_pointer_to_complete, is_scalar};
 use crate::operands::{promoted_type, usual_type};
 use c_literals::Op;
 use std::alloc::Global;
-use type_data::{Basic, CType, Constancy, Judged, Node, Tags};
+use type_data::{Basic, CType, CheckError, Constancy, Judged, Node, Tags};
 use type_rel::{
-    CheckError, compatible, converted, is_arithmetic, is_complete, is_null_pointer, is_object,
-    is_void_beside, value,
+    compatible, converted, is_arithmetic, is_complete, is_null_pointer, is_object, is_void_beside,
+    value,
 };
 
 pub(crate) fn refused(

@@ -1,13 +1,13 @@
 // Function calls (ISO C11 6.5.2.2).
 ghost use Rattle.std.specs.Prelude.{◌≡◌, ◌≢◌, Err, IfOk};
 ghost use Rattle.expr_rules.specs.Postfix as spec;
-ghost use Rattle.type_rel.specs.declared.checks.CheckError.TheVariants.{NoMemory};
+ghost use Rattle.type_data.specs.declared.judged.CheckError.TheVariants.{NoMemory};
 
 use crate::answers::{refuse, refuse_type, refuse_types};
 use crate::kinds::{is_array, is_void};
 use std::alloc::{AllocError, Global};
-use type_data::{CType, Constancy, Judged, Node, ParamList, Params, Proto, Tags};
-use type_rel::{CheckError, assignable, converted, is_complete, value};
+use type_data::{CType, CheckError, Constancy, Judged, Node, ParamList, Params, Proto, Tags};
+use type_rel::{assignable, converted, is_complete, value};
 
 // The type of the first parameter to which its argument can't be assigned, and that of the argument.
 fn misfit(

@@ -2,16 +2,16 @@
 ghost use Rattle.std.specs.Prelude.{◌≡◌, ◌≢◌, Err};
 ghost use Rattle.expr_rules.specs.Casts as spec;
 ghost use Rattle.type_rel.specs.Kinds;
-ghost use Rattle.type_rel.specs.declared.checks.CheckError.TheVariants.{NoMemory};
+ghost use Rattle.type_data.specs.declared.judged.CheckError.TheVariants.{NoMemory};
 
 use crate::answers::refuse_types;
 use crate::constants::{address_if, arith_if, brought};
 use crate::kinds::{is_floating, is_pointer, is_scalar, is_void};
 use std::alloc::Global;
-use type_data::{CType, Constancy, IntTy, Judged, Node, Qual};
+use type_data::{CType, CheckError, Constancy, IntTy, Judged, Node, Qual};
 use type_rel::{
-    CheckError, UNQUALIFIED, after_reading, converted, integer_type, is_arith, is_arithmetic,
-    is_told, is_zero, value,
+    UNQUALIFIED, after_reading, converted, integer_type, is_arith, is_arithmetic, is_told, is_zero,
+    value,
 };
 
 fn is_castable(to: &CType, from: &CType) -> bool

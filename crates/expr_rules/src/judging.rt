@@ -1,7 +1,7 @@
 // The row of a construct.
 ghost use Rattle.std.specs.Prelude.{◌≡◌, ◌≢◌, Ok, Err};
 ghost use Rattle.expr_rules.specs.Judgements as spec;
-ghost use Rattle.type_rel.specs.declared.checks.CheckError.TheVariants.{NoMemory};
+ghost use Rattle.type_data.specs.declared.judged.CheckError.TheVariants.{NoMemory};
 
 use crate::access::{arrow, dot};
 use crate::answers::{bad, refuse};
@@ -14,11 +14,11 @@ use crate::offsets::offset_of;
 use crate::parts::{Association, Form, Operator};
 use crate::postfix::{compound, index};
 use crate::primary::{constant, identifier, text};
-use crate::selection::{generic, share};
+use crate::selection::generic;
 use crate::unary::{address, align_of, dereference, size_of, size_of_expression, unary};
 use std::alloc::Global;
-use type_data::{CType, Judged, Tags};
-use type_rel::{CheckError, is_bad};
+use type_data::{CType, CheckError, Judged, Tags};
+use type_rel::is_bad;
 
 fn is_bad_association(association: &Association) -> bool
     ensures { result ≡ spec.is_bad_association association.now }
@@ -73,7 +73,7 @@ fn has_bad(form: &Form, parts: &[Judged]) -> bool
 fn same(part: &Judged) -> Result<Judged, CheckError>
     ensures { result ≢ Err NoMemory → result ≡ Ok part.now }
 {
-    match share(part) {
+    match part.share() {
         Ok(part) => Ok(part),
         Err(_) => Err(CheckError::NoMemory),
     }

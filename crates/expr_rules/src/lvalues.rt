@@ -3,17 +3,15 @@ ghost use Rattle.std.specs.Prelude.{◌≡◌, ◌≢◌, Err, IfOk, option_map}
 ghost use Rattle.expr_rules.specs.Assignments;
 ghost use Rattle.expr_rules.specs.Members;
 ghost use Rattle.expr_rules.specs.Postfix as spec;
-ghost use Rattle.type_rel.specs.declared.checks.CheckError.TheVariants.{NoMemory};
+ghost use Rattle.type_data.specs.declared.judged.CheckError.TheVariants.{NoMemory};
 
 use crate::answers::refuse_type;
 use crate::assignments::{assigned, operated};
 use crate::kinds::{is_array, is_pointer_to_complete};
 use c_literals::Op;
 use std::alloc::{AllocError, Global};
-use type_data::{CType, Constancy, Judged, Member, Node, Place, TagId, Tags};
-use type_rel::{
-    CheckError, converted, deeper, is_arithmetic, is_complete, is_inside, most_tags, value,
-};
+use type_data::{CType, CheckError, Constancy, Judged, Member, Node, Place, TagId, Tags};
+use type_rel::{converted, deeper, is_arithmetic, is_complete, is_inside, most_tags, value};
 
 /// What a walk for a const member is about: the tags, those that it is inside of, and how deep it may still go.
 #[derive(Clone, Copy)]

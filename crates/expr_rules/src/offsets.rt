@@ -1,7 +1,7 @@
 // The place of a member, along its member-designator (ISO C11 6.5.3.4, 7.19p3).
 ghost use Rattle.std.specs.Prelude.{◌≡◌, ◌≢◌, Err};
 ghost use Rattle.expr_rules.specs.Unary as spec;
-ghost use Rattle.type_rel.specs.declared.checks.CheckError.TheVariants.{NoMemory};
+ghost use Rattle.type_data.specs.declared.judged.CheckError.TheVariants.{NoMemory};
 
 use crate::answers::{bad, refuse_name, refuse_type};
 use crate::constants::{brought, result_of};
@@ -10,8 +10,8 @@ use crate::parts::Designator;
 use crate::unary::{size_type, size_value};
 use c_literals::Op;
 use std::alloc::Global;
-use type_data::{CType, Constancy, IntTy, Judged, Node, Tags, Value};
-use type_rel::{CheckError, has_members, is_complete, size_align, value};
+use type_data::{CType, CheckError, Constancy, IntTy, Judged, Node, Tags, Value};
+use type_rel::{has_members, is_complete, size_align, value};
 
 fn bytes_of(place: Option<u128>) -> Value
     ensures { result ≡ spec.bytes_of place }

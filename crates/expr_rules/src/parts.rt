@@ -3,7 +3,7 @@ use c_literals::{Literal, Op, StrValue};
 use scope_tables::{Entity, ScopeKind};
 use shared_list::Listing;
 use shared_text::Name;
-use type_data::{CType, Fault, Qual, Value};
+use type_data::{CType, Qual, Value};
 
 /// A construct of an expression, with the number of the token on which its fault falls.
 #[derive(Drop)]

@@ -1,15 +1,17 @@
 // Array subscripting, calls and compound literals (ISO C11 6.5.2).
 ghost use Rattle.std.specs.Prelude.{◌≡◌, ◌≢◌, ◌≤◌, ◌<◌, Err, Ok, option_map, length};
 ghost use Rattle.expr_rules.specs.Postfix as spec;
-ghost use Rattle.type_rel.specs.declared.checks.CheckError.TheVariants.{NoMemory};
+ghost use Rattle.type_data.specs.declared.judged.CheckError.TheVariants.{NoMemory};
 
 use crate::answers::{bad, refuse, refuse_type, refuse_types};
 use crate::constants::moved;
 use crate::kinds::{is_array, is_function, is_integer, is_pointer_to_complete, is_void};
 use scope_tables::ScopeKind;
 use std::alloc::{AllocError, Global};
-use type_data::{CType, Constancy, Judged, Node, ParamList, Params, Place, Proto, Qual, Tags};
-use type_rel::{CheckError, UNQUALIFIED, assignable, converted, is_complete, is_open_array, value};
+use type_data::{
+    CType, CheckError, Constancy, Judged, Node, ParamList, Params, Place, Proto, Qual, Tags,
+};
+use type_rel::{UNQUALIFIED, assignable, converted, is_complete, is_open_array, value};
 
 #[tactic(auto, unfolding(crate::specs::Postfix::designated))]
 fn designated(ty: CType, qual: Qual, constant: Constancy) -> Judged

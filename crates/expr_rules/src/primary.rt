@@ -1,15 +1,15 @@
 // Primary expressions (ISO C11 6.5.1), generic selections aside.
 ghost use Rattle.std.specs.Prelude.{◌≡◌, ◌≢◌, Err, option_map};
 ghost use Rattle.expr_rules.specs.Primary as spec;
-ghost use Rattle.type_rel.specs.declared.checks.CheckError.TheVariants.{NoMemory};
+ghost use Rattle.type_data.specs.declared.judged.CheckError.TheVariants.{NoMemory};
 
 use crate::answers::{refuse, refuse_name};
 use c_literals::{Literal, StrValue};
 use scope_tables::{Entity, EntityKind, Life};
 use shared_text::Name;
 use std::alloc::Global;
-use type_data::{Basic, CType, Constancy, Extent, Judged, Node, Place, Value};
-use type_rel::{CheckError, UNQUALIFIED, basic_of, value};
+use type_data::{Basic, CType, CheckError, Constancy, Extent, Judged, Node, Place, Value};
+use type_rel::{UNQUALIFIED, basic_of, value};
 
 fn place_of(life: Life) -> Place
     ensures { result ≡ spec.place_of life }

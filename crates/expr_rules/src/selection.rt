@@ -2,14 +2,14 @@
 ghost use Rattle.std.specs.Prelude.{◌≡◌, ◌≢◌, ◌≤◌, Err, option_map, length, IfOk};
 ghost use Rattle.std.specs.List.{list_any};
 ghost use Rattle.expr_rules.specs.Selection as spec;
-ghost use Rattle.type_rel.specs.declared.checks.CheckError.TheVariants.{NoMemory};
+ghost use Rattle.type_data.specs.declared.judged.CheckError.TheVariants.{NoMemory};
 
 use crate::answers::{refuse, refuse_type};
 use crate::constants::settled;
 use crate::parts::Association;
 use std::alloc::{AllocError, Global};
-use type_data::{CType, Judged, Tags};
-use type_rel::{CheckError, UNQUALIFIED, compatible, converted, is_complete};
+use type_data::{CType, CheckError, Judged, Tags};
+use type_rel::{UNQUALIFIED, compatible, converted, is_complete};
 
 fn is_proper(tags: &Tags, association: &Association) -> bool
     ensures { result ≡ spec.is_proper tags.now association.now }
@@ -144,19 +144,6 @@ fn first_default<'a>(associations: &[Association], parts: &'a [Judged]) -> Optio
     None
 }
 
-/// The same part, whose type is shared.
-pub(crate) fn share(part: &Judged) -> Result<Judged, AllocError>
-    ensures { IfOk result (λ copy. copy ≡ part.now) }
-{
-    let ty = part.ty.share()?;
-    Ok(Judged {
-        ty,
-        qual: part.qual,
-        place: part.place,
-        constant: part.constant,
-    })
-}
-
 // A part as it is chosen.
 fn selected_part(part: Judged) -> Judged
     ensures { result ≡ spec.selected_part part }
@@ -180,7 +167,7 @@ fn chosen(alloc: Global, at: u32, ty: &CType, part: Option<&Judged>) -> Result<J
     ensures { result ≢ Err NoMemory → result ≡ spec.chosen at ty.now (option_map (λ e. e.now) part.entry) }
 {
     match part {
-        Some(part) => match share(part) {
+        Some(part) => match part.share() {
             Ok(part) => Ok(selected_part(part)),
             Err(_) => Err(CheckError::NoMemory),
         },

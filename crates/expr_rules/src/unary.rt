@@ -2,7 +2,7 @@
 ghost use Rattle.std.specs.Prelude.{◌≡◌, ◌≢◌, Err, option_map};
 ghost use Rattle.type_rel.specs.Sizes.{size_align};
 ghost use Rattle.expr_rules.specs.Unary as spec;
-ghost use Rattle.type_rel.specs.declared.checks.CheckError.TheVariants.{NoMemory};
+ghost use Rattle.type_data.specs.declared.judged.CheckError.TheVariants.{NoMemory};
 
 use crate::answers::refuse_type;
 use crate::constants;
@@ -12,8 +12,8 @@ use crate::operands::promoted_type;
 use crate::postfix::pointed;
 use c_literals::Op;
 use std::alloc::Global;
-use type_data::{Basic, CType, Constancy, Judged, Node, Place, Tags, Value};
-use type_rel::{CheckError, converted, is_arithmetic, is_complete, size_align, value};
+use type_data::{Basic, CType, CheckError, Constancy, Judged, Node, Place, Tags, Value};
+use type_rel::{converted, is_arithmetic, is_complete, size_align, value};
 
 fn has_address(place: Place) -> bool
     ensures { result ≡ spec.has_address place }

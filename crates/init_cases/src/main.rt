@@ -18,9 +18,8 @@ use std::alloc::{AllocError, Global};
 use std::io;
 use std::io::Read;
 use tags::tags_of;
-use type_data::{CType, Fault, Tags};
+use type_data::{CType, CheckError, Fault, Tags};
 use type_print::print;
-use type_rel::CheckError;
 use types::{plain, type_named};
 
 // The state before the first piece.

@@ -4,8 +4,8 @@ use Rattle.type_data.specs.declared.judged.Fault.{Fault}
 use Rattle.type_data.specs.declared.judged.Judged.{Judged}
 use Rattle.type_data.specs.declared.values.Value.{Value}
 use Rattle.type_data.specs.Types.{Ty, Bad_type}
-use Rattle.type_rel.specs.declared.checks.CheckError.{CheckError}
-use Rattle.type_rel.specs.declared.checks.CheckError.TheVariants.{Broken}
+use Rattle.type_data.specs.declared.judged.CheckError.{CheckError}
+use Rattle.type_data.specs.declared.judged.CheckError.TheVariants.{Broken}
 use Rattle.type_rel.specs.Completeness.{is_complete, is_open_array}
 use Rattle.type_rel.specs.Kinds.{Tagging, is_bad}
 use Rattle.type_rel.specs.Conversion.{converted}

@@ -1,6 +1,6 @@
 // One step of an initializer.
 ghost use Rattle.std.specs.Prelude.{◌≡◌, ◌≢◌, Err, IfOk, OnOk, false};
-ghost use Rattle.type_rel.specs.declared.checks.CheckError.TheVariants.{NoMemory};
+ghost use Rattle.type_data.specs.declared.judged.CheckError.TheVariants.{NoMemory};
 ghost use Rattle.init_rules.specs.Places;
 ghost use Rattle.init_rules.specs.Steps as spec;
 ghost use Rattle.init_rules.specs.declared.state.InitPiece.TheVariants as piece;
@@ -12,8 +12,7 @@ use crate::places::close;
 use crate::state::{InitPiece, InitState};
 use shared_text::Name;
 use std::alloc::{AllocError, Global};
-use type_data::{Fault, Tags, Value};
-use type_rel::CheckError;
+use type_data::{CheckError, Fault, Tags, Value};
 
 fn by_name(
     alloc: Global,

@@ -3,7 +3,6 @@
 
 mod arithmetic;
 mod assignment;
-mod checks;
 mod compatibility;
 mod completeness;
 mod composition;
@@ -18,7 +17,6 @@ pub use arithmetic::{basic_of, integer_of, promote, usual};
 pub use assignment::{
     assignable, is_arithmetic, is_null_pointer, is_object, is_void_beside, is_zero,
 };
-pub use checks::CheckError;
 pub use compatibility::compatible;
 pub use completeness::{has_members, is_complete, is_open_array};
 pub use composition::composite;
