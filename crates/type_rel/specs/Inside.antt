@@ -8,6 +8,6 @@ use Rattle.type_data.specs.Same.{same_tag}
 abbrev pub inside_or : {A : Type 0} → List TagId → TagId → A → A → A
 inside_or inside id none others = if list_any (same_tag id) inside then none else others
 
--- no text has as many tags
+-- no memory holds as many tags
 unfoldable pub most_tags : ℕ
-most_tags = 4294967296
+most_tags = 9223372036854775808

@@ -7,12 +7,12 @@ ghost use Rattle.type_rel.specs.Inside as spec;
 use std::alloc::{AllocError, Global};
 use type_data::TagId;
 
-/// How deep a walk through members may go: no text has as many tags.
+/// How deep a walk through members may go: no memory holds as many tags.
 #[tactic(auto, unfolding(crate::specs::Inside::most_tags))]
 pub fn most_tags() -> u64
     ensures { result ≡ spec.most_tags }
 {
-    4_294_967_296
+    9_223_372_036_854_775_808
 }
 
 /// Whether a walk is inside of this tag already.
