@@ -1,5 +1,5 @@
 -- Types are the same exactly where they are equal.
-use Rattle.std.proofs.Common.{rules, ◌≡◌, Bool, true, false, refl, sym, subst, ap, ◌∙◌}
+use Rattle.std.proofs.Common.{rules, ◌≡◌, Bool, true, false, refl, subst, ap, ◌∙◌}
 use Rattle.std.specs.Prelude.{◌&&◌}
 use Rattle.std.specs.Bool.{Decides}
 use Rattle.std.specs.Cmp.{IsEquivalence, decided}
