@@ -1,5 +1,5 @@
 -- One tag further down on the ways through members by value.
-use Rattle.std.proofs.Common.{◌≡◌, ℕ, suc, Bool, false, List, [], ◌∷◌, Option, Some, None, ap, sym, ◌∙◌}
+use Rattle.std.proofs.Common.{◌≡◌, ℕ, suc, Bool, false, List, [], ◌∷◌, Some, None, ap, sym, ◌∙◌}
 use Rattle.std.specs.Prelude.{if◌then◌else◌}
 use Rattle.std.specs.List.{list_any}
 use Rattle.std.specs.Map.{lookup}
@@ -12,7 +12,7 @@ use Rattle.type_rel.specs.Kinds.{Tagging}
 use Rattle.type_rel.specs.Inside.{most_tags}
 use Rattle.init_rules.specs.declared.state.OpenPlace.{OpenPlace}
 use Rattle.init_rules.specs.Descents.{Way, down, down_in, ends_at, to_first}
-use Rattle.init_rules.specs.Parts.{Part, after, of_tag, part_of}
+use Rattle.init_rules.specs.Parts.{Part, after, of_tag}
 use Rattle.init_rules.specs.Paths.{Path, among, from_next, in_info, of_info, of_members, path, path_in}
 use Rattle.init_rules.specs.Places.{place}
 

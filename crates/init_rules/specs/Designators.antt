@@ -1,5 +1,5 @@
 -- Designators (ISO C11 6.7.9p6, p7, p17, p18).
-use Rattle.std.specs.Prelude.{ℕ, ℤ, pos, negsuc, Bool, true, false, not, ◌==◌, ◌&&◌, nat_lt, List, [], ◌∷◌, Option, Some, None, if◌then◌else◌}
+use Rattle.std.specs.Prelude.{ℕ, ℤ, pos, Bool, true, false, not, ◌==◌, ◌&&◌, nat_lt, List, [], ◌∷◌, Option, Some, None, if◌then◌else◌}
 use Rattle.type_data.specs.declared.judged.Fault.{Fault}
 use Rattle.type_data.specs.declared.qualifiers.Extent.{Extent}
 use Rattle.type_data.specs.declared.qualifiers.Extent.TheVariants as extent

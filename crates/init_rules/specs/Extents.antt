@@ -1,5 +1,5 @@
 -- How many elements the array that is initialized has got, and its type then (ISO C11 6.7.9p22).
-use Rattle.std.specs.Prelude.{ℕ, ◌==◌, nat_lt, nat_le, List, Option, Some, None, if◌then◌else◌}
+use Rattle.std.specs.Prelude.{ℕ, ◌==◌, nat_lt, nat_le, Option, Some, None, if◌then◌else◌}
 use Rattle.type_data.specs.declared.qualifiers.Extent.{Extent}
 use Rattle.type_data.specs.declared.qualifiers.Extent.TheVariants as extent
 use Rattle.type_data.specs.Types.{Ty, Array_of}

@@ -1,8 +1,7 @@
 -- One step of an initializer (ISO C11 6.7.9): where it leads, and the rule that is broken.
-use Rattle.std.specs.Prelude.{ℕ, Bool, true, false, ◌&&◌, ◌||◌, List, [], ◌∷◌, Option, Some, None, Result, Ok, Err, if◌then◌else◌}
+use Rattle.std.specs.Prelude.{ℕ, Bool, true, false, ◌&&◌, ◌||◌, List, ◌∷◌, Option, Some, None, Result, Ok, Err, if◌then◌else◌}
 use Rattle.type_data.specs.declared.judged.Fault.{Fault}
 use Rattle.type_data.specs.declared.judged.Judged.{Judged}
-use Rattle.type_data.specs.declared.values.Value.{Value}
 use Rattle.type_data.specs.Types.{Ty, Bad_type}
 use Rattle.type_data.specs.declared.judged.CheckError.{CheckError}
 use Rattle.type_data.specs.declared.judged.CheckError.TheVariants.{Broken}

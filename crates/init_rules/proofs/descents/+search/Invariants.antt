@@ -1,4 +1,4 @@
-use Rattle.std.proofs.Common.{◌≡◌, ◌+◌, ◌*◌}
+use Rattle.std.proofs.Common.{◌+◌, ◌*◌}
 use Rattle.init_rules.proofs.descents.+search.Given as goal
 
 abbrev pub decreases-down_in : goal.decreases-down_in
