@@ -1,6 +1,6 @@
 -- Members laid in front of others.
 use Rattle.std.proofs.Common.{◌≡◌, ℕ, Bool, ◌++◌, List, [], ◌∷◌, Option, Some, None, refl, ap, sym, ◌∙◌, append_assoc}
-use Rattle.std.specs.Prelude.{not, ◌&&◌, option_map}
+use Rattle.std.specs.Prelude.{not, ◌&&◌}
 use Rattle.type_data.specs.declared.members.Member.{Member}
 use Rattle.type_data.specs.declared.members.TagInfo.{TagInfo}
 use Rattle.type_data.specs.declared.names.TagId.{TagId}

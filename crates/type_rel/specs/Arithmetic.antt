@@ -5,7 +5,7 @@ use Rattle.type_data.specs.declared.basics.Basic.{Basic}
 use Rattle.type_data.specs.declared.basics.Basic.TheVariants as basic
 use Rattle.type_data.specs.declared.integers.IntTy.{IntTy}
 use Rattle.type_data.specs.declared.integers.IntTy.TheVariants as int
-use Rattle.type_data.specs.Types.{Ty, Void_type, Basic_type, Enumerated_type, Tagged_type, Pointer_to, Array_of, Function_of, Bad_type}
+use Rattle.type_data.specs.Types.{Ty, Basic_type, Enumerated_type, Bad_type}
 
 abbrev pub integer_of : Basic → Option IntTy
 integer_of basic.Bool = Some int.Bool

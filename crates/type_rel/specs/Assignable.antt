@@ -9,7 +9,7 @@ use Rattle.type_data.specs.declared.qualifiers.Qual.{Qual}
 use Rattle.type_data.specs.declared.values.Value.{Value}
 use Rattle.type_data.specs.declared.values.Value.TheVariants as value
 use Rattle.type_data.specs.Same.{same_basic, same_tag}
-use Rattle.type_data.specs.Types.{Ty, Void_type, Basic_type, Enumerated_type, Tagged_type, Pointer_to, Array_of, Function_of, Bad_type}
+use Rattle.type_data.specs.Types.{Ty, Void_type, Basic_type, Enumerated_type, Tagged_type, Pointer_to, Function_of, Bad_type}
 use Rattle.type_rel.specs.Compatible.{compatible}
 
 -- 6.2.5p21: integer and floating types

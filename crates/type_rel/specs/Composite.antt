@@ -3,7 +3,7 @@ use Rattle.type_data.specs.declared.qualifiers.Extent.{Extent}
 use Rattle.type_data.specs.declared.qualifiers.Extent.TheVariants as extent
 use Rattle.type_data.specs.declared.qualifiers.Proto.{Proto}
 use Rattle.type_data.specs.declared.qualifiers.Proto.TheVariants as proto
-use Rattle.type_data.specs.Types.{Ty, Void_type, Basic_type, Enumerated_type, Tagged_type, Pointer_to, Array_of, Function_of, Bad_type, Parameters, No_more, Parameter_then}
+use Rattle.type_data.specs.Types.{Ty, Pointer_to, Array_of, Function_of, Bad_type, Parameters, Parameter_then}
 
 -- an array of known size before one of a size that isn't told, and that before one of no size
 abbrev pub sized : Extent → Extent → Extent

@@ -1,5 +1,5 @@
 -- Layouts of structures and unions (ISO C11 6.7.2.1p11, p15 to p18), member by member. Places are in bits.
-use Rattle.std.specs.Prelude.{ℕ, Bool, true, false, not, ◌&&◌, ◌==◌, ◌+◌, ◌-◌, ◌*◌, ◌/◌, ◌%◌, max, nat_le, nat_lt, List, [], ◌∷◌, Option, Some, None, option_map, if◌then◌else◌}
+use Rattle.std.specs.Prelude.{ℕ, Bool, true, false, not, ◌&&◌, ◌==◌, ◌+◌, ◌-◌, ◌*◌, ◌/◌, ◌%◌, nat_le, nat_lt, List, [], ◌∷◌, Option, Some, None, if◌then◌else◌}
 use Rattle.type_data.specs.declared.members.Member.{Member}
 use Rattle.type_data.specs.declared.members.TagInfo.{TagInfo}
 use Rattle.type_data.specs.declared.members.TagKind.{TagKind}

@@ -1,5 +1,5 @@
 -- Sizes and alignments of types, in bytes (ISO C11 5.2.4.2.1, 6.2.6, 6.2.8, 6.5.3.4).
-use Rattle.std.specs.Prelude.{◌≡◌, ℕ, ◌*◌, ◌<◌, nat_le, is_some, List, Option, Some, None, if◌then◌else◌}
+use Rattle.std.specs.Prelude.{ℕ, ◌*◌, nat_le, is_some, List, Option, Some, None, if◌then◌else◌}
 use Rattle.std.specs.Map.{lookup}
 use Rattle.type_data.specs.declared.basics.Basic.{Basic}
 use Rattle.type_data.specs.declared.basics.Basic.TheVariants as basic
