@@ -1,9 +1,9 @@
 -- Digits in the productions, and the run of digits at the front of a text.
-use Rattle.std.proofs.Common.{◌≡◌, ℕ, zero, suc, ◌+◌, ◌<◌, ◌⊎◌, inl, inr, Bool, true, false, ◌&&◌, ◌||◌, List, [], ◌∷◌, ◌++◌, append_assoc, length, take, drop, refl, ap, sym, ◌∙◌, subst, arith, slice_index, ◌==◌}
+use Rattle.std.proofs.Common.{◌≡◌, ℕ, suc, ◌+◌, ◌⊎◌, inl, inr, Bool, true, false, ◌&&◌, ◌||◌, List, [], ◌∷◌, ◌++◌, append_assoc, length, take, refl, sym, subst, arith, slice_index, ◌==◌}
 use Rattle.std.proofs.lemmas.Grind.{common_steps}
 use Rattle.std.proofs.lemmas.List.{append-nil}
 use Rattle.std.specs.Char.{is_digit}
-use Rattle.std.specs.List.{list_all, prefix_len}
+use Rattle.std.specs.List.{list_all}
 use Rattle.c_literals.specs.Digits.{run}
 use Rattle.c_literals.specs.Productions.{is_decimal_digit, is_nonzero_digit, is_octal_digit, is_hexadecimal_digit, AreDigits, first_digit, next_digit, IsDecimal, first_nonzero, next_decimal, IsOctal, first_zero, next_octal}
 
@@ -101,7 +101,7 @@ octal_of w first_zero = (refl, (refl, refl))
 octal_of w (next_octal v d a e) = more v (octal_of v a)
   where
     more : (v : List ℕ) → Octal v → Octal (v ++ d ∷ [])
-    more [] k = cc k.1.0
+    more [] k = cc k.0
     more (c ∷ v) k = (k.0, more_digit is_octal_digit (c ∷ v) d refl k.1 e)
 
 octal_on : (done w : List ℕ) → IsOctal done → list_all is_octal_digit w ≡ true → IsOctal (done ++ w)
@@ -109,7 +109,7 @@ octal_on done [] a e = subst IsOctal (sym (append-nil done)) a
 octal_on done (c ∷ w) a e = subst IsOctal (append_assoc done (c ∷ []) w) (octal_on (done ++ c ∷ []) w (next_octal done c a (first_part (is_octal_digit c) (list_all is_octal_digit w) e)) (second_part (is_octal_digit c) (list_all is_octal_digit w) e))
 
 pub is_octal : (w : List ℕ) → Octal w → IsOctal w
-is_octal [] k = cc k.1.0
+is_octal [] k = cc k.0
 is_octal (c ∷ w) k = subst (λ (z : ℕ). IsOctal (z ∷ w)) (sym k.0) (octal_on (48 ∷ []) w first_zero (second_part (is_octal_digit c) (list_all is_octal_digit w) k.1.1))
 
 -- how far the digits at the front go

@@ -1,15 +1,15 @@
 -- What is read as a floating constant is one by its productions, and the other way round.
-use Rattle.std.proofs.Common.{◌≡◌, ℕ, ◌+◌, ◌-◌, ◌⊎◌, inl, inr, Bool, true, false, not, ◌&&◌, ◌||◌, List, [], ◌∷◌, ◌++◌, append_assoc, length, take, drop, refl, ap, sym, ◌∙◌, subst, arith, Option, Some, None, slice_index, ◌==◌, if◌then◌else◌}
+use Rattle.std.proofs.Common.{◌≡◌, ℕ, ◌⊎◌, inl, inr, Bool, true, false, not, ◌&&◌, ◌||◌, List, [], ◌∷◌, ◌++◌, append_assoc, length, take, drop, refl, ap, sym, ◌∙◌, subst, arith, Option, Some, None, slice_index, ◌==◌, if◌then◌else◌}
 use Rattle.std.proofs.lemmas.Grind.{common_steps}
-use Rattle.std.proofs.lemmas.List.{take_at, drop_at, take-append-drop, append-nil}
+use Rattle.std.proofs.lemmas.List.{drop_at, take-append-drop}
 use Rattle.std.specs.List.{list_all}
 use Rattle.type_data.specs.declared.basics.Basic.{Basic}
 use Rattle.type_data.specs.declared.basics.Basic.TheVariants as basic
 use Rattle.c_literals.specs.Digits.{run, begins_with}
 use Rattle.c_literals.specs.Integer.{has_prefix}
-use Rattle.c_literals.specs.Floating.{behind, floating_suffix, without_sign, exponent, begins_exponent, ending, fraction, floating, floating_constant}
+use Rattle.c_literals.specs.Floating.{behind, floating_suffix, without_sign, exponent, ending, fraction, floating, floating_constant}
 use Rattle.c_literals.specs.Productions.{is_decimal_digit, is_hexadecimal_digit, AreDigits, IsPrefix, prefix_x, prefix_X, IsFloatingSuffix, no_floating, floating_f, floating_F, floating_l, floating_L, IsSign, no_sign, plus, minus, IsExponent, small_exponent, capital_exponent, IsFractional, behind_point, around_point, before_point, IsFloatingConstant, fraction_alone, fraction_exponent, digits_exponent, hexadecimal_fraction, hexadecimal_digits}
-use Rattle.c_literals.proofs.DigitRuns.{first_part, second_part, both, either_part, neither_part, same_test, Tests, decimal_tests, hexadecimal_tests, Digits, digits_of, are_digits, run_is, run_digits, run_all, some_digits}
+use Rattle.c_literals.proofs.DigitRuns.{first_part, second_part, either_part, same_test, Tests, decimal_tests, hexadecimal_tests, Digits, digits_of, are_digits, run_is, run_digits, some_digits}
 use Rattle.c_literals.proofs.IntegerReads.{if_cases}
 
 -- suffixes

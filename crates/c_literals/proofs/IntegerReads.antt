@@ -1,5 +1,5 @@
 -- What is read as an integer constant is one by its productions, and the other way round.
-use Rattle.std.proofs.Common.{◌≡◌, ℕ, zero, suc, ◌+◌, ◌-◌, ◌⊎◌, inl, inr, Bool, true, false, ◌&&◌, ◌||◌, List, [], ◌∷◌, ◌++◌, length, take, drop, refl, ap, sym, ◌∙◌, subst, arith, Option, Some, None, slice_index, ◌==◌, codes, if◌then◌else◌}
+use Rattle.std.proofs.Common.{◌≡◌, ℕ, ◌-◌, ◌⊎◌, inl, inr, Bool, true, false, ◌&&◌, ◌||◌, List, [], ◌∷◌, ◌++◌, length, take, drop, refl, ap, sym, ◌∙◌, subst, arith, Option, Some, None, slice_index, ◌==◌, if◌then◌else◌}
 use Rattle.std.proofs.lemmas.Grind.{common_steps}
 use Rattle.std.proofs.lemmas.List.{take_at, drop_at, take-append-drop, length-drop}
 use Rattle.std.specs.List.{list_all}
@@ -11,7 +11,7 @@ use Rattle.c_literals.specs.declared.suffixes.Suffix.{Suffix}
 use Rattle.c_literals.specs.Digits.{run, begins_with, small}
 use Rattle.c_literals.specs.Integer.{long_suffix, with_sign, suffix_of, of_number, with_suffix, constant, has_prefix, integer_constant}
 use Rattle.c_literals.specs.Productions.{is_decimal_digit, is_octal_digit, is_hexadecimal_digit, is_nonzero_digit, IsPrefix, prefix_x, prefix_X, IsUnsigned, suffix_u, suffix_U, IsLong, suffix_l, suffix_L, suffix_ll, suffix_LL, suffix, IsSuffix, no_suffix, unsigned_alone, unsigned_first, long_alone, long_first, IsIntegerConstant, decimal, octal, hexadecimal}
-use Rattle.c_literals.proofs.DigitRuns.{first_part, second_part, both, either_part, neither_part, same_test, Tests, decimal_tests, octal_tests, hexadecimal_tests, Digits, digits_of, are_digits, Decimal, decimal_of, is_decimal, Octal, octal_of, is_octal, run_is, run_digits, some_digits}
+use Rattle.c_literals.proofs.DigitRuns.{first_part, second_part, either_part, same_test, Tests, decimal_tests, octal_tests, hexadecimal_tests, Digits, digits_of, are_digits, Decimal, decimal_of, is_decimal, Octal, octal_of, is_octal, run_is, run_digits, some_digits}
 
 pub if_cases : {A : Type 0} (P : A → Type 0) (b : Bool) (x y : A) → (b ≡ true → P x) → (b ≡ false → P y) → P (if b then x else y)
 if_cases P true x y holds fails = holds refl
@@ -148,7 +148,7 @@ octal_unprefixed [] t e f = zero_unprefixed t f
 octal_unprefixed (d ∷ w) t e f = zero_unprefixed (d ∷ w ++ t) (octal_no_x d (first_part (is_octal_digit d) (list_all is_octal_digit w) e))
 
 octal_read : (w t : List ℕ) (s : Suffix) → Octal w → IsSuffix s t → integer_constant (w ++ t) ≡ Some (value_of 8 w s)
-octal_read [] t s k a = cc k.1.0
+octal_read [] t s k a = cc k.0
 octal_read (c ∷ w) t s k a = zero_read c k.0 (constant_read 8 is_octal_digit octal_tests refl (c ∷ w) t s k.1 (letter_no_octal (slice_index t 0) (suffix_letter s t a)) (suffix_read s t a))
   where
     at_zero : constant 8 (48 ∷ w ++ t) ≡ Some (value_of 8 (48 ∷ w) s) → integer_constant (48 ∷ w ++ t) ≡ Some (value_of 8 (48 ∷ w) s)

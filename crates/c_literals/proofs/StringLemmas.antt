@@ -1,10 +1,9 @@
 -- What the loops over the pieces of a string literal keep.
-use Rattle.std.proofs.Common.{arith, rules, ◌≡◌, ◌-◌, ◌++◌, ℕ, Bool, true, false, List, [], ◌∷◌, drop, map, ap, sym, ◌∙◌, Some, None, Option, append_assoc}
+use Rattle.std.proofs.Common.{◌≡◌, ◌-◌, ◌++◌, ℕ, true, false, List, [], ◌∷◌, drop, ap, sym, ◌∙◌, Some, None, Option, append_assoc}
 use Rattle.std.specs.Prelude.{refl, ◌==◌}
 use Rattle.c_literals.specs.declared.prefix.Prefix.{Prefix}
-use Rattle.c_literals.specs.CChars.{CChar, front, c_chars, closed, at_end, before, is_new_line}
-use Rattle.c_literals.specs.Strings.{Outcome, Open, Faulty, Units, followed, of_units, of_content, outcome, Piece, piece_of, of_characters, quoted, no_piece}
-use Rattle.c_literals.specs.Texts.{ended}
+use Rattle.c_literals.specs.CChars.{CChar, front, c_chars, closed, before, is_new_line}
+use Rattle.c_literals.specs.Strings.{Outcome, Open, Faulty, Units, followed, of_units, of_content}
 use Rattle.c_literals.specs.Units.{units, units_of, joined}
 use Rattle.c_literals.proofs.CCharLemmas.{closed_step}
 

@@ -1,5 +1,5 @@
 -- Which numbers are values of an integer type (ISO C11 5.2.4.2.1, 6.2.5), and where a result stands in it (6.5p5).
-use Rattle.std.specs.Prelude.{ℕ, Bool, true, false, ◌&&◌, ◌-◌, ◌^◌, ℤ, pos, neg_ℤ, if◌then◌else◌, int_lt, int_le}
+use Rattle.std.specs.Prelude.{Bool, ◌&&◌, ◌-◌, ◌^◌, ℤ, pos, neg_ℤ, if◌then◌else◌, int_lt, int_le}
 use Rattle.std.specs.Int.{int_rem_euclid}
 use Rattle.type_data.specs.declared.integers.IntTy.{IntTy}
 pub use Rattle.type_data.specs.Ranges.{width, is_signed}

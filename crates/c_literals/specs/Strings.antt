@@ -1,6 +1,6 @@
 -- String literals (ISO C11 6.4.5): pieces that stand behind one another are one literal (5.1.1.2p1 phase 6). Rule 102 is a
 -- piece that isn't closed, 314 an escape that is none or past the range of its unit, 315 pieces whose prefixes differ.
-use Rattle.std.specs.Prelude.{◌≡◌, ℕ, ◌==◌, ◌++◌, List, [], ◌∷◌, Option, Some, None, map, drop, slice_index, if◌then◌else◌}
+use Rattle.std.specs.Prelude.{ℕ, ◌==◌, ◌++◌, List, [], ◌∷◌, Option, Some, None, map, drop, slice_index, if◌then◌else◌}
 use Rattle.std.specs.Str.{chars}
 use Rattle.c_literals.specs.declared.prefix.Prefix.{Prefix}
 use Rattle.c_literals.specs.declared.prefix.Prefix.TheVariants as prefix

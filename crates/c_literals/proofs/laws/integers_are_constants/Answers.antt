@@ -5,4 +5,4 @@ pub returns-clause-read : goal.returns-clause-read
 returns-clause-read c = integer_read
 
 pub returns-clause-only : goal.returns-clause-only
-returns-clause-only c text value e = let r = integer_only text value e in (r.base, (r.digits, (r.suffix, (r.is, r.value))))
+returns-clause-only c text value e = let r = integer_only text value e in (r.base, r.digits, r.suffix, r.is, r.value)
