@@ -22,10 +22,6 @@ pub either_part : (a b : Bool) → a || b ≡ true → (a ≡ true) ⊎ (b ≡ t
 either_part true b e = inl refl
 either_part false b e = inr e
 
-pub neither_part : (a b : Bool) → a || b ≡ false → (a ≡ false) × (b ≡ false)
-neither_part true b e = cc e
-neither_part false b e = (refl, e)
-
 pub same_test : (a b : ℕ) → a == b ≡ true → a ≡ b
 same_test a b e = grind (arith, common_steps, e)
 

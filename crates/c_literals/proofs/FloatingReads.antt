@@ -150,9 +150,6 @@ with_prefix p text prefix_x = refl
 with_prefix p text prefix_X = refl
 
 -- an exponent begins with its letter
-abbrev Letters : ℕ → ℕ → Type 0
-Letters small capital = (is_decimal_digit small ≡ false) × (is_decimal_digit capital ≡ false)
-
 exponent_no_digit : (is : ℕ → Bool) (small capital : ℕ) → is small ≡ false → is capital ≡ false → (e : List ℕ) → IsExponent small capital e → (t : List ℕ) → is (slice_index (e ++ t) 0) ≡ false
 exponent_no_digit is small capital f g e (small_exponent s w a b) t = f
 exponent_no_digit is small capital f g e (capital_exponent s w a b) t = g
