@@ -1,5 +1,5 @@
 -- What `strip_prefix` leaves, by bytes.
-use Rattle.std.proofs.Common.{◌≡◌, ℕ, Bool, true, false, List, length, drop, nat_eq, Option, Some, None, option_map, if◌then◌else◌, Bor, ap, sym, subst, ◌∙◌}
+use Rattle.std.proofs.Common.{◌≡◌, ℕ, true, false, List, length, drop, nat_eq, Option, Some, None, option_map, if◌then◌else◌, Bor, ap, sym, subst, ◌∙◌}
 use Rattle.std.specs.Prelude.{MatchOption}
 use Rattle.std.specs.List.{starts_with}
 use Rattle.std.specs.Str.{IsCharBoundary}

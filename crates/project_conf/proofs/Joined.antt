@@ -1,9 +1,8 @@
 -- The definitions of the words and of an entry are usable together.
-use Rattle.std.proofs.Common.{◌≡◌, ◌+◌, ◌≤◌, ℕ, List, ◌++◌, sum_by, arith, sym, subst}
-use Rattle.std.specs.Prelude.{All}
+use Rattle.std.proofs.Common.{◌≡◌, List, ◌++◌, arith, sym, subst}
 use Rattle.std.proofs.lemmas.List.Elements.{All-append}
 use Rattle.std.proofs.lemmas.List.Sums.{sum_by-append}
-use Rattle.project_conf.specs.Defines.{name_of, size_of, AreUsable}
+use Rattle.project_conf.specs.Defines.{size_of, AreUsable}
 use Rattle.project_conf.specs.declared.options.Define.{Define}
 use Rattle.project_conf.proofs.Usable.{IsNamed}
 

@@ -1,8 +1,8 @@
 -- The definitions of each entry may begin a unit: their names are identifiers, and their bytes are bounded by those of the database.
-use Rattle.std.proofs.Common.{◌≡◌, ℕ, zero, suc, ◌+◌, ◌-◌, ◌*◌, ◌≤◌, ◌==◌, Bool, true, false, List, [], ◌∷◌, ◌++◌, length, take, drop, codes, nat_eq, nat_lt, sum_by, flat_map, Option, Some, None, option_map, option_and_then, unwrap_or, Result, Ok, Err, Ordering, Less, Equal, Greater, if◌then◌else◌, refl, sym, ap, ◌∙◌, subst, arith, length-append}
+use Rattle.std.proofs.Common.{◌≡◌, ℕ, zero, suc, ◌+◌, ◌-◌, ◌*◌, ◌≤◌, ◌==◌, Bool, true, false, List, [], ◌∷◌, ◌++◌, length, take, drop, codes, nat_eq, nat_lt, sum_by, Option, Some, None, option_map, option_and_then, unwrap_or, Result, Ok, Err, Ordering, Less, Equal, Greater, if◌then◌else◌, refl, sym, ap, subst, arith, length-append}
 use Rattle.std.specs.Prelude.{⊤, ◌≢◌, All, IfOk, IfSome}
 use Rattle.std.specs.Char.{encode_utf8}
-use Rattle.std.specs.List.{starts_with, position_or_len, before_first, after_first, AllByRecursion}
+use Rattle.std.specs.List.{starts_with, position_or_len, AllByRecursion}
 use Rattle.std.specs.Ordering.{match_ordering, nat_cmp}
 use Rattle.std.specs.Cmp.Lexicographic.{slice_cmp}
 use Rattle.std.specs.Str.{chars, chars_after, continuation_len, lead_bits}
@@ -10,7 +10,7 @@ use Rattle.std.proofs.lemmas.List.Elements.{All-from_recursion}
 use Rattle.std.proofs.lemmas.List.{length-take, length-drop}
 use Rattle.std.proofs.lemmas.Bool.{true≢false}
 use Rattle.std.specs.Result.{is_ok}
-use Rattle.std.proofs.lemmas.List.Sums.{sum_by-cons, sum_by-append}
+use Rattle.std.proofs.lemmas.List.Sums.{sum_by-append}
 use Rattle.c_tokens.specs.Languages.{is_identifier}
 use Rattle.serde_json.specs.Data.{Data, null, boolean, number, string, array, object, Items, no_items, item, Members, no_members, member}
 use Rattle.serde_json.specs.Find.{get, get_member, as_str, as_array}

@@ -1,6 +1,6 @@
 -- A JSON value weighs no more than the text from which it is read: each string weighs its bytes and one more, every other value one and
 -- what it holds.
-use Rattle.std.proofs.Common.{◌≡◌, ℕ, zero, suc, ◌+◌, ◌≤◌, List, [], ◌∷◌, length, Option, Some, None, option_map, option_and_then, Ordering, Less, Equal, Greater, Bool, true, false, cond, ◌==◌, refl, sym, ap, ◌∙◌, subst, arith, map, ◌-◌, ◌&&◌, take, drop, nat_eq}
+use Rattle.std.proofs.Common.{◌≡◌, ℕ, zero, suc, ◌+◌, ◌≤◌, List, [], ◌∷◌, length, Option, Some, None, option_map, option_and_then, Ordering, Less, Equal, Greater, Bool, true, false, cond, ◌==◌, refl, subst, arith, map, ◌-◌, ◌&&◌, take, drop, nat_eq}
 use Rattle.std.proofs.lemmas.Option.{same_Some, none-some}
 use Rattle.serde_json.specs.Find.{as_array}
 use Rattle.serde_json.specs.View.{view, items_of}
@@ -11,13 +11,13 @@ use Rattle.json.specs.Token.{Token}
 use Rattle.json.specs.Json as json
 use Rattle.json.specs.Text.{content, plain}
 use Rattle.json.specs.Word.{word, literal, number_before, after_number, head, ends_word}
-use Rattle.json.specs.Lex.{Lexeme, token, comma, colon, Class, quote, backslash, operator, space, other, class, operator_lexeme, string_token, Mode, between, in_word, in_string, in_escape, lex_byte, lex, Place, fresh, after_value, after_comma, after_key, begins_colon, may_begin, may_close, if_allowed, place_token, punctuate, tokens}
+use Rattle.json.specs.Lex.{Lexeme, token, comma, colon, Class, quote, backslash, operator, space, other, class, operator_lexeme, string_token, Mode, between, in_word, in_string, in_escape, lex_byte, lex, Place, fresh, after_value, after_comma, after_key, begins_colon, if_allowed, place_token, punctuate, tokens}
 use Rattle.json.specs.Ascii as ascii
 use Rattle.std.specs.List.{starts_with}
 use Rattle.json.specs.Align.{span_byte, span}
 use Rattle.project_conf.proofs.Contents.{AtMost, content-span}
 use Rattle.project_conf.specs.Weights.{weight, items_weight, members_weight}
-use Rattle.serde_json.specs.Data.{Num, Data, null, boolean, number, string, array, object, Items, no_items, item, Members, no_members, member, put}
+use Rattle.serde_json.specs.Data.{Data, null, boolean, number, string, array, object, Items, item, Members, no_members, member, put}
 use Rattle.serde_json.specs.Read.{number_of, of_json, of_items, of_members, max_depth, read}
 
 -- ---- weights of what stands between text and value

@@ -1,5 +1,5 @@
 -- The words of a command, a character at a time.
-use Rattle.std.proofs.Common.{◌≡◌, ℕ, Bool, true, false, ◌==◌, List, [], ◌∷◌, ◌++◌, Option, Some, None, unwrap_or, refl, sym, ap, ◌∙◌, append_assoc, append-nil, true≢false, if◌then◌else◌}
+use Rattle.std.proofs.Common.{◌≡◌, ℕ, Bool, true, false, ◌==◌, List, [], ◌∷◌, ◌++◌, unwrap_or, refl, sym, ap, ◌∙◌, append_assoc, append-nil, true≢false, if◌then◌else◌}
 use Rattle.std.specs.Char.{encode_utf8}
 use Rattle.project_conf.specs.declared.parting.Mode.{Mode}
 use Rattle.project_conf.specs.declared.parting.Mode.TheVariants.{Plain, Escaped, Single, Double, DoubleEscaped}
@@ -41,7 +41,7 @@ word_begins c cs h = begun (step Plain c) c (λ next. parted next cs) (stays c h
 
 -- ---- one character of a word of which some text was read, where `all` are the words from the word's front on
 
-slashed : encode_utf8 92 ≡ 92 ∷ []
+pub slashed : encode_utf8 92 ≡ 92 ∷ []
 unfolding encode_utf8
 slashed = refl
 

@@ -1,5 +1,5 @@
 -- The entries of a database as the configurations of units.
-use Rattle.std.specs.Prelude.{ℕ, Bool, ◌||◌, ◌&&◌, List, [], ◌++◌, bytes_eq, nat_eq, codes, is_some, unwrap_or, Option, Some, None, if◌then◌else◌}
+use Rattle.std.specs.Prelude.{ℕ, Bool, ◌||◌, ◌&&◌, List, [], ◌++◌, bytes_eq, nat_eq, codes, is_some, unwrap_or, Option, Some, None}
 use Rattle.std.specs.List.{find, ends_with}
 use Rattle.project_conf.specs.declared.conf.Conf.{Conf}
 use Rattle.project_conf.specs.declared.conf.UnitConf.{UnitConf}

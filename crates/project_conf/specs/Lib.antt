@@ -2,6 +2,7 @@ pub mod Defines
 pub mod Options
 pub mod Words
 pub mod Parting
+pub mod Writing
 pub mod Settings
 pub mod Database
 pub mod Weights

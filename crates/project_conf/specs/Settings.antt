@@ -1,6 +1,6 @@
 -- What the arguments of a compiler say of folders and definitions: `-I`, `-iquote`, `-isystem` give a folder, `-D` and `-U` a
 -- definition, each joined or with the next word; all else is skipped.
-use Rattle.std.specs.Prelude.{ℕ, ◌+◌, ◌==◌, List, [], ◌∷◌, ◌++◌, length, drop, nat_eq, nat_lt, codes, flat_map, Option, Some, None, if◌then◌else◌}
+use Rattle.std.specs.Prelude.{ℕ, ◌==◌, List, [], ◌∷◌, length, drop, nat_eq, nat_lt, codes, flat_map, Option, Some, None, if◌then◌else◌}
 use Rattle.std.specs.List.{starts_with, position_or_len, before_first, after_first}
 use Rattle.uri_paths.specs.Paths.{within}
 use Rattle.c_tokens.specs.Languages.{is_identifier}

@@ -41,10 +41,7 @@ fn none<'a>(alloc: Global) -> HashMap<Path, &'a UnitConf>
 
 // An entry counts where its file has none before it.
 #[tactic(auto, unfolding(crate::specs::Firsts::first_at))]
-fn put<'a>(
-    firsts: &mut HashMap<Path, &'a UnitConf>,
-    unit: &'a UnitConf,
-) -> Result<(), AllocError>
+fn put<'a>(firsts: &mut HashMap<Path, &'a UnitConf>, unit: &'a UnitConf) -> Result<(), AllocError>
     ensures { OnOk result ((q : List ℕ) → first_at firsts.new q ≡ option_or (first_at firsts.old q) (if bytes_eq unit.now.file q then Some unit.now else None)) }
 {
     if firsts.contains_key(&unit.file) {
@@ -181,12 +178,7 @@ fn alone(alloc: Global, conf: &Conf, file: &Path) -> Result<UnitConf, AllocError
 
 // How a file with an entry is read.
 #[tactic(auto, using(crate::proofs::Joined::both_usable))]
-fn joined(
-    alloc: Global,
-    conf: &Conf,
-    file: &Path,
-    entry: &UnitConf,
-) -> Result<UnitConf, AllocError>
+fn joined(alloc: Global, conf: &Conf, file: &Path, entry: &UnitConf) -> Result<UnitConf, AllocError>
     ensures conf { IfOk result (λ unit. unit ≡ with_entry conf.now file.now (Some entry.now)) }
     ensures usable { AreUsable 131072 conf.now.defines → AreUsable 33554432 entry.now.defines → IfOk result (λ unit. AreUsable 268435456 unit.defines) }
 {

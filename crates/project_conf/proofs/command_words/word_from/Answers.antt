@@ -1,4 +1,4 @@
-use Rattle.std.proofs.Common.{rules, ◌≡◌, sym, ◌∙◌, arith}
+use Rattle.std.proofs.Common.{rules, sym, ◌∙◌, arith}
 use Rattle.project_conf.proofs.WordLemmas.{word_keeps, word_keeps_both, word_ends}
 use Rattle.project_conf.proofs.command_words.word_from.Goals as goal
 

@@ -1,4 +1,3 @@
-use Rattle.std.proofs.Common.{rules}
 use Rattle.project_conf.proofs.SettingLemmas.{no_more_folders, no_more_defines}
 use Rattle.project_conf.proofs.database.read_command.Goals as goal
 
