@@ -7,7 +7,7 @@ use Rattle.tok_data.specs.declared.sources.TokId.{TokId}
 use Rattle.tok_data.specs.declared.tokens.OutToken.{OutToken}
 use Rattle.macro_expand.specs.declared.types.Expanded.{Expanded}
 use Rattle.macro_expand.specs.declared.types.Within.{Within}
-use Rattle.macro_expand.specs.Expansion.{expanded}
+use Rattle.macro_expand.specs.Expansion.{Definitions, expanded}
 use Rattle.macro_expand.specs.Room.{within}
 use Rattle.pp_cond.specs.Defined.{is_word}
 use Rattle.asking.specs.Asking.{Gives, and_then}
@@ -19,7 +19,7 @@ use Rattle.include_units.specs.Made.{Made, definitions, with_fault}
 use Rattle.include_units.specs.Runs as runs
 use Rattle.include_units.specs.Runs.{Run, run, lines_in, expand_again, expand_in, expanded_run, with_expansion, with_run, without_pragmas, opens_pragma, is_pragma, most_tokens, dropped, kept, with_token, with_output}
 use Rattle.include_units.specs.Parted.{run_behind}
-use Rattle.include_units.specs.Rooms.{wanted, within_again, unless_asked, within_in, hides_pragma}
+use Rattle.include_units.specs.Rooms.{AreLines, wanted, within_again, unless_asked, within_in, hides_pragma}
 use Rattle.include_units.proofs.Resting.{and_assoc}
 use Rattle.include_units.proofs.Runnings.{run_and, run_then}
 
@@ -132,6 +132,9 @@ is_end (Needs qs) = ⊥
 abbrev kept_of : ℕ → Expanded → Looked files Within
 kept_of room e = Ends (within room e)
 
+abbrev ended : Within → Looked files Within
+ended w = Ends w
+
 abbrev ended_with : Made → Looked files Made
 ended_with m = Ends m
 
@@ -156,3 +159,16 @@ cut_comes answers text ts m m1 m2 room w out i h none o a b =
         b ∙ ap (λ us. with_output (without_pragmas 0 us) m1) o ∙ ap (with_output (without_pragmas 0 w.expanded.tokens)) a
         ∙ sym (ap (λ x. with_output (without_pragmas 0 x.expanded.tokens) (with_expansion x.expanded m)) f)
         ∙ cut_run e m room i (ap hides_pragma f ∙ none)
+
+-- where the lines are known, they may be given at once; `quiet` says that where none is asked for they make no difference
+pub lines_known : (quiet : (table : Definitions) (lines : List (TokId × ℕ)) (budget : ℕ) (tokens : List OutToken) → (expanded table [] budget tokens).asked ≡ None →
+    expanded table [] budget tokens ≡ expanded table lines budget tokens) →
+    (answers : List (List ℕ × FileAnswer)) (text : Text) (ts : List OutToken) (room : ℕ) (m : Made) (lines : List (TokId × ℕ)) (w : Within) →
+    AreLines answers text.source ts lines → w ≡ within room (expanded (definitions m) lines m.left ts) →
+    run_by (look_up files answers) (within_in text ts room m) ≡ Ends w
+lines_known quiet answers text ts room m lines w e i = step (expanded (definitions m) [] m.left ts).asked refl ∙ ap ended (sym i)
+  where
+    step : (o : Option TokId) → (expanded (definitions m) [] m.left ts).asked ≡ o →
+        run_by (look_up files answers) (unless_asked (within_again text ts room m) (within room (expanded (definitions m) [] m.left ts)) o) ≡ ended (within room (expanded (definitions m) lines m.left ts))
+    step None h = ap (λ x. ended (within room x)) (quiet (definitions m) lines m.left ts h)
+    step (Some site) h = run_then (look_up files answers) (lines_in text.source ts) (λ ls. Gives (within room (expanded (definitions m) ls m.left ts))) lines e

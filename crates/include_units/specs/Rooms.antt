@@ -1,5 +1,5 @@
 -- A run of text lines of whose expansion no more is kept than the output has room for.
-use Rattle.std.specs.Prelude.{ℕ, ◌+◌, ◌-◌, ◌&&◌, ◌||◌, not, nat_le, Bool, List, [], length, codes, Option, None, Some, is_some}
+use Rattle.std.specs.Prelude.{◌≡◌, ℕ, ◌+◌, ◌-◌, ◌&&◌, ◌||◌, not, nat_le, Bool, List, [], length, codes, Option, None, Some, is_some}
 use Rattle.std.specs.List.{list_any}
 use Rattle.tok_data.specs.declared.sources.TokId.{TokId}
 use Rattle.tok_data.specs.declared.tokens.OutToken.{OutToken}
@@ -8,10 +8,16 @@ use Rattle.macro_expand.specs.Expansion.{expanded}
 use Rattle.macro_expand.specs.Room.{within}
 use Rattle.pp_cond.specs.Defined.{is_word}
 use Rattle.asking.specs.Asking.{Gives, and_then}
-use Rattle.include_units.specs.Files.{FromFiles}
-use Rattle.include_units.specs.Texts.{Text}
+use Rattle.asking.specs.LookUps.{Ends, look_up, run_by}
+use Rattle.include_units.specs.declared.types.FileAnswer.{FileAnswer}
+use Rattle.include_units.specs.Files.{files, FromFiles}
+use Rattle.include_units.specs.Texts.{Source, Text}
 use Rattle.include_units.specs.Made.{Made, definitions}
 use Rattle.include_units.specs.Runs.{lines_in, most_tokens, is_stray}
+
+-- the lines of tokens of a text, over these answers
+abbrev pub AreLines : List (List ℕ × FileAnswer) → Source → List OutToken → List (TokId × ℕ) → Type 0
+AreLines answers source ts lines = run_by (look_up files answers) (lines_in source ts) ≡ Ends lines
 
 -- as many tokens as the output has room for, and one more, which tells that there are more
 abbrev pub wanted : Made → ℕ

@@ -52,12 +52,14 @@ fn add_twice_faults(
     Ok(())
 }
 
+// What breaks the parameters; their names are given, found by their texts.
 fn add_param_faults(
     alloc: Global,
     params: &[OutToken],
     faults: &mut Grown<PpFault>,
-) -> Result<(), AllocError>
-    ensures { OnOk result (faults.new ≡ faults.old ++ spec.param_faults [] params.now) }
+) -> Result<KnownNames, AllocError>
+    ensures faults { OnOk result (faults.new ≡ faults.old ++ spec.param_faults [] params.now) }
+    ensures names { IfOk result (λ names. names ≡ list_map (λ t. t.spelling) params.now) }
 {
     let mut seen = KnownNames::new(alloc);
     let mut rest = params;
@@ -67,32 +69,7 @@ fn add_param_faults(
         add_twice_faults(alloc, &seen, param, faults)?;
         seen.push(param.spelling.as_str())?;
     }
-    Ok(())
-}
-
-fn push_params(params: &[OutToken], names: &mut KnownNames) -> Result<(), AllocError>
-    ensures { OnOk result (names.new ≡ names.old ++ list_map (λ t. t.spelling) params.now) }
-{
-    let mut rest = params;
-    while let Some((param, behind)) = rest.split_first() {
-        rest = behind;
-        names.push(param.spelling.as_str())?;
-    }
-    Ok(())
-}
-
-// The parameters, found by their names.
-fn known_params(alloc: Global, params: &Option<OutTokens>) -> Result<KnownNames, AllocError>
-    ensures { IfOk result (λ names. names ≡ param_names params.now) }
-{
-    let mut names = KnownNames::new(alloc);
-    match params {
-        Some(params) => {
-            push_params(params.as_slice(), &mut names)?;
-            Ok(names)
-        }
-        None => Ok(names),
-    }
+    Ok(seen)
 }
 
 fn is_param_of(params: &Option<OutTokens>, names: &KnownNames, name: &str) -> bool
@@ -212,12 +189,13 @@ fn add_params_faults(
     alloc: Global,
     params: &Option<OutTokens>,
     faults: &mut Grown<PpFault>,
-) -> Result<(), AllocError>
-    ensures { OnOk result (faults.new ≡ faults.old ++ spec.param_faults [] (spec.params_of params.now)) }
+) -> Result<KnownNames, AllocError>
+    ensures faults { OnOk result (faults.new ≡ faults.old ++ spec.param_faults [] (spec.params_of params.now)) }
+    ensures names { IfOk result (λ names. names ≡ param_names params.now) }
 {
     match params {
         Some(params) => add_param_faults(alloc, params.as_slice(), faults),
-        None => Ok(()),
+        None => Ok(KnownNames::new(alloc)),
     }
 }
 
@@ -227,8 +205,7 @@ fn faults_of(alloc: Global, name: &OutToken, head: &Head) -> Result<Grown<PpFaul
 {
     let mut faults = Grown::new(alloc);
     add_name_faults(alloc, name, &mut faults)?;
-    add_params_faults(alloc, &head.params, &mut faults)?;
-    let names = known_params(alloc, &head.params)?;
+    let names = add_params_faults(alloc, &head.params, &mut faults)?;
     add_body_faults(alloc, head, &names, &mut faults)?;
     Ok(faults)
 }

@@ -16,7 +16,7 @@ use crate::tokens::{is_mark, is_word};
 use crate::told::{Told, places_at};
 use crate::types::Want;
 use c_tokens::Places;
-use macro_expand::{Expanded, Within, expand, expand_within};
+use macro_expand::{Expanded, Within, expand, expand_within, lines_change_nothing};
 use std::alloc::{AllocError, Global};
 use tok_data::{OutToken, OutTokens, PpKind, TokId};
 
@@ -348,8 +348,8 @@ fn within_again(
     }
 }
 
-// Expands tokens of a text, and keeps so many of what comes.
-fn within_in(
+// With no line known, and again with the lines of the text where one is wanted.
+fn within_asked(
     alloc: Global,
     files: &Told,
     text: &Text,
@@ -364,6 +364,90 @@ fn within_in(
         return within_again(alloc, files, text, tokens, room, made);
     };
     Ok(first)
+}
+
+// The lines of tokens of a text, where they are told.
+fn told_lines(
+    alloc: Global,
+    files: &Told,
+    source: &Source,
+    tokens: &[OutToken],
+) -> Result<Option<Vec<(TokId, u32)>>, AllocError>
+    ensures { IfOk result (λ told. IfSome told (λ lines. rooms.AreLines files.now source.now tokens.now lines.items)) }
+{
+    match source {
+        Source::Own(text) => {
+            let lines = lines_by(alloc, text.places().as_places(), tokens)?;
+            Ok(Some(lines))
+        }
+        Source::File(path) => match places_at(files, path) {
+            Some(places) => {
+                let lines = lines_by(alloc, places.as_places(), tokens)?;
+                Ok(Some(lines))
+            }
+            None => Ok(None),
+        },
+    }
+}
+
+// With these lines at once: where none is wanted, they make no difference.
+#[tactic(auto, using(crate::proofs::RoomLemmas::lines_known))]
+fn within_lines(
+    alloc: Global,
+    files: &Told,
+    text: &Text,
+    tokens: &[OutToken],
+    lines: &[(TokId, u32)],
+    room: usize,
+    made: &Made,
+) -> Result<Within, Stop>
+    requires { rooms.AreLines files.now text.now.source tokens.now lines.now }
+    ensures { Comes files.now (rooms.within_in text.now tokens.now room made.now) (λ w. w) result }
+{
+    lines_change_nothing();
+    let within = expand_within(alloc, tokens, &made.table, lines, made.left, room)?;
+    Ok(within)
+}
+
+fn within_told(
+    alloc: Global,
+    files: &Told,
+    text: &Text,
+    tokens: &[OutToken],
+    room: usize,
+    made: &Made,
+) -> Result<Within, Stop>
+    ensures { Comes files.now (rooms.within_in text.now tokens.now room made.now) (λ w. w) result }
+{
+    let told = told_lines(alloc, files, &text.source, tokens)?;
+    match told {
+        Some(lines) => within_lines(alloc, files, text, tokens, lines.as_slice(), room, made),
+        None => within_asked(alloc, files, text, tokens, room, made),
+    }
+}
+
+// `__LINE__` stands there.
+fn has_line(tokens: &[OutToken]) -> bool
+    ensures { result ≡ list_any (is_word (codes "__LINE__")) tokens.now }
+{
+    tokens.iter().any(|token| is_word("__LINE__", token))
+}
+
+// Expands tokens of a text, and keeps so many of what comes.
+fn within_in(
+    alloc: Global,
+    files: &Told,
+    text: &Text,
+    tokens: &[OutToken],
+    room: usize,
+    made: &Made,
+) -> Result<Within, Stop>
+    ensures { Comes files.now (rooms.within_in text.now tokens.now room made.now) (λ w. w) result }
+{
+    if has_line(tokens) {
+        return within_told(alloc, files, text, tokens, room, made);
+    }
+    within_asked(alloc, files, text, tokens, room, made)
 }
 
 fn has_pragma(tokens: &[OutToken]) -> bool
