@@ -1,12 +1,7 @@
 -- Words and pieces, joined.
-use Rattle.std.proofs.Common.{◌≡◌, ℕ, Bool, true, false, ◌||◌, ◌&&◌, not, List, [], ◌∷◌, ◌++◌, flat_map, codes, refl, ap, sym, ◌∙◌, append_assoc, append-nil}
-use Rattle.std.proofs.lemmas.List.{reverse-append}
+use Rattle.std.proofs.Common.{◌≡◌, ℕ, List, [], ◌∷◌, ◌++◌, codes, refl, ap, sym, ◌∙◌, append_assoc}
 use Rattle.type_data.specs.declared.qualifiers.Qual.{Qual}
-use Rattle.type_print.specs.declared.declarators.Piece.{Piece}
-use Rattle.type_print.specs.declared.declarators.Piece.TheVariants.{Star, Open}
-use Rattle.type_print.specs.Names.{words, word_if, spaced, parted, parted_if, has_words}
-use Rattle.type_print.specs.Pieces.{is_nothing, is_star, piece_text, front_text}
-use Rattle.type_print.specs.Printed.{starred, begins_with_star}
+use Rattle.type_print.specs.Names.{words, word_if, spaced}
 
 spaced_more : (ws vs : List (List ℕ)) → spaced (ws ++ vs) ≡ spaced ws ++ spaced vs
 spaced_more [] vs = refl
