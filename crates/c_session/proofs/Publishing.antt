@@ -5,7 +5,7 @@ use Rattle.serde_json.specs.View.{items_of}
 use Rattle.serde_json.specs.Written.{compact_text, items_text}
 use Rattle.serde_json.proofs.OnLiterals.{serde_json_on_literals}
 use Rattle.c_session.specs.Ties.Published.{number_data, publish_start, publish_end, version_part}
-use Rattle.lsp_framing.specs.Written.{header_of, framed}
+use Rattle.frame_form.specs.Written.{header_of, framed}
 use Rattle.c_session.specs.Replies.{publish, publish_data}
 
 -- the text as it is made of its members

@@ -13,7 +13,7 @@ use Rattle.c_session.specs.React.{did_close}
 use Rattle.c_session.specs.Shown.{uri_for, shows, publication, published_paths, publications}
 use Rattle.c_session.specs.State.{State}
 use Rattle.plain_mean.specs.declared.types.Shown.{Shown}
-use Rattle.lsp_framing.specs.Written.{framed}
+use Rattle.frame_form.specs.Written.{framed}
 use Rattle.c_session.specs.Replies.{id_data, id_or_null, response_data, error_data, log_data, publish_data, response, error, log, publish}
 use Rattle.c_session.specs.Responses.{IsResponse, HasResult, HasError, IsNotice, Logs, Publishes, AreNotices}
 

@@ -10,7 +10,7 @@ use Rattle.text_lines.specs.Positions.{pos_at}
 use Rattle.text_lines.specs.declared.encoding.Encoding.{Encoding}
 use Rattle.text_lines.specs.declared.encoding.Encoding.TheVariants.{Utf8, Utf16, Utf32}
 use Rattle.text_lines.specs.declared.pos.Pos.{Pos}
-use Rattle.lsp_framing.specs.Written.{framed}
+use Rattle.frame_form.specs.Written.{framed}
 use Rattle.json_view.specs.declared.id.Id.{Id}
 use Rattle.json_view.specs.declared.id.Id.TheVariants.{Text, Int, Big}
 

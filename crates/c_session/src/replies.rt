@@ -1,6 +1,6 @@
 // The bytes of each answer: a JSON-RPC 2.0 message behind its header (LSP 3.17, base protocol).
 ghost use Rattle.std.specs.Prelude.{◌≡◌, ◌++◌, false, option_map, IfOk, OnOk};
-ghost use Rattle.lsp_framing.specs.Written.{header_of, framed};
+ghost use Rattle.frame_form.specs.Written.{header_of, framed};
 ghost use Rattle.serde_json.specs.View.{view};
 ghost use Rattle.serde_json.specs.Written.{has_float, compact_text};
 ghost use Rattle.c_session.specs.Replies.{id_data, id_or_null, response_data, error_data, log_data, response, error, log, encoding_name, initialize_result};

@@ -14,7 +14,7 @@ use Rattle.lsp_framing.specs.Lines.{Ended, header, header_from, with_number, wit
 use Rattle.lsp_framing.specs.Scanned.{lines_met, lines_from, line_ended}
 use Rattle.lsp_framing.proofs.Scanning.{header_scans}
 use Rattle.lsp_framing.specs.Frames.{Whole, Unfinished, front, Empty, parted, after, frames_from, frames}
-use Rattle.lsp_framing.specs.Written.{framed}
+use Rattle.frame_form.specs.Written.{framed}
 use Rattle.lsp_framing.proofs.Follow.{front_is, one_frame}
 use Rattle.lsp_framing.proofs.Laws.{frames_join}
 

@@ -3,7 +3,7 @@ ghost use Rattle.std.specs.Prelude.{◌≡◌, ◌≢◌, ℕ, ◌+◌, ◌*◌,
 ghost use Rattle.lsp_framing.specs.declared.FrameKind.{FrameKind};
 ghost use Rattle.lsp_framing.specs.Frames.{front, Whole, Faulty, Unfinished, frames, parted, after, shifted, Empty, Open, Bad};
 ghost use Rattle.lsp_framing.specs.Lines.{longest_content};
-ghost use Rattle.lsp_framing.specs.Written.{framed};
+ghost use Rattle.frame_form.specs.Written.{framed};
 ghost use Rattle.std.specs.List.{AllByRecursion, flat_map};
 
 /// No byte is no frame.
