@@ -5,7 +5,6 @@ use Rattle.std.specs.FinMap.{get, contains_key, insert, keys, entries, empty, fi
 use Rattle.std.specs.FinMap.Entries.{below_all, where_key, is_sorted-where_key, find-where_key, is_some-find, same_entries}
 use Rattle.std.specs.List.{list_any, filter}
 use Rattle.std.specs.Ordering.{eq_by_cmp}
-use Rattle.std.proofs.lemmas.Cmp.{tied_itself}
 use Rattle.std.proofs.lemmas.List.Folds.{list_any-append}
 use Rattle.doc_texts.specs.Texts.{TextMap, PathSet, Texts, OpenText, shown, text_at, add_all, marked, path_set, paths_of}
 
@@ -27,9 +26,6 @@ equal Greater e = absurd (true≢false (sym e))
 
 pub tied_is : (q k : List ℕ) → ties q k ≡ true → q ≡ k
 tied_is q k t = apart q k (equal (by_bytes q k) t)
-
-pub ties_itself : (k : List ℕ) → ties k k ≡ true
-ties_itself k = ap is_eq (tied_itself nat_list_cmp_total k)
 
 -- ---- lists that rise
 

@@ -180,9 +180,5 @@ module _ (start : Texts) (m : Prior) (t t' : Texts) (path : List ℕ) (differs :
 pub keeps_prior : (m : Prior) (t t' : Texts) (path : List ℕ) → SameBut path t t' → KeepsPrior m t (remembered m t path) t'
 keeps_prior m t t' path differs = record { earlier = λ start is. prior_kept start m t t' path differs is; root = differs.root }
 
--- nothing was remembered, and no text changed
-pub keeps_itself : (m : Prior) (t : Texts) → KeepsPrior m t m t
-keeps_itself m t = record { earlier = λ start is. is; root = refl }
-
 pub keeps_then : (m m' m'' : Prior) (t t' t'' : Texts) → KeepsPrior m t m' t' → KeepsPrior m' t' m'' t'' → KeepsPrior m t m'' t''
 keeps_then m m' m'' t t' t'' first second = record { earlier = λ start is. second.earlier start (first.earlier start is); root = second.root ∙ first.root }

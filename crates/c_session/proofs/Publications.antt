@@ -15,7 +15,7 @@ use Rattle.c_session.proofs.PathSets.{ties, keys_rise, same_filtered, flat_map_t
 
 -- ---- texts that differ
 
-same_itself : (text : Option (List ℕ)) → same_text text text ≡ true
+pub same_itself : (text : Option (List ℕ)) → same_text text text ≡ true
 same_itself None = refl
 same_itself (Some text) = (bytes_eq-Decides text text).1 refl
 

@@ -18,7 +18,7 @@ use Rattle.c_session.specs.Ties.Interrupted.{Refused, GaveUp}
 use Rattle.c_session.specs.Loading.{Loading, read_back, updates_all, loads_root, did_change_watched}
 use Rattle.c_session.specs.Ties.News.{IsPrior, KeepsPrior, ByPath, HasPublished, news}
 use Rattle.c_session.specs.Params.{FileChange, opening_in, changing_in}
-use Rattle.c_session.specs.React.{Outcome, Edited, tells, has_texts, edits, opened_by, changed_by, closes, did_close, watches, Beginning, begins, starts, invalid_params, on_message, asks}
+use Rattle.c_session.specs.React.{Outcome, Edited, tells, has_texts, edits, opened_by, changed_by, closes, did_close, watches, Beginning, begins, starts, on_message, asks}
 use Rattle.c_session.specs.Message.{Message, value_of, of_read}
 use Rattle.c_session.specs.Reasons.{Reason, reason_text, by_params, by_uri, by_texts, if_ok}
 use Rattle.c_session.specs.Ties.Refused.{reason, Answers, Leaves, edited, IsReply, IsBehind}
@@ -26,7 +26,7 @@ use Rattle.c_session.specs.Ties.Sessions.{current_state, IsKept}
 use Rattle.c_session.specs.declared.current.Current.{Current}
 use Rattle.plain_mean.specs.Lists.{shown_in}
 use Rattle.c_session.specs.Replies as Replies
-use Rattle.c_session.specs.Replies.{log, error, initialize_result}
+use Rattle.c_session.specs.Replies.{log, initialize_result}
 use Rattle.c_session.specs.Shown.{shows}
 use Rattle.c_session.specs.State.{State, with_texts}
 use Rattle.c_session.specs.declared.phase.Phase.TheVariants.{Running}
@@ -251,14 +251,6 @@ pub began_wants : (s : State) (id : Id) (meant : Result Beginning Reason) (b : B
 began_wants s id meant b l old new meets reached =
     subst (λ m. GaveUp (starts s id m) old new) (sym meets)
     (gave_up (goes_then (loads_root b.root) (Gives l) old new (λ x. Gives (begins s id b.encoding x)) reached))
-
--- it didn't begin
-pub not_begun : (s : State) (id : Id) (meant : Result Beginning Reason) (r : Refusal) (bytes : List ℕ) (told : Option (List Entry)) →
-    (r ≢ NoMemory → meant ≡ Err (reason r)) → r ≢ NoMemory → bytes ≡ error (Some id) invalid_params (reason_text (reason r)) →
-    Reached (starts s id meant) (Gives (tells s bytes)) told told
-not_begun s id meant r bytes told means refused wrote =
-    reached_same (starts s id meant) (Gives (tells s bytes)) told
-    (ap (starts s id) (means refused) ∙ ap (λ (b : List ℕ). Gives (tells s b)) (sym wrote))
 
 -- ---- the same, as the calls have it: an empty list of logs, a response, and nothing remembered at first
 

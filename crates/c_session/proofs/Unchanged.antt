@@ -1,5 +1,5 @@
 -- Where no text differs, what files show stays; where some does, it is told which.
-use Rattle.std.proofs.Common.{◌≡◌, ℕ, Bool, true, false, not, List, [], ◌∷◌, ◌+◌, ◌||◌, Option, None, Some, Result, Ok, Err, IfOk, OnOk, is_some, unwrap_or, refl, sym, ap, ◌∙◌, subst, true≢false, length}
+use Rattle.std.proofs.Common.{◌≡◌, ℕ, Bool, true, false, not, if◌then◌else◌, codes, bytes_eq, List, [], ◌∷◌, ◌+◌, ◌||◌, Option, None, Some, Result, Ok, Err, IfOk, OnOk, is_some, unwrap_or, refl, sym, ap, ◌∙◌, subst, true≢false, length}
 use Rattle.std.specs.FinMap.{get, keys, empty, contains_key-keys}
 use Rattle.std.specs.List.{list_any}
 use Rattle.std.proofs.lemmas.Slice.Eq.{bytes_eq-Decides}
@@ -13,19 +13,21 @@ use Rattle.plain_mean.specs.Within.{AreWithin}
 use Rattle.plain_mean.specs.declared.lists.ShownLists.{ShownLists}
 use Rattle.project_conf.specs.declared.conf.Conf.{Conf}
 use Rattle.c_session.specs.Ties.News.{IsPrior, KeepsPrior, any_changed}
-use Rattle.c_session.specs.React.{Edited}
+use Rattle.json_view.specs.declared.id.Id.{Id}
+use Rattle.c_session.specs.React.{Edited, Outcome, tells, running_request}
 use Rattle.c_session.specs.Reasons.{Reason}
-use Rattle.c_session.specs.Ties.Refused.{Answers, IsKeptBy, IsWorked, edited}
-use Rattle.c_session.specs.Handled.{IsWork, NoUnit, EachUnit, Began, DifferAt}
+use Rattle.c_session.specs.Ties.Refused.{Answers, Leaves, IsKeptBy, IsWorked, edited}
+use Rattle.c_session.specs.Handled.{Differ, Began, DifferAt, IsWork, NoUnit, EachUnit}
 use Rattle.c_session.specs.Ties.Sessions.{IsKept, WereShown, WereKept, current_state, worked}
 use Rattle.c_session.specs.Shown.{conf_in}
-use Rattle.c_session.specs.State.{State, with_texts}
+use Rattle.c_session.specs.State.{State, in_phase, with_texts}
 use Rattle.c_session.specs.declared.current.Current.{Current}
-use Rattle.c_session.specs.declared.phase.Phase.TheVariants.{Fresh}
+use Rattle.c_session.specs.declared.phase.Phase.{Phase}
+use Rattle.c_session.specs.declared.phase.Phase.TheVariants.{Fresh, Running, Down}
 use Rattle.c_session.specs.declared.reasons.Refusal.{Refusal}
 use Rattle.c_session.proofs.PathSets.{ties, tied_is}
 use Rattle.c_session.proofs.Priors.{IsEdit, keeps_then}
-use Rattle.c_session.proofs.Publications.{changed}
+use Rattle.c_session.proofs.Publications.{same_itself, changed}
 use Rattle.c_session.proofs.Telling.{with_docs, nothing_remembered, begun}
 
 -- ---- which text differs
@@ -112,8 +114,50 @@ still_kept s t prior lists is root were none = record {
   were = subst (λ r. AreShown s.texts (conf_of s.options r) lists) (sym root) were;
 }
 
+-- ---- where nothing differs
+
+-- the session didn't begin, and each file has the text that it had
+alike : (s s' : State) → (s.phase ≡ Fresh → s'.phase ≡ Running → ⊥) → ((path : List ℕ) → text_at s'.texts path ≡ text_at s.texts path) → Differ s s' → ⊥
+alike s s' rests same (Began fresh runs) = rests fresh runs
+alike s s' rests same (DifferAt path apart) =
+    true≢false (sym (same_itself (text_at s.texts path)) ∙ ap (same_text (text_at s.texts path)) (sym (same path)) ∙ apart)
+
+no_beginning : (p : Phase) → p ≡ Fresh → p ≡ Running → ⊥
+no_beginning p fresh runs = let bad : Fresh ≡ Running = sym fresh ∙ runs in cc
+
+-- a message that leaves the state
+pub no_work : (s : State) (count : ℕ) → IsWork s s count count
+no_work s count = NoUnit (alike s s (no_beginning s.phase) (λ path. refl)) refl
+
+-- one that leaves the texts
+pub left_works : (s s' : State) (t : Texts) (old new : ℕ) → s' ≡ with_texts t s → t ≡ s.texts → new ≡ old → IsWork s s' old new
+left_works s s' t old new settings same are =
+    subst (λ x. IsWork s x old new) (sym settings) (NoUnit (alike s (with_texts t s) (no_beginning s.phase) (λ path. ap (λ (x : Texts). text_at x path) same)) are)
+
+-- a request while the session runs
+down : (s : State) (count : ℕ) → IsWork s (in_phase Down s) count count
+down s count = NoUnit (alike s (in_phase Down s) (λ fresh runs. let bad : Down ≡ Running = runs in cc) (λ path. refl)) refl
+
+abbrev IsIdle : State → ℕ → Outcome → Type 0
+IsIdle s count o = IsWork s o.state count count
+
+either : (P : Outcome → Type 0) (b : Bool) (x y : Outcome) → P x → P y → P (if b then x else y)
+either P true x y first second = first
+either P false x y first second = second
+
+running_idles : (s : State) (id : Id) (method : List ℕ) (count : ℕ) → IsIdle s count (running_request s id method)
+unfolding running_request
+running_idles s id method count =
+    either (IsIdle s count) (bytes_eq method (codes "initialize")) _ _ (no_work s count)
+    (either (IsIdle s count) (bytes_eq method (codes "shutdown")) _ _ (down s count) (no_work s count))
+
+pub running_works : (s s' : State) (id : Id) (method bytes : List ℕ) (count : ℕ) → running_request s id method ≡ tells s' bytes → IsWork s s' count count
+running_works s s' id method bytes count is = subst (λ x. IsWork s x count count) (ap (λ (o : Outcome). o.state) is) (running_idles s id method count)
+
+-- ---- where some text differs, or none does
+
 works_by : (s : State) (t : Texts) (prior : Prior) (old new : ℕ) (differs : Bool) → IsPrior s.texts prior t → any_changed prior t ≡ differs → new ≡ worked differs t old → IsWork s (with_texts t s) old new
-works_by s t prior old new false is none are = NoUnit are
+works_by s t prior old new false is none are = NoUnit (alike s (with_texts t s) (no_beginning s.phase) (stays prior s.texts t is none)) are
 works_by s t prior old new true is some are =
     let p : Passes (is_changed prior t) = passes (is_changed prior t) (keys prior) some in
     EachUnit (DifferAt p.at (not_true _ (sym (changed prior s.texts t is p.at) ∙ p.is))) are
@@ -131,9 +175,9 @@ edit_keeps c t (Ok path) meant prior edit answers were =
 edit_keeps c t (Err r) meant prior edit answers were = tt
 
 pub edit_works : (s s' : State) (t : Texts) (r : Result (List ℕ) Refusal) (meant : Result Edited Reason) (prior : Prior) (old new : ℕ) → s' ≡ with_texts t s →
-    IfOk r (λ path. meant ≡ Ok (edited t path) → IsEdit path s.texts t × IsPrior s.texts prior t) → Answers (edited t) r meant → IsWorked r prior t old new → IsWork s s' old new
-edit_works s s' t (Ok path) meant prior old new settings edit answers are = works s s' t prior old new settings (edit answers).1 are
-edit_works s s' t (Err r) meant prior old new settings edit answers are = NoUnit are
+    IfOk r (λ path. meant ≡ Ok (edited t path) → IsEdit path s.texts t × IsPrior s.texts prior t) → Answers (edited t) r meant → Leaves r s.texts t → IsWorked r prior t old new → IsWork s s' old new
+edit_works s s' t (Ok path) meant prior old new settings edit answers leaves are = works s s' t prior old new settings (edit answers).1 are
+edit_works s s' t (Err r) meant prior old new settings edit answers leaves are = left_works s s' t old new settings leaves are
 
 -- ---- files that are read
 
@@ -147,13 +191,13 @@ read_keeps s t none prior lists nothing keeps were = still_kept s t prior lists 
 
 pub closed_keeps : (s : State) (t : Texts) (none prior : Prior) (lists : ShownLists) → none ≡ empty → KeepsPrior none s.texts prior t → AreShown s.texts (conf_in s) lists →
     (last : Prior) (t' : Texts) → KeepsPrior prior t last t' → any_changed last t' ≡ false → WereShown t' (conf_in (with_texts t' s)) lists
-closed_keeps s t none prior lists nothing keeps were last t' then = read_keeps s t' none last lists nothing (keeps_then none prior last s.texts t t' keeps then) were
+closed_keeps s t none prior lists nothing keeps were last t' later = read_keeps s t' none last lists nothing (keeps_then none prior last s.texts t t' keeps later) were
 
 pub closed_works : (s s1 s' : State) (none prior last : Prior) (old new : ℕ) → s1 ≡ with_texts s1.texts s → s' ≡ with_texts s'.texts s1 → none ≡ empty → KeepsPrior none s.texts prior s1.texts →
     KeepsPrior prior s1.texts last s'.texts → new ≡ worked (any_changed last s'.texts) s'.texts old → IsWork s s' old new
-closed_works s s1 s' none prior last old new first second nothing keeps then are =
+closed_works s s1 s' none prior last old new first second nothing keeps later are =
     works s s' s'.texts last old new (second ∙ ap (with_texts s'.texts) first)
-    (first_kept s.texts s'.texts none last nothing (keeps_then none prior last s.texts s1.texts s'.texts keeps then)) are
+    (first_kept s.texts s'.texts none last nothing (keeps_then none prior last s.texts s1.texts s'.texts keeps later)) are
 
 -- what was said of texts is said of those that a reply left
 pub left_keeps : (c new : State) (m last : Prior) (t : Texts) → new ≡ c → KeepsPrior m t last c.texts → KeepsPrior m t last new.texts

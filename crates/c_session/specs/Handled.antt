@@ -30,8 +30,8 @@ pub data Differ (s s' : State) : Type 0 where
   Began : s.phase ≡ Fresh → s'.phase ≡ Running → Differ s s'
   DifferAt : (path : List ℕ) → same_text (text_at s.texts path) (text_at s'.texts path) ≡ false → Differ s s'
 
--- How the counter of steps stands behind a message: no unit was worked out, or, where texts differ, each unit of those that it
--- left, once.
+-- How the counter of steps stands behind a message: where texts differ, each unit of those that it left was worked out, once,
+-- and else no unit.
 pub data IsWork (s s' : State) (old new : ℕ) : Type 0 where
-  NoUnit : new ≡ old → IsWork s s' old new
+  NoUnit : (Differ s s' → ⊥) → new ≡ old → IsWork s s' old new
   EachUnit : Differ s s' → new ≡ old + length (units s'.texts) → IsWork s s' old new

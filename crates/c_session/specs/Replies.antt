@@ -1,5 +1,5 @@
 -- The bytes of each answer: JSON-RPC 2.0 in the base protocol of LSP 3.17.
-use Rattle.std.specs.Prelude.{ℕ, ℤ, List, [], ◌∷◌, ◌++◌, codes, length, decimal, Option, None, Some, true, if◌then◌else◌}
+use Rattle.std.specs.Prelude.{ℕ, ℤ, List, codes, Option, None, Some, true, if◌then◌else◌}
 use Rattle.serde_json.specs.Data.{Data, null, boolean, number, string, object, array, unsigned, Members, no_members, member}
 use Rattle.serde_json.specs.Find.{of_integer}
 use Rattle.serde_json.specs.Written.{compact_text}

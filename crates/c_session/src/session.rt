@@ -24,7 +24,7 @@ use steps::Steps;
 pub struct Session {
     current: Current,
     handled: u64,
-    /// No call failed, so what is kept of what files show is so.
+    /// What is kept of what files show is so, as it is behind each call of `handle` that gave a reply.
     whole: bool,
 }
 
@@ -84,9 +84,10 @@ impl Session {
     }
 
     /// Handles one content: what the plain server does with it, asking the store for what that wants. Each answer that
-    /// the store gives was wanted then. A content that is refused leaves the state. Where the session began,
-    /// or some file has another text than before, each unit of the texts is worked out, which is one step each, and otherwise none is. After an error of this call
-    /// the session isn't used again.
+    /// the store gives was wanted then. A content that is refused leaves the state. As long as each call gave a reply
+    /// (`is_whole`), each unit of the texts is worked out, which is one step each, where the session began with this content
+    /// or some file has another text than before, and else none is. After an error (`StoreFault`, `NoMemory`) the session
+    /// isn't used again: its state isn't told then, and a call that came nonetheless might work out more units.
     pub fn handle<D: Store, L: Ledger>(
         &mut self,
         content: &[u8],

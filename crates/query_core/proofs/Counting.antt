@@ -64,12 +64,6 @@ tally_past [] j le = refl
 tally_past (x ∷ xs) zero le = absurd (omega arith)
 tally_past (x ∷ xs) (suc j) le = tally_past xs j (omega arith)
 
--- a node with reads has a tally
-pub tally_within : (tallies : List Tally) (j : ℕ) → 0 < (tally_at tallies j).reads → j < length tallies
-tally_within [] j lt = absurd (omega arith)
-tally_within (x ∷ xs) zero lt = omega arith
-tally_within (x ∷ xs) (suc j) lt = let h = tally_within xs j lt in omega arith
-
 pub occurs_most : (nodes : List ℕ) (j : ℕ) → occurs nodes j ≤ length nodes
 occurs_most [] j = omega arith
 occurs_most (x ∷ xs) j = let h = occurs_most xs j in elim (nat_eq x j) as (λ b. cond b (occurs xs j + 1) (occurs xs j) ≤ suc (length xs)) [ true ↦ (omega arith) | false ↦ (omega arith) ]

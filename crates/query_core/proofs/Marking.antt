@@ -141,13 +141,6 @@ at_within [] i x e = absurd (let bad : ⊥ = cc in bad)
 at_within (y ∷ xs) zero x e = omega arith
 at_within (y ∷ xs) (suc i) x e = let l = at_within xs i x e in omega arith
 
--- one more place without a mark
-pub one_behind : (xs : List Bool) (i : ℕ) → slice_index_or (xs ++ false ∷ []) i false ≡ slice_index_or xs i false
-one_behind [] zero = refl
-one_behind [] (suc i) = refl
-one_behind (x ∷ xs) zero = refl
-one_behind (x ∷ xs) (suc i) = one_behind xs i
-
 -- reached from these nodes along the edges
 pub data Along (edges : ℕ → List ℕ) (starts : List ℕ) : ℕ → Type 0 where
   begin : (i : ℕ) → Has starts i → Along edges starts i

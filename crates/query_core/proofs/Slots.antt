@@ -58,13 +58,6 @@ module _ {K V : Type 0} where
       from_slot None e = absurd (let bad : ⊥ = cc in bad)
       from_slot (Some x) e = (x, (refl, (let same : shown c x ≡ r = cc in same)))
 
-  -- the key of a record that is kept is the one that is seen
-  pub kept_key : (slots : List (Option (Record K V))) (numbers : List (K × ℕ)) (c i : ℕ) (r : Node K V) (x : Record K V) → node_at (stored slots numbers c) i ≡ Some r → slice_index_or slots i None ≡ Some x → x.key ≡ r.key
-  kept_key slots numbers c i r x e here =
-      let k = kept_of slots numbers c i r e in
-      let at_i = k.1.0 in
-      let same : x ≡ k.0 = cc in ap (λ (y : Record K V). y.key) same ∙ ap (λ (y : Node K V). y.key) k.1.1
-
   module _ (slots slots' : List (Option (Record K V))) (numbers numbers' : List (K × ℕ)) (c i : ℕ) (others : (j : ℕ) → j ≢ i → slice_index_or slots' j None ≡ slice_index_or slots j None) where
     pub others_seen : (j : ℕ) → j ≢ i → node_at (stored slots' numbers' c) j ≡ node_at (stored slots numbers c) j
     others_seen j n = seen_at slots' numbers' c j ∙ ap (option_map (shown c)) (others j n) ∙ sym (seen_at slots numbers c j)

@@ -18,7 +18,7 @@ use Rattle.plain_mean.specs.declared.lists.ShownLists.{ShownLists}
 pub record SessionView : Type 0 where
   pub state : State
   pub handled : ℕ
-  -- no call failed
+  -- what is kept of what files show is so, as it is behind each call that gave a reply
   pub whole : Bool
 
 abbrev pub current_state : Current → State

@@ -20,7 +20,7 @@ returns-clause-kept g c = kept_behind c.change_document-edited.result c.args.sel
 pub returns-clause-steps : goal.returns-clause-steps
 returns-clause-steps g c = edit_works (current_state c.args.self.now) (current_state c.reply_to_edit.new.self) c.change_document-edited.new.docs c.change_document-edited.result _ c.change_document-edited.new.prior _ _ c.in_ok-bytes.ensures.same
     (changing_prior c.args.self.now.docs c.change_document-edited.new.docs c.args.self.now.encoding (option_map (λ v. view v.now) c.args.params) c.change_document-edited.result c.new-prior.result c.change_document-edited.new.prior c.new-prior.ensures c.change_document-edited.ensures.prior)
-    c.change_document-edited.ensures.meant c.in_ok-bytes.ensures.steps
+    c.change_document-edited.ensures.meant c.change_document-edited.ensures.kept c.in_ok-bytes.ensures.steps
 
 pub reply_to_edit-requires : goal.reply_to_edit-requires
 reply_to_edit-requires g c = record {

@@ -3,7 +3,7 @@ use Rattle.plain_mean.specs.Lists.{shown_in}
 use Rattle.c_session.specs.Ties.Sessions.{current_state}
 use Rattle.c_session.proofs.Asking.{gave_up, stays}
 use Rattle.c_session.proofs.Telling.{with_docs, closes_tells, closed_refused, not_closed}
-use Rattle.c_session.proofs.Unchanged.{closed_keeps, closed_works}
+use Rattle.c_session.proofs.Unchanged.{left_works, closed_keeps, closed_works}
 use Rattle.c_session.proofs.current.Current.on_close.Goals as goal
 
 pub returns-in-Ok-after_close-clause-handled : goal.returns-in-Ok-after_close-clause-handled
@@ -27,3 +27,6 @@ returns-in-Ok-after_close-clause-steps g c = closed_works (current_state c.args.
 
 pub after_close-requires-clause-kept : goal.after_close-requires-clause-kept
 after_close-requires-clause-kept g c = closed_keeps (current_state c.args.self.now) c.close_document.new.docs c.new-prior.result c.close_document.new.prior c.args.self.now.shown c.new-prior.ensures c.in-Ok.ensures.prior c.requires.kept
+
+pub returns-in-Ok-refuse-clause-steps : goal.returns-in-Ok-refuse-clause-steps
+returns-in-Ok-refuse-clause-steps g c = left_works (current_state c.args.self.now) (current_state (with_docs c.close_document.new.docs c.args.self.now)) c.close_document.new.docs _ _ refl c.in-Err.ensures.kept refl

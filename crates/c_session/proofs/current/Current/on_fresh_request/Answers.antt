@@ -1,6 +1,11 @@
 use Rattle.std.proofs.Common.{refl}
+use Rattle.c_session.specs.Ties.Sessions.{current_state}
 use Rattle.c_session.proofs.Asking.{gave_up, stays}
+use Rattle.c_session.proofs.Unchanged.{no_work}
 use Rattle.c_session.proofs.current.Current.on_fresh_request.Goals as goal
 
 pub returns-in-Err-clause-refused : goal.returns-in-Err-clause-refused
 returns-in-Err-clause-refused g c = (refl, gave_up (stays _ _))
+
+pub returns-in-Ok-clause-steps : goal.returns-in-Ok-clause-steps
+returns-in-Ok-clause-steps g c = no_work (current_state c.args.self.now) _

@@ -2,6 +2,7 @@ use Rattle.std.proofs.Common.{refl}
 use Rattle.c_session.specs.Ties.Sessions.{current_state, loading, seen_beginning}
 use Rattle.c_session.proofs.Asking.{gave_up, stays}
 use Rattle.c_session.proofs.Telling.{began_then, began_refused, began_wants}
+use Rattle.c_session.proofs.Unchanged.{no_work}
 use Rattle.c_session.proofs.current.Current.on_initialize.Goals as goal
 
 pub returns-in-Err-reject-clause-refused : goal.returns-in-Err-reject-clause-refused
@@ -21,3 +22,6 @@ returns-in-Err-begin-clause-refused g c = (
   began_wants (current_state c.args.self.now) c.args.id.now _ (seen_beginning c.in-Ok.beginning) _ _ _
       c.in-Ok.ensures c.in-Ok-load_root.ensures.loaded,
 )
+
+pub returns-in-Ok-reject-clause-steps : goal.returns-in-Ok-reject-clause-steps
+returns-in-Ok-reject-clause-steps g c = no_work (current_state c.args.self.now) _

@@ -20,7 +20,7 @@ returns-clause-kept g c = kept_behind c.open_document-edited.result c.args.self.
 pub returns-clause-steps : goal.returns-clause-steps
 returns-clause-steps g c = edit_works (current_state c.args.self.now) (current_state c.reply_to_edit.new.self) c.open_document-edited.new.docs c.open_document-edited.result _ c.open_document-edited.new.prior _ _ c.in_ok-bytes.ensures.same
     (opening_prior c.args.self.now.docs c.open_document-edited.new.docs (option_map (λ v. view v.now) c.args.params) c.open_document-edited.result c.new-prior.result c.open_document-edited.new.prior c.new-prior.ensures c.open_document-edited.ensures.prior)
-    c.open_document-edited.ensures.meant c.in_ok-bytes.ensures.steps
+    c.open_document-edited.ensures.meant c.open_document-edited.ensures.kept c.in_ok-bytes.ensures.steps
 
 pub reply_to_edit-requires : goal.reply_to_edit-requires
 reply_to_edit-requires g c = record {
