@@ -1,1 +1,3 @@
 pub mod MemberLemmas
+pub mod ReachedLemmas
+pub mod WalkLemmas

@@ -1,5 +1,5 @@
 -- One tag further down on the walks through members by value.
-use Rattle.std.proofs.Common.{◌≡◌, ℕ, suc, Bool, false, List, ◌∷◌, Option, Some, None, ap, sym, ◌∙◌}
+use Rattle.std.proofs.Common.{◌≡◌, ℕ, suc, false, List, ◌∷◌, Option, Some, None, ap, sym, ◌∙◌}
 use Rattle.std.specs.Prelude.{if◌then◌else◌}
 use Rattle.std.specs.List.{list_any}
 use Rattle.std.specs.Map.{lookup}
@@ -7,21 +7,8 @@ use Rattle.type_data.specs.declared.members.Member.{Member}
 use Rattle.type_data.specs.declared.members.TagInfo.{TagInfo}
 use Rattle.type_data.specs.declared.names.TagId.{TagId}
 use Rattle.type_data.specs.Same.{same_tag}
-use Rattle.type_data.specs.Types.{Ty}
 use Rattle.type_rel.specs.Kinds.{Tagging}
-use Rattle.expr_rules.specs.Members.{Found, among, any_const, const_in, info_const, member_in, members_const, of_info, of_members, places_of, type_const}
-
-pub const_step : (n m : ℕ) (tags : Tagging) (inside deep : List TagId) (id : TagId) (info : TagInfo) (ms given : List Member) → n ≡ suc m
-    → list_any (same_tag id) inside ≡ false → lookup (same_tag id) tags ≡ Some info → info.members ≡ Some ms → deep ≡ id ∷ inside → given ≡ ms
-    → any_const (λ t. type_const (λ other. const_in m tags deep other) t) given ≡ const_in n tags inside id
-const_step n m tags inside deep id info ms given e out found has is same =
-    let F : Ty → Bool = λ t. type_const (λ other. const_in m tags (id ∷ inside) other) t in
-    ap (λ xs. any_const (λ t. type_const (λ other. const_in m tags xs other) t) given) is
-    ∙ ap (any_const F) same
-    ∙ sym (ap (λ k. const_in k tags inside id) e
-    ∙ ap (λ b. if b then false else info_const F (lookup (same_tag id) tags)) out
-    ∙ ap (info_const F) found
-    ∙ ap (members_const F) has)
+use Rattle.expr_rules.specs.Members.{Found, among, member_in, of_info, of_members, places_of}
 
 pub member_step : (n m : ℕ) (tags : Tagging) (inside deep : List TagId) (name : List ℕ) (id : TagId) (info : TagInfo) (ms given : List Member) (ps : List ℕ) → n ≡ suc m
     → list_any (same_tag id) inside ≡ false → lookup (same_tag id) tags ≡ Some info → info.members ≡ Some ms → deep ≡ id ∷ inside → given ≡ ms

@@ -8,6 +8,7 @@ pub mod Members
 pub mod Operands
 pub mod Postfix
 pub mod Primary
+pub mod Reached
 pub mod Selection
 pub mod Shown
 pub mod Unary

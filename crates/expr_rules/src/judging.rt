@@ -263,6 +263,10 @@ fn row(
 /// the token `at`. What has a faulty part is faulty, and so is a construct with another number of parts than it takes: neither
 /// shows anything. A floating constant that stands alone, or in parentheses, has the constancy `Int(Unknown)`: a cast of it to an
 /// integer type is an integer constant expression whose value isn't told (6.6p6). `NoMemory` comes where memory is refused.
+///
+/// Its cost is linear in the parts and the types that it reads and copies, but for these: a member is looked for among those of its
+/// structure; what is written to a structure or union costs a look at each member of each tag that it holds by value, once for each
+/// tag; and a generic selection compares each pair of its associations (6.5.1.1p2).
 pub fn judge(
     alloc: Global,
     operator: &Operator,

@@ -17,6 +17,7 @@ mod operands;
 mod parts;
 mod postfix;
 mod primary;
+mod reached;
 mod selection;
 mod unary;
 

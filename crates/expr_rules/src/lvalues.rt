@@ -1,112 +1,17 @@
 // Modifiable lvalues (ISO C11 6.3.2.1p1), and what is done to them (6.5.2.4, 6.5.3.1, 6.5.16).
-ghost use Rattle.std.specs.Prelude.{◌≡◌, ◌≢◌, Err, IfOk, option_map};
+ghost use Rattle.std.specs.Prelude.{◌≡◌, ◌≢◌, Err, IfOk};
 ghost use Rattle.expr_rules.specs.Assignments;
-ghost use Rattle.expr_rules.specs.Members;
 ghost use Rattle.expr_rules.specs.Postfix as spec;
 ghost use Rattle.type_data.specs.declared.judged.CheckError.TheVariants.{NoMemory};
 
 use crate::answers::refuse_type;
 use crate::assignments::{assigned, operated};
 use crate::kinds::{is_array, is_pointer_to_complete};
+use crate::reached::has_const;
 use c_literals::Op;
 use std::alloc::{AllocError, Global};
-use type_data::{CType, CheckError, Constancy, Judged, Member, Node, Place, TagId, Tags};
-use type_rel::{converted, deeper, is_arithmetic, is_complete, is_inside, most_tags, value};
-
-/// What a walk for a const member is about: the tags, those that it is inside of, and how deep it may still go.
-#[derive(Clone, Copy)]
-struct Descent<'a, 'b> {
-    tags: &'a Tags,
-    inside: &'b [TagId],
-    bound: u64,
-}
-
-// The elements of an array, of whatever dimensions; `None` where those of some dimension are const.
-fn innermost(ty: &CType) -> Option<&CType>
-    ensures { option_map (λ t. t.now) result ≡ Members.innermost ty.now }
-{
-    match ty.node() {
-        Node::Array(of, qual, _) => {
-            if qual.is_const {
-                return None;
-            }
-            innermost(of)
-        }
-        _ => Some(ty),
-    }
-}
-
-#[cycle(descent)]
-fn type_const(alloc: Global, descent: &Descent<'_, '_>, ty: &CType) -> Result<bool, AllocError>
-    ensures { IfOk result (λ b. b ≡ Members.type_const (λ id. Members.const_in descent.now.bound descent.now.tags.now descent.now.inside.now id) ty.now) }
-{
-    let Some(element) = innermost(ty) else {
-        return Ok(true);
-    };
-    match element.node() {
-        Node::Tagged(id) => const_in(alloc, descent, id),
-        _ => Ok(false),
-    }
-}
-
-#[cycle(descent)]
-fn any_const(
-    alloc: Global,
-    descent: &Descent<'_, '_>,
-    members: &[Member],
-) -> Result<bool, AllocError>
-    ensures { IfOk result (λ b. b ≡ Members.any_const (λ t. Members.type_const (λ id. Members.const_in descent.now.bound descent.now.tags.now descent.now.inside.now id) t) members.now) }
-{
-    let mut rest = members;
-    'members: while let Some((member, others)) = rest.split_first() {
-        if member.qual.is_const {
-            return Ok(true);
-        }
-        if type_const(alloc, descent, &member.ty)? {
-            return Ok(true);
-        }
-        rest = others;
-    }
-    Ok(false)
-}
-
-#[cycle(descent)]
-fn const_in(alloc: Global, descent: &Descent<'_, '_>, id: &TagId) -> Result<bool, AllocError>
-    ensures { IfOk result (λ b. b ≡ Members.const_in descent.now.bound descent.now.tags.now descent.now.inside.now id.now) }
-{
-    if descent.bound == 0 {
-        return Ok(false);
-    }
-    if is_inside(descent.inside, id) {
-        return Ok(false);
-    }
-    let Some(info) = descent.tags.get(id) else {
-        return Ok(false);
-    };
-    let Some(members) = &info.members else {
-        return Ok(false);
-    };
-    let inside = deeper(alloc, descent.inside, id)?;
-    let below = Descent {
-        tags: descent.tags,
-        inside: inside.as_slice(),
-        bound: descent.bound - 1,
-    };
-    any_const(alloc, &below, members.as_slice())
-}
-
-#[tactic(auto, unfolding(crate::specs::Members::has_const))]
-fn has_const(alloc: Global, tags: &Tags, ty: &CType) -> Result<bool, AllocError>
-    ensures { IfOk result (λ b. b ≡ Members.has_const tags.now ty.now) }
-{
-    let inside = Vec::new(alloc);
-    let descent = Descent {
-        tags,
-        inside: inside.as_slice(),
-        bound: most_tags(),
-    };
-    type_const(alloc, &descent, ty)
-}
+use type_data::{CType, CheckError, Constancy, Judged, Place, Tags};
+use type_rel::{converted, is_arithmetic, is_complete, value};
 
 fn is_lvalue(place: Place) -> bool
     ensures { result ≡ spec.is_lvalue place }

@@ -41,6 +41,8 @@ fn is_alike_any(association: &Association, others: &[Association]) -> bool
     others.iter().any(|other| are_alike(association, other))
 }
 
+// Whether no two of them are alike. Each pair is compared, as the constraint says (p2), at a cost of the square of their number: no
+// order brings together what is compatible, since `int (*)[]` is compatible with `int (*)[2]` and `int (*)[3]`, which aren't so.
 fn are_apart(associations: &[Association]) -> bool
     ensures { result ≡ spec.are_apart associations.now }
 {
