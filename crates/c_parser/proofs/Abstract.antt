@@ -1,4 +1,4 @@
--- Abstract declarators, as the code reads their parts one behind another.
+-- Declarators, with a name where one may stand, as the code reads their parts one behind another.
 use Rattle.std.proofs.Common.{◌≡◌, refl, ap, sym, ◌∙◌, subst, ℕ, zero, suc, ◌+◌, ◌<◌, ◌≤◌, List, [], ◌∷◌, ◌++◌, length, arith, Bool, true, false, true≢false, ◌&&◌}
 use Rattle.std.proofs.lemmas.List.{map-append}
 use Rattle.tree_data.specs.declared.types.Deriving as code

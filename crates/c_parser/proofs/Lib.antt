@@ -9,6 +9,7 @@ mod Marks
 mod Numbers
 mod OneReading
 mod Openings
+mod Operations
 mod ParameterLists
 mod Parsing
 mod Pushes

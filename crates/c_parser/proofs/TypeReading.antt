@@ -6,7 +6,7 @@ use Rattle.c_parser.specs.declared.kinds.Kind.{Kind}
 use Rattle.c_parser.specs.declared.kinds.Kind.TheVariants.{Identifier, Constant, Text, TypeName, Tag, Atomic, Static, Star, OpenParen, CloseParen, OpenBracket, CloseBracket, Generic, OffsetOf, Colon, Comma, End, TypeWord, Qualifier}
 use Rattle.c_parser.specs.Declarators.{AreThere, IsWritten}
 use Rattle.c_parser.specs.Grammar.{IsBefore, has_type}
-use Rattle.c_parser.specs.Kinds.{kind_at, is_size, starts_type, ends_type, ends_pointers, ends_specifiers, opens_parameters, qualifies_at}
+use Rattle.c_parser.specs.Kinds.{kind_at, is_size, starts_type, ends_type, ends_specifiers, opens_parameters, qualifies_at}
 use Rattle.c_parser.specs.Reading.{Holds, HoldFronts, HoldQualifiers, Reads, HoldSpecifying, HoldSpecifyings, HoldsNaming, HoldsType, HoldParameters, HoldRow, HoldsDeclaring, HoldsGrouping, HoldsDeriving, HoldDerivings, HoldsBound}
 use Rattle.c_parser.specs.TypeNames.{RowEnd, at_close, at_dots}
 use Rattle.c_parser.proofs.OneReading.{placed_only}
@@ -373,6 +373,17 @@ derivings_only ks (Deriving_then d ds) a b w h e (Deriving_then d' ds') b' h' e'
     (subst (λ x. HoldDerivings ks ds' x b') (sym one.1) h'.2)
     e' in
     (ap (λ x. Deriving_then x ds) one.0 ∙ ap (λ x. Deriving_then d' x) two.0, two.1)
+
+-- in front of such a token pointers may end: a name, what an array or a function or a group begins with, or what ends a name
+abbrev ends_pointers : Kind → Bool
+ends_pointers Identifier = true
+ends_pointers OpenParen = true
+ends_pointers OpenBracket = true
+ends_pointers CloseParen = true
+ends_pointers Colon = true
+ends_pointers Comma = true
+ends_pointers End = true
+ends_pointers _ = false
 
 -- behind pointers a group, an array or a function begins, or the name ends
 ends_more : (k : Kind) → ends_type k ≡ true → ends_pointers k ≡ true

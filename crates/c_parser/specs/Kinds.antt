@@ -1,7 +1,7 @@
 -- The kinds of tokens by their numbers, and what those of operators begin or go on with (ISO C11 6.5).
 use Rattle.std.specs.Prelude.{ℕ, ◌+◌, ◌-◌, ◌<◌, ◌&&◌, ◌||◌, not, List, length, slice_index_or, Bool, true, false}
 use Rattle.c_parser.specs.declared.kinds.Kind.{Kind}
-use Rattle.c_parser.specs.declared.kinds.Kind.TheVariants.{Equals, Dot, Identifier, TypeName, OpenParen, CloseParen, OpenBracket, CloseBracket, Member, Step, SizeOf, AlignOf, TypeWord, Qualifier, Tag, Complement, Question, Assignment, Comma, Or, And, Bar, Caret, Ampersand, Equality, Relation, Shift, Sign, Star, Quotient, Colon, Atomic, Static, End}
+use Rattle.c_parser.specs.declared.kinds.Kind.TheVariants.{Equals, Dot, Identifier, TypeName, OpenParen, CloseParen, OpenBracket, CloseBracket, Member, Step, SizeOf, AlignOf, TypeWord, Qualifier, Tag, Complement, Question, Assignment, Comma, Or, And, Bar, Caret, Ampersand, Equality, Relation, Shift, Sign, Star, Quotient, Colon, Atomic, End}
 
 -- the level of precedence at which an expression goes on with such a token behind it, 0 where it doesn't: 1 for `,`,
 -- 2 for assignment, 3 for `?`, from `||` at 4 to `*` at 13, 16 for postfix operators
@@ -96,10 +96,6 @@ abbrev pub is_qualifier : Kind → Bool
 is_qualifier Qualifier = true
 is_qualifier _ = false
 
-abbrev pub is_static : Kind → Bool
-is_static Static = true
-is_static _ = false
-
 abbrev pub is_type_word : Kind → Bool
 is_type_word TypeWord = true
 is_type_word _ = false
@@ -120,17 +116,6 @@ ends_type Colon = true
 ends_type Comma = true
 ends_type End = true
 ends_type _ = false
-
--- in front of such a token pointers may end: a name, what an array or a function or a group begins with, or what ends a name
-abbrev pub ends_pointers : Kind → Bool
-ends_pointers Identifier = true
-ends_pointers OpenParen = true
-ends_pointers OpenBracket = true
-ends_pointers CloseParen = true
-ends_pointers Colon = true
-ends_pointers Comma = true
-ends_pointers End = true
-ends_pointers _ = false
 
 -- in front of such a token specifiers may end
 abbrev pub ends_specifiers : Kind → Bool
@@ -167,7 +152,7 @@ size_at kinds at = is_size (kind_at kinds at) && type_at kinds (at + 1)
 unfoldable pub casts_at : List Kind → ℕ → Bool
 casts_at kinds at = not (is_tight (kind_at kinds (at - 1)))
 
--- `_Atomic` stands for itself where no `(` stands behind it (6.7.3p4); in front of one it begins a type specifier (6.7.2.4)
+-- `_Atomic` stands for itself where no `(` stands behind it (6.7.3); in front of one it begins a type specifier (6.7.2.4p4)
 abbrev pub is_atomic : Kind → Bool
 is_atomic Atomic = true
 is_atomic _ = false

@@ -1,4 +1,4 @@
-// Abstract declarators (ISO C11 6.7.7): pointers, a declarator in parentheses, arrays and functions.
+// Declarators, with a name where one may stand (ISO C11 6.7.6, 6.7.7): pointers, a declarator in parentheses, arrays and functions.
 ghost use Rattle.std.specs.Prelude.{◌≡◌, true, false, ℕ, ◌+◌, ◌<◌, ◌≤◌, length, IfOk, IfErr};
 ghost use Rattle.tree_data.specs.Seen.{pointers_of, declarator_of, group_of, deriving_of, derivings_of, bound_of, parameters_of, parameter_row_of};
 ghost use Rattle.tree_data.specs.Trees as tree;

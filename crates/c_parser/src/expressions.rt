@@ -1,5 +1,5 @@
-// Expressions, from the comma down to primary expressions: a function a level of precedence, and loops where a production
-// goes on by itself. Each reads from left to right and says at which token it stopped.
+// Expressions, from the comma down to primary expressions: one function for all levels of binary operators, and loops where a
+// production goes on by itself. Each reads from left to right and says at which token it stopped.
 ghost use Rattle.std.specs.Prelude.{◌≡◌, ℕ, ◌+◌, ◌<◌, ◌≤◌, length, true, false, IfOk, IfErr};
 ghost use Rattle.tree_data.specs.Seen.{tree_of, behind_of, operands_of, suffixes_of, type_of};
 ghost use Rattle.tree_data.specs.Trees.{Tree, Behind, Behinds, None_behind, behinds};
@@ -19,7 +19,7 @@ use crate::selections::{generic, offset};
 use std::alloc::Global;
 use tree_data::{Choice, Expr, Suffix, TypeName};
 
-// The levels of 6.5.17, 6.5.16, 6.5.15, 6.5.14 and 6.5.4.
+// The levels of 6.5.17, 6.5.16, 6.5.15 and 6.5.14.
 pub(crate) const EXPRESSION: u8 = 1;
 
 pub(crate) const ASSIGNMENT: u8 = 2;
@@ -28,7 +28,6 @@ pub(crate) const CONDITIONAL: u8 = 3;
 
 const LOGICAL_OR: u8 = 4;
 
-const CAST: u8 = 14;
 // The level of postfix operators.
 const POSTFIX: u8 = 16;
 
@@ -373,26 +372,80 @@ fn operands(alloc: Global, kinds: &[Kind], n: u8, at: u32) -> Result<(Vec<(u32, 
     }
 }
 
-// Operands with the operators of this level between them (6.5.5 to 6.5.14, 6.5.17).
+// What was read and the operators of this level behind it, each with its operand (6.5.5 to 6.5.14, 6.5.17).
 #[cycle(parser)]
-fn binary(alloc: Global, kinds: &[Kind], n: u8, at: u32) -> Result<(Expr, u32), Stop>
+fn binary(
+    alloc: Global,
+    kinds: &[Kind],
+    n: u8,
+    first: Expr,
+    behind: u32,
+) -> Result<(Expr, u32), Stop>
     requires size { length kinds.now ≤ 2000000 }
-    requires inside { at ≤ length kinds.now }
+    requires inside { behind ≤ length kinds.now }
     requires binary { IsBinary n }
-    ensures found { IfOk result (λ r. Found kinds.now n at (tree_of r.0) r.1) }
-    ensures only { (t : Tree) → (end : ℕ) → Reads kinds.now n t at end → Stops kinds.now n end
-        → MustGive result (λ r. (tree_of r.0 ≡ t) × (r.1 ≡ end)) }
+    requires loose { Stops kinds.now (n + 1) behind }
+    ensures found { IfOk result (λ r. (a : ℕ) → Found kinds.now (n + 1) a (tree_of first) behind → Found kinds.now n a (tree_of r.0) r.1) }
+    ensures fails { IfErr result (λ e. (a : ℕ) → Found kinds.now (n + 1) a (tree_of first) behind
+        → (t : Tree) → (end : ℕ) → Reads kinds.now n t a end → Stops kinds.now n end → IsWant e) }
 {
-    let (first, behind) = match level(alloc, kinds, n + 1, at) {
-        Ok(found) => found,
-        Err(stop) => return Err(stop),
-    };
     let (more, end) = match operands(alloc, kinds, n, behind) {
         Ok(found) => found,
         Err(stop) => return Err(stop),
     };
     match joining::binary(alloc, first, more) {
         Ok(expr) => Ok((expr, end)),
+        Err(stop) => Err(stop),
+    }
+}
+
+// Operands with operators of this level and of those that bind more between them (6.5.5 to 6.5.14). The operator behind what
+// was read tells of which level it is: one that binds less than those before it takes all that was read.
+#[cycle(parser)]
+fn operations(alloc: Global, kinds: &[Kind], n: u8, at: u32) -> Result<(Expr, u32), Stop>
+    requires size { length kinds.now ≤ 2000000 }
+    requires inside { at ≤ length kinds.now }
+    requires low { 4 ≤ n }
+    requires high { n ≤ 14 }
+    ensures found { IfOk result (λ r. Found kinds.now n at (tree_of r.0) r.1) }
+    ensures only { (t : Tree) → (end : ℕ) → Reads kinds.now n t at end → Stops kinds.now n end
+        → MustGive result (λ r. (tree_of r.0 ≡ t) × (r.1 ≡ end)) }
+{
+    let (first, behind) = match unary(alloc, kinds, at) {
+        Ok(found) => found,
+        Err(stop) => return Err(stop),
+    };
+    let mut expr = first;
+    let mut end = behind;
+    'operators: loop {
+        let own = level_at(kinds, end);
+        if own < n {
+            return Ok((expr, end));
+        }
+        let (joined, next) = match binary(alloc, kinds, own, expr, end) {
+            Ok(found) => found,
+            Err(stop) => return Err(stop),
+        };
+        expr = joined;
+        end = next;
+    }
+}
+
+// Expressions with commas between them (6.5.17).
+#[cycle(parser)]
+fn comma(alloc: Global, kinds: &[Kind], at: u32) -> Result<(Expr, u32), Stop>
+    requires size { length kinds.now ≤ 2000000 }
+    requires inside { at ≤ length kinds.now }
+    ensures found { IfOk result (λ r. Found kinds.now 1 at (tree_of r.0) r.1) }
+    ensures only { (t : Tree) → (end : ℕ) → Reads kinds.now 1 t at end → Stops kinds.now 1 end
+        → MustGive result (λ r. (tree_of r.0 ≡ t) × (r.1 ≡ end)) }
+{
+    let (first, behind) = match assignment(alloc, kinds, at) {
+        Ok(found) => found,
+        Err(stop) => return Err(stop),
+    };
+    match binary(alloc, kinds, EXPRESSION, first, behind) {
+        Ok(found) => Ok(found),
         Err(stop) => Err(stop),
     }
 }
@@ -409,7 +462,7 @@ fn conditional(alloc: Global, kinds: &[Kind], at: u32) -> Result<(Expr, u32), St
     let mut choices = Vec::new(alloc);
     let mut start = at;
     'choices: loop {
-        let (test, question) = match level(alloc, kinds, LOGICAL_OR, start) {
+        let (test, question) = match operations(alloc, kinds, LOGICAL_OR, start) {
             Ok(found) => found,
             Err(stop) => return Err(stop),
         };
@@ -446,7 +499,7 @@ fn assignment(alloc: Global, kinds: &[Kind], at: u32) -> Result<(Expr, u32), Sto
     let mut places = Vec::new(alloc);
     let mut start = at;
     'places: loop {
-        let (value, operator) = match level(alloc, kinds, CONDITIONAL, start) {
+        let (value, operator) = match conditional(alloc, kinds, start) {
             Ok(found) => found,
             Err(stop) => return Err(stop),
         };
@@ -477,14 +530,14 @@ pub(crate) fn level(alloc: Global, kinds: &[Kind], n: u8, at: u32) -> Result<(Ex
     ensures only { (t : Tree) → (end : ℕ) → Reads kinds.now n t at end → Stops kinds.now n end
         → MustGive result (λ r. (tree_of r.0 ≡ t) × (r.1 ≡ end)) }
 {
+    if n == EXPRESSION {
+        return comma(alloc, kinds, at);
+    }
     if n == ASSIGNMENT {
         return assignment(alloc, kinds, at);
     }
     if n == CONDITIONAL {
         return conditional(alloc, kinds, at);
     }
-    if n == CAST {
-        return unary(alloc, kinds, at);
-    }
-    binary(alloc, kinds, n, at)
+    operations(alloc, kinds, n, at)
 }

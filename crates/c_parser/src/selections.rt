@@ -1,5 +1,5 @@
 // Generic selections (ISO C11 6.5.1.1), and the place of a member, for `offsetof` (7.19).
-ghost use Rattle.std.specs.Prelude.{◌≡◌, ℕ, ◌+◌, ◌<◌, ◌≤◌, length, true, IfOk};
+ghost use Rattle.std.specs.Prelude.{◌≡◌, ℕ, ◌+◌, ◌<◌, ◌≤◌, length, IfOk};
 ghost use Rattle.tree_data.specs.Seen.{tree_of, suffixes_of, association_of, associations_of};
 ghost use Rattle.tree_data.specs.Trees as tree;
 ghost use Rattle.tree_data.specs.Trees.{Tree, Behinds, None_behind, behinds, Associations, associations};

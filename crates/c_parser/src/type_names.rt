@@ -1,5 +1,5 @@
 // Names of types (ISO C11 6.7.7): specifiers and qualifiers, and a declarator.
-ghost use Rattle.std.specs.Prelude.{◌≡◌, ◌||◌, true, false, ℕ, ◌+◌, ◌<◌, ◌≤◌, length, IfOk, IfErr};
+ghost use Rattle.std.specs.Prelude.{◌≡◌, true, false, ℕ, ◌+◌, ◌<◌, ◌≤◌, length, IfOk, IfErr};
 ghost use Rattle.tree_data.specs.Seen.{specifier_of, specifiers_of, type_of};
 ghost use Rattle.tree_data.specs.Trees.{Naming, Atomic_of, Specifyings, No_specifiers, specifyings};
 ghost use Rattle.c_parser.specs.declared.kinds.Kind.TheVariants.{CloseParen};

@@ -16,6 +16,7 @@ use Rattle.c_parser.proofs.Generics.{default_found, default_only, default_unpart
 use Rattle.c_parser.proofs.Initials.{field_found, found_designator_only, field_unnamed, element_opens, element_fails, element_left_open, element_found, value_found, value_only, init_fails, list_only, list_fails, plain_only, plain_fails, designated_only, designator_fails, designators_fail, unequal, designated_fails, braces_found, found_braces_only, first_piece_fails, more_pieces_fail, braces_left_open, row_found, row_only, row_found_comma, row_only_comma, row_fails, path_found, path_only, path_fails}
 use Rattle.c_parser.proofs.Openings.{fails_by_first, plain_fits, literal_fails, cast_found, type_inside, type_opens, cast_fails, casts_not, operator_found, prefixes_end, prefixes_only, prefixes_fail, size_inside, size_typed, size_fails, size_begun, align_fails}
 use Rattle.c_parser.proofs.Parsing.{paren_fails, paren_left_open, paren_found, other_fails, found_only, found_behind_only, found_behinds_only, first_fails, more_fails, binary_found, postfix_found, loop_ends, loop_fails, operand_fails, index_found, index_fails, index_left_open, empty_found, call_found, call_first_fails, call_more_fails, call_left_open, step_found}
+use Rattle.c_parser.proofs.Operations.{comma_level, lifted, climb_ends, climb_own, own_low, climb_turns}
 use Rattle.c_parser.proofs.Pushes.{associations_push, steps_push, pieces_push, designators_push, operands_push, suffixes_push, choices_push, places_push, prefixes_push}
 use Rattle.c_parser.proofs.Views.{binary_view, postfix_view}
 use Rattle.c_parser.proofs.+parser.Goals as goal
@@ -74,12 +75,8 @@ expressions::assignment-places-preserved t c =
     (c.level_at.ensures.inside (subst (λ x. 0 < x) (sym assigns) (omega arith)))
     c.in-Ok-push.ensures.items
 
-pub expressions::binary-returns-in-Err-clause-only : goal.expressions::binary-returns-in-Err-clause-only
-expressions::binary-returns-in-Err-clause-only t c =
-    first_fails _ _ _ _ _ (λ t b h. binary_view _ _ c.requires.binary t _ b h) c.in-Err.ensures.only
-
-pub expressions::binary-returns-in-Err-operands-clause-only : goal.expressions::binary-returns-in-Err-operands-clause-only
-expressions::binary-returns-in-Err-operands-clause-only t c =
+pub expressions::binary-returns-in-Err-clause-fails : goal.expressions::binary-returns-in-Err-clause-fails
+expressions::binary-returns-in-Err-clause-fails t c a found =
     more_fails
     _
     _
@@ -89,30 +86,51 @@ expressions::binary-returns-in-Err-operands-clause-only t c =
     (λ t b h. binary_view _ _ c.requires.binary t _ b h)
     _
     _
-    c.in-Ok.ensures.found
-    c.in-Err-operands.ensures.only
+    found
+    c.in-Err.ensures.only
 
 pub expressions::binary-returns-in-Ok-binary-clause-found : goal.expressions::binary-returns-in-Ok-binary-clause-found
-expressions::binary-returns-in-Ok-binary-clause-found t c =
+expressions::binary-returns-in-Ok-binary-clause-found t c a found =
     subst
-    (λ x. Found c.args.kinds.now c.args.n c.args.at x c.in-Ok-operands.found.1)
+    (λ x. Found c.args.kinds.now c.args.n a x c.in-Ok.found.1)
     (sym c.in-Ok-binary.ensures.tree)
-    (binary_found _ _ _ c.requires.binary _ _ _ _ c.in-Ok.ensures.found c.in-Ok-operands.ensures.found)
+    (binary_found _ _ _ c.requires.binary _ _ _ _ found c.in-Ok.ensures.found)
 
-pub expressions::binary-returns-in-Ok-binary-clause-only : goal.expressions::binary-returns-in-Ok-binary-clause-only
-expressions::binary-returns-in-Ok-binary-clause-only t c =
-    let low : 1 ≤ c.args.n = c.requires.binary.0 in
-    found_only
-    _
-    _
-    _
-    _
-    _
-    low
-    (subst
-    (λ x. Found c.args.kinds.now c.args.n c.args.at x c.in-Ok-operands.found.1)
-    (sym c.in-Ok-binary.ensures.tree)
-    (binary_found _ _ _ c.requires.binary _ _ _ _ c.in-Ok.ensures.found c.in-Ok-operands.ensures.found))
+pub expressions::operations-returns-in-Err-clause-only : goal.expressions::operations-returns-in-Err-clause-only
+expressions::operations-returns-in-Err-clause-only t c =
+    lifted _ _ 14 _ _ c.requires.low c.requires.high (omega arith) c.in-Err.ensures.only
+
+pub expressions::operations-returns-then-own-n : goal.expressions::operations-returns-then-own-n
+expressions::operations-returns-then-own-n t c =
+    let low : 4 ≤ c.args.n = c.requires.low in
+    let made = climb_ends _ _ _ _ _ c.operators.invariant (subst (λ x. x < c.args.n) c.level_at-own.ensures.level c.if-own-n.true) in
+    record { found = made; only = found_only _ _ _ _ _ (omega arith) made }
+
+pub expressions::operations-returns-in-Err-binary-clause-only : goal.expressions::operations-returns-in-Err-binary-clause-only
+expressions::operations-returns-in-Err-binary-clause-only t c =
+    let own = climb_own _ _ _ _ _ _ c.operators.invariant c.level_at-own.ensures.level in
+    let most = own_low _ _ _ _ _ _ c.operators.invariant c.level_at-own.ensures.level in
+    lifted _ _ c.level_at-own.result _ _ c.requires.low (omega arith) (omega arith) (c.in-Err-binary.ensures.fails _ own)
+
+pub expressions::operations-operators-preserved : goal.expressions::operations-operators-preserved
+expressions::operations-operators-preserved t c =
+    let own = climb_own _ _ _ _ _ _ c.operators.invariant c.level_at-own.ensures.level in
+    let most = own_low _ _ _ _ _ _ c.operators.invariant c.level_at-own.ensures.level in
+    climb_turns _ _ _ _ _ _ (omega arith) most (c.in-Ok-binary.ensures.found _ own)
+
+pub expressions::comma-returns-in-Err-clause-only : goal.expressions::comma-returns-in-Err-clause-only
+expressions::comma-returns-in-Err-clause-only t c =
+    first_fails _ _ _ _ _ (λ t b h. binary_view _ 1 comma_level t _ b h) c.in-Err.ensures.only
+
+pub expressions::comma-returns-in-Err-binary-clause-only : goal.expressions::comma-returns-in-Err-binary-clause-only
+expressions::comma-returns-in-Err-binary-clause-only t c = c.in-Err-binary.ensures.fails _ c.in-Ok.ensures.found
+
+pub expressions::comma-returns-in-Ok-binary-clause-found : goal.expressions::comma-returns-in-Ok-binary-clause-found
+expressions::comma-returns-in-Ok-binary-clause-found t c = c.in-Ok-binary.ensures.found _ c.in-Ok.ensures.found
+
+pub expressions::comma-returns-in-Ok-binary-clause-only : goal.expressions::comma-returns-in-Ok-binary-clause-only
+expressions::comma-returns-in-Ok-binary-clause-only t c =
+    found_only _ _ _ _ _ (omega arith) (c.in-Ok-binary.ensures.found _ c.in-Ok.ensures.found)
 
 pub expressions::call-returns-in-CloseParen-clause-only : goal.expressions::call-returns-in-CloseParen-clause-only
 expressions::call-returns-in-CloseParen-clause-only t c =

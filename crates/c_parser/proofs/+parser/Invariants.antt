@@ -1,26 +1,40 @@
 use Rattle.std.proofs.Common.{◌+◌, ◌-◌, ◌*◌, length}
-use Rattle.tree_data.specs.Seen.{operands_of, suffixes_of, choices_of, lefts_of, pieces_of, designators_of, associations_of, prefixes_of, specifiers_of, derivings_of, parameter_row_of}
+use Rattle.tree_data.specs.Seen.{tree_of, operands_of, suffixes_of, choices_of, lefts_of, pieces_of, designators_of, associations_of, prefixes_of, specifiers_of, derivings_of, parameter_row_of}
 use Rattle.c_parser.specs.Beginnings.{start_of}
 use Rattle.c_parser.proofs.Fronts.{Fore}
 use Rattle.c_parser.proofs.Generics.{Choices, Steps}
 use Rattle.c_parser.proofs.Initials.{Row, Path}
+use Rattle.c_parser.proofs.Operations.{Climb}
 use Rattle.c_parser.proofs.Parsing.{Loop}
+use Rattle.c_parser.specs.Kinds.{level_at}
 use Rattle.c_parser.proofs.Abstract.{Derived}
 use Rattle.c_parser.proofs.ParameterLists.{Rowing}
 use Rattle.c_parser.proofs.SpecifierLists.{Specifiers}
 use Rattle.c_parser.proofs.+parser.Given as goal
 
 abbrev pub decreases-expressions::level : goal.decreases-expressions::level
-decreases-expressions::level l = 64 * (length l.kinds.now - l.at) + (2 * (20 - l.n) + 1)
+decreases-expressions::level l = 64 * (length l.kinds.now - l.at) + (2 * (20 - l.n) + 2)
 
 abbrev pub decreases-expressions::binary : goal.decreases-expressions::binary
-decreases-expressions::binary l = 64 * (length l.kinds.now - l.at) + 2 * (20 - l.n)
+decreases-expressions::binary l = 64 * (length l.kinds.now - l.behind) + 62
+
+abbrev pub decreases-expressions::operations : goal.decreases-expressions::operations
+decreases-expressions::operations l = 64 * (length l.kinds.now - l.at) + (2 * (20 - l.n) + 1)
+
+abbrev pub invariant-expressions::operations-operators : goal.invariant-expressions::operations-operators
+invariant-expressions::operations-operators l = Climb l.kinds l.n l.at (tree_of l.expr) l.end
+
+abbrev pub decreases-expressions::operations-operators : goal.decreases-expressions::operations-operators
+decreases-expressions::operations-operators l = level_at l.kinds l.end
+
+abbrev pub decreases-expressions::comma : goal.decreases-expressions::comma
+decreases-expressions::comma l = 64 * (length l.kinds.now - l.at) + 39
 
 abbrev pub decreases-expressions::assignment : goal.decreases-expressions::assignment
-decreases-expressions::assignment l = 64 * (length l.kinds.now - l.at) + 36
+decreases-expressions::assignment l = 64 * (length l.kinds.now - l.at) + 37
 
 abbrev pub decreases-expressions::conditional : goal.decreases-expressions::conditional
-decreases-expressions::conditional l = 64 * (length l.kinds.now - l.at) + 34
+decreases-expressions::conditional l = 64 * (length l.kinds.now - l.at) + 35
 
 abbrev pub decreases-expressions::unary : goal.decreases-expressions::unary
 decreases-expressions::unary l = 64 * (length l.kinds.now - l.at) + 12
