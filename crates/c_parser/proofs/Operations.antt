@@ -1,11 +1,11 @@
 -- Binary operators of all levels: the operator behind what was read tells its level.
-use Rattle.std.proofs.Common.{◌≡◌, sym, subst, ℕ, zero, suc, ◌+◌, ◌-◌, ◌<◌, ◌≤◌, List, length, arith}
+use Rattle.std.proofs.Common.{◌≡◌, subst, ℕ, zero, suc, ◌+◌, ◌-◌, ◌<◌, ◌≤◌, List, arith}
 use Rattle.tree_data.specs.Trees.{Tree, Binary_of}
 use Rattle.c_parser.specs.declared.answers.Stop.{Stop}
 use Rattle.c_parser.specs.declared.kinds.Kind.{Kind}
 use Rattle.c_parser.specs.Kinds.{level_at}
 use Rattle.c_parser.specs.Levels.{IsBinary}
-use Rattle.c_parser.specs.Reading.{Reads, Stops, Found}
+use Rattle.c_parser.specs.Reading.{Found}
 use Rattle.c_parser.proofs.Parsing.{Fails, first_fails}
 use Rattle.c_parser.proofs.Views.{lowered, binary_view}
 
