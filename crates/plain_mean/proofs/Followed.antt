@@ -12,8 +12,9 @@ use Rattle.include_units.specs.Files.{Question, Exists, Text, Lines}
 use Rattle.include_units.specs.Runs.{own_places}
 use Rattle.include_units.specs.Units.{unit_tokens}
 use Rattle.plain_mean.specs.Given.{given}
-use Rattle.plain_mean.specs.Meanings.{meaning, meant_by, unit_conf}
-use Rattle.plain_mean.specs.Shown.{shown, units, most_units, is_source, of_file, falls_on}
+use Rattle.plain_mean.specs.Meanings.{meaning, meant_by}
+use Rattle.plain_mean.specs.Shown.{shown, units, most_units, is_unit_of, of_file, falls_on}
+use Rattle.project_conf.specs.Entries.{unit_conf}
 use Rattle.project_conf.specs.declared.conf.Conf.{Conf}
 
 -- ---- sets of paths that have the same ones
@@ -55,12 +56,13 @@ module _
   unfolding paths_of
   same_paths = ap keys (same_sets (marked (keys t'.disk ++ keys t'.opened)) (marked (keys t.disk ++ keys t.opened)) same_members)
 
-  same_units : units t' ≡ units t
-  unfolding units
-  same_units = ap (λ paths. take most_units (filter is_source paths)) same_paths
+  module _ (conf : Conf) (same_test : (path : List ℕ) → is_unit_of t' conf path ≡ is_unit_of t conf path) where
+    same_units : units t' conf ≡ units t conf
+    unfolding units
+    same_units = λ i. take most_units (filter (λ path. same_test path i) (same_paths i))
 
-  pub same_shown : (conf : Conf) (path : List ℕ) → shown t' conf path ≡ shown t conf path
-  unfolding shown
-  same_shown conf path = λ i. of_file (same path i)
-      (filter (falls_on path) (flat_map (λ unit. (same_meaning conf unit i).faults) (same_units i)))
-      (list_any (bytes_eq path) (flat_map (λ unit. (same_meaning conf unit i).reads) (same_units i)))
+    pub same_shown : (path : List ℕ) → shown t' conf path ≡ shown t conf path
+    unfolding shown
+    same_shown path = λ i. of_file (same path i)
+        (filter (falls_on path) (flat_map (λ unit. (same_meaning conf unit i).faults) (same_units i)))
+        (list_any (bytes_eq path) (flat_map (λ unit. (same_meaning conf unit i).reads) (same_units i)))

@@ -3,4 +3,5 @@ pub mod Keys
 pub mod Lexed
 pub mod Listed
 pub mod Truth
+pub mod Usable
 pub mod Within

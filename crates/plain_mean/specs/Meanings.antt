@@ -4,17 +4,13 @@ use Rattle.tok_data.specs.declared.faults.PpFault.{PpFault}
 use Rattle.tok_data.specs.declared.faults.ShownFault.{ShownFault}
 use Rattle.doc_texts.specs.Texts.{Texts}
 use Rattle.project_conf.specs.declared.conf.Conf.{Conf}
-use Rattle.project_conf.specs.declared.conf.UnitConf.{UnitConf}
+use Rattle.project_conf.specs.Entries.{unit_conf}
 use Rattle.include_units.specs.declared.types.Entered.{Entered}
 use Rattle.include_units.specs.declared.types.UnitTokens.{UnitTokens}
 use Rattle.plain_mean.specs.Given.{tokens_over}
 use Rattle.plain_mean.specs.Messages.{message}
 use Rattle.plain_mean.specs.Sites.{site, all_reached}
 use Rattle.plain_mean.specs.declared.types.UnitMeaning.{UnitMeaning}
-
--- how a unit is read
-abbrev pub unit_conf : Conf → List ℕ → UnitConf
-unit_conf conf unit = record { file = unit; includes = conf.includes; defines = conf.defines }
 
 -- a fault as it is shown: where it stands, and its message
 abbrev pub shown_fault : List Entered → PpFault → ShownFault

@@ -1,14 +1,15 @@
 -- What each file shows: the faults of all units that fall on it, each once, by place, rule and message.
-use Rattle.std.specs.Prelude.{ℕ, ◌==◌, Bool, List, [], ◌∷◌, ◌++◌, take, map, flat_map, bytes_eq, nat_eq, codes, Option, Some, None, unwrap_or, if◌then◌else◌}
+use Rattle.std.specs.Prelude.{ℕ, ◌==◌, Bool, List, [], ◌∷◌, ◌++◌, take, map, flat_map, bytes_eq, Option, Some, None, is_some, unwrap_or, if◌then◌else◌}
 use Rattle.std.specs.Cmp.Lexicographic.{slice_cmp}
-use Rattle.std.specs.List.{filter, list_any, slice_get, ends_with}
+use Rattle.std.specs.List.{filter, list_any, slice_get}
 use Rattle.std.specs.declared.cmp.Ordering.{Ordering}
 use Rattle.std.specs.Ordering.{nat_cmp, on, then_cmp}
 use Rattle.std.specs.BTreeMap.{insert_entry}
 use Rattle.c_tokens.specs.declared.types.LexFault.{LexFault}
 use Rattle.c_tokens.specs.Lexed.{lexed}
 use Rattle.tok_data.specs.declared.faults.ShownFault.{ShownFault}
-use Rattle.doc_texts.specs.Texts.{Texts, text_at, paths_of}
+use Rattle.doc_texts.specs.Texts.{Texts, text_at, version_at, paths_of}
+use Rattle.project_conf.specs.Entries.{is_unit}
 use Rattle.project_conf.specs.declared.conf.Conf.{Conf}
 use Rattle.plain_mean.specs.Meanings.{meaning}
 use Rattle.plain_mean.specs.Messages.{message}
@@ -16,16 +17,20 @@ use Rattle.plain_mean.specs.declared.types.Shown.{Shown}
 
 -- ---- units
 
--- a C source is a unit
-abbrev pub is_source : List ℕ → Bool
-is_source path = ends_with nat_eq path (codes ".c")
+-- a document is open at a path
+abbrev pub is_open : Texts → List ℕ → Bool
+is_open texts path = is_some (version_at texts path)
+
+-- a text at a path is a unit
+abbrev pub is_unit_of : Texts → Conf → List ℕ → Bool
+is_unit_of texts conf path = is_unit conf.database (is_open texts path) path
 
 -- the units of the texts, in order of path: own limit, so many are read
 abbrev pub most_units : ℕ
 most_units = 1024
 
-unfoldable pub units : Texts → List (List ℕ)
-units texts = take most_units (filter is_source (paths_of texts))
+unfoldable pub units : Texts → Conf → List (List ℕ)
+units texts conf = take most_units (filter (is_unit_of texts conf) (paths_of texts))
 
 -- ---- order
 
@@ -79,10 +84,10 @@ of_file (Some text) faults read = of_text text faults read
 -- ---- all units
 
 abbrev pub faults_of : Texts → Conf → List ShownFault
-faults_of texts conf = flat_map (λ unit. (meaning texts conf unit).faults) (units texts)
+faults_of texts conf = flat_map (λ unit. (meaning texts conf unit).faults) (units texts conf)
 
 abbrev pub reads_of : Texts → Conf → List (List ℕ)
-reads_of texts conf = flat_map (λ unit. (meaning texts conf unit).reads) (units texts)
+reads_of texts conf = flat_map (λ unit. (meaning texts conf unit).reads) (units texts conf)
 
 -- a file without a text shows nothing
 unfoldable pub shown : Texts → Conf → List ℕ → List Shown

@@ -8,15 +8,17 @@ mod lexings;
 mod lists;
 mod meaning;
 mod messages;
+mod reading;
 mod shown;
 mod sites;
 mod types;
 mod units;
 
-pub use confs::conf_of;
+pub use confs::{conf_of, database_fault, database_path};
 pub use laws::shown_follows;
 pub use lexings::Lexings;
 pub use lists::{ShownLists, shown_lists};
 pub use meaning::mean;
 pub use messages::is_warning;
+pub use reading::Reading;
 pub use types::{Shown, ShownFaults, ShownList, UnitMeaning};

@@ -2,15 +2,16 @@
 ghost use Rattle.std.specs.Prelude.{◌≡◌, ℕ, ◌+◌, ◌||◌, false, List, [], ◌∷◌, ◌++◌, length, flat_map, bytes_eq, IfOk, OnOk, if◌then◌else◌};
 ghost use Rattle.std.specs.List.{filter, list_any};
 ghost use Rattle.doc_texts.specs.Texts.{text_at};
-ghost use Rattle.project_conf.specs.Defines.{AreUsable};
 ghost use Rattle.plain_mean.specs.Meanings.{meaning};
+ghost use Rattle.plain_mean.specs.Confs.{IsUsable};
 ghost use Rattle.plain_mean.specs.Given.{text_in};
-ghost use Rattle.plain_mean.specs.Shown.{falls_on, is_source, of_file, units};
+ghost use Rattle.plain_mean.specs.Shown.{falls_on, is_unit_of, of_file, units};
 ghost use Rattle.plain_mean.specs.Lists.{AreShown, faults_at, has_read, shown_in};
 ghost use Rattle.plain_mean.specs.Within.{AreWithin};
 
 use crate::lexings::Lexings;
 use crate::meaning::mean;
+use crate::reading::Reading;
 use crate::shown::of_text;
 use crate::types::{Shown, ShownFaults, ShownList};
 use doc_texts::{Docs, paths_are_sets};
@@ -132,20 +133,20 @@ struct Found {
     reads: Reads,
 }
 
-fn is_source(path: &Path) -> bool
-    ensures { result ≡ is_source path.now }
-{
-    path.as_str().as_bytes().ends_with(b".c")
-}
-
-fn sources(alloc: Global, paths: &[Path]) -> Result<Vec<Path>, AllocError>
-    ensures { IfOk result (λ units. units.items ≡ filter is_source paths.now) }
+// Those of the paths that are units.
+fn chosen(
+    alloc: Global,
+    docs: &Docs,
+    reading: &Reading<'_>,
+    paths: &[Path],
+) -> Result<Vec<Path>, AllocError>
+    ensures { IfOk result (λ units. units.items ≡ filter (is_unit_of docs.now reading.now) paths.now) }
 {
     let mut out = Vec::new(alloc);
     let mut rest = paths;
     'paths: while let Some((path, behind)) = rest.split_first() {
         rest = behind;
-        if !is_source(path) {
+        if !reading.is_unit(docs, path) {
             continue;
         }
         out.push(path.share()?)?;
@@ -154,11 +155,11 @@ fn sources(alloc: Global, paths: &[Path]) -> Result<Vec<Path>, AllocError>
 }
 
 #[tactic(auto, unfolding(crate::specs::Shown::units))]
-fn units(alloc: Global, docs: &Docs) -> Result<Vec<Path>, AllocError>
-    ensures { IfOk result (λ list. list.items ≡ units docs.now) }
+fn units(alloc: Global, docs: &Docs, reading: &Reading<'_>) -> Result<Vec<Path>, AllocError>
+    ensures { IfOk result (λ list. list.items ≡ units docs.now reading.now) }
 {
     let paths = docs.paths()?;
-    let mut units = sources(alloc, paths.as_slice())?;
+    let mut units = chosen(alloc, docs, reading, paths.as_slice())?;
     units.truncate(1024);
     Ok(units)
 }
@@ -166,13 +167,12 @@ fn units(alloc: Global, docs: &Docs) -> Result<Vec<Path>, AllocError>
 fn found_in<L: Ledger>(
     alloc: Global,
     lexings: &mut Lexings<'_>,
-    conf: &Conf,
+    reading: &Reading<'_>,
     units: &[Path],
     steps: &mut Steps<L>,
 ) -> Result<Found, AllocError>
-    requires { AreUsable 268435456 conf.now.defines }
-    ensures faults { IfOk result (λ found. (q : List ℕ) → faults_at found.faults q ≡ filter (falls_on q) (flat_map (λ unit. (meaning lexings.old conf.now unit).faults) units.now)) }
-    ensures reads { IfOk result (λ found. (q : List ℕ) → has_read found.reads q ≡ list_any (bytes_eq q) (flat_map (λ unit. (meaning lexings.old conf.now unit).reads) units.now)) }
+    ensures faults { IfOk result (λ found. (q : List ℕ) → faults_at found.faults q ≡ filter (falls_on q) (flat_map (λ unit. (meaning lexings.old reading.now unit).faults) units.now)) }
+    ensures reads { IfOk result (λ found. (q : List ℕ) → has_read found.reads q ≡ list_any (bytes_eq q) (flat_map (λ unit. (meaning lexings.old reading.now unit).reads) units.now)) }
     ensures same { lexings.new ≡ lexings.old }
     ensures steps { OnOk result (steps.new ≡ steps.old + length units.now) }
 {
@@ -181,7 +181,7 @@ fn found_in<L: Ledger>(
     let mut rest = units;
     'units: while let Some((unit, behind)) = rest.split_first() {
         rest = behind;
-        let meant = mean(alloc, lexings, conf, unit, steps)?;
+        let meant = mean(alloc, lexings, reading, unit, steps)?;
         faults.add_all(meant.faults.into_vec())?;
         reads.add_all(meant.reads.into_vec())?;
     }
@@ -266,22 +266,24 @@ fn listed(
     Ok(lists)
 }
 
-/// What each file of the texts shows, each unit worked out once, which is one step each. Names of definitions are identifiers,
-/// and their names and texts have together at most 2^28 bytes. It fails as `mean` does.
+/// What each file of the texts shows, each unit worked out once, which is one step each. Names of definitions are identifiers; those of
+/// the words have together at most 131,072 bytes of names and texts, and those of an entry of the database 2^25. Beside the units it
+/// costs the texts' paths and the database's entries. It fails as `mean` does.
 pub fn shown_lists<L: Ledger>(
     alloc: Global,
     docs: &Docs,
     conf: &Conf,
     steps: &mut Steps<L>,
 ) -> Result<ShownLists, AllocError>
-    requires { AreUsable 268435456 conf.now.defines }
+    requires { IsUsable conf.now }
     ensures shown { IfOk result (λ lists. AreShown docs.now conf.now lists) }
-    ensures steps { OnOk result (steps.new ≡ steps.old + length (units docs.now)) }
+    ensures steps { OnOk result (steps.new ≡ steps.old + length (units docs.now conf.now)) }
 {
     paths_are_sets();
-    let units = units(alloc, docs)?;
+    let reading = Reading::of(alloc, conf)?;
+    let units = units(alloc, docs, &reading)?;
     let mut lexings = Lexings::new(alloc, docs);
-    let found = found_in(alloc, &mut lexings, conf, units.as_slice(), steps)?;
+    let found = found_in(alloc, &mut lexings, &reading, units.as_slice(), steps)?;
     let paths = docs.paths()?;
     let lists = listed(alloc, &mut lexings, &found, paths.as_slice())?;
     Ok(lists)

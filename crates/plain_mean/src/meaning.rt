@@ -1,34 +1,19 @@
 // What a unit means, worked out anew.
 ghost use Rattle.std.specs.Prelude.{◌≡◌, ◌+◌, map, IfOk};
-ghost use Rattle.project_conf.specs.Defines.{AreUsable};
-ghost use Rattle.plain_mean.specs.Meanings.{unit_conf, shown_fault, meant_by, meaning};
+ghost use Rattle.plain_mean.specs.Meanings.{shown_fault, meant_by, meaning};
 
-use crate::confs::{copied_defines, copied_paths};
 use crate::lexings::Lexings;
 use crate::messages::message;
+use crate::reading::Reading;
 use crate::sites::{all_reached, site};
 use crate::types::{ShownFaults, UnitMeaning};
 use crate::units::tokens_over;
 use include_units::{Entered, UnitTokens};
-use project_conf::{Conf, UnitConf};
 use std::alloc::{AllocError, Global};
 use std::sync::ledger::Ledger;
 use steps::Steps;
 use tok_data::{PpFault, ShownFault};
 use uri_paths::Path;
-
-fn unit_conf(alloc: Global, conf: &Conf, unit: &Path) -> Result<UnitConf, AllocError>
-    ensures { IfOk result (λ c. c ≡ unit_conf conf.now unit.now) }
-{
-    let file = unit.share()?;
-    let includes = copied_paths(alloc, conf.includes.as_slice())?;
-    let defines = copied_defines(alloc, conf.defines.as_slice())?;
-    Ok(UnitConf {
-        file,
-        includes,
-        defines,
-    })
-}
 
 fn shown_fault(
     alloc: Global,
@@ -73,24 +58,22 @@ fn meant_by(alloc: Global, tokens: UnitTokens) -> Result<UnitMeaning, AllocError
     })
 }
 
-/// What a unit means over the texts of a session, worked out anew but for what was lexed, which is one step. Names of definitions are identifiers, and
-/// their names and texts have together at most 2^28 bytes. A path without a text counts as one that isn't there, and the unit's
+/// What a unit means over the texts of a session, worked out anew but for what was lexed, which is one step. A path without a text counts as one that isn't there, and the unit's
 /// own path without a text as an empty text. It fails for want of memory, and after 2^64-1 rounds of questions, whose answers no
 /// memory holds.
 pub fn mean<L: Ledger>(
     alloc: Global,
     lexings: &mut Lexings<'_>,
-    conf: &Conf,
+    reading: &Reading<'_>,
     unit: &Path,
     steps: &mut Steps<L>,
 ) -> Result<UnitMeaning, AllocError>
-    requires { AreUsable 268435456 conf.now.defines }
-    ensures meaning { IfOk result (λ m. m ≡ meaning lexings.old conf.now unit.now) }
+    ensures meaning { IfOk result (λ m. m ≡ meaning lexings.old reading.now unit.now) }
     ensures same { lexings.new ≡ lexings.old }
     ensures steps { steps.new ≡ steps.old + 1 }
 {
     steps.tick();
-    let conf = unit_conf(alloc, conf, unit)?;
+    let conf = reading.unit_conf(alloc, unit)?;
     let tokens = tokens_over(alloc, lexings, &conf)?;
     let meant = meant_by(alloc, tokens)?;
     Ok(meant)

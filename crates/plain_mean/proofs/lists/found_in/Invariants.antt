@@ -7,10 +7,10 @@ use Rattle.plain_mean.proofs.lists.found_in.Given as goal
 
 abbrev pub invariant-units : goal.invariant-units
 invariant-units g l = record {
-  faults : (q : List ℕ) → faults_at l.faults q ++ filter (falls_on q) (flat_map (λ unit. (meaning l.lexings l.conf unit).faults) l.rest)
-      ≡ filter (falls_on q) (flat_map (λ unit. (meaning l.fn.lexings l.fn.conf unit).faults) l.fn.units);
-  reads : (q : List ℕ) → (has_read l.reads q || list_any (bytes_eq q) (flat_map (λ unit. (meaning l.lexings l.conf unit).reads) l.rest))
-      ≡ list_any (bytes_eq q) (flat_map (λ unit. (meaning l.fn.lexings l.fn.conf unit).reads) l.fn.units);
+  faults : (q : List ℕ) → faults_at l.faults q ++ filter (falls_on q) (flat_map (λ unit. (meaning l.lexings l.reading unit).faults) l.rest)
+      ≡ filter (falls_on q) (flat_map (λ unit. (meaning l.fn.lexings l.fn.reading unit).faults) l.fn.units);
+  reads : (q : List ℕ) → (has_read l.reads q || list_any (bytes_eq q) (flat_map (λ unit. (meaning l.lexings l.reading unit).reads) l.rest))
+      ≡ list_any (bytes_eq q) (flat_map (λ unit. (meaning l.fn.lexings l.fn.reading unit).reads) l.fn.units);
   same : l.lexings ≡ l.fn.lexings;
   steps : l.steps + length l.rest ≡ l.fn.steps + length l.fn.units;
 }

@@ -10,11 +10,12 @@ use Rattle.plain_mean.proofs.lists.shown_lists.Goals as goal
 pub returns-clause-shown : goal.returns-clause-shown
 returns-clause-shown g c =
     let same = c.in_ok-found.ensures.same ∙ c.new-lexings.ensures in
+    let chosen = c.as_slice.ensures.value ∙ c.in_ok-units.ensures ∙ (λ i. units (sym same i) (c.in_ok-reading.ensures i)) in
     subst (λ t. AreShown t c.args.conf.now c.in_ok-lists.lists) same (record {
       right = λ q. all_right c.found_in.new.lexings c.args.conf.now q (list_any (bytes_eq q) c.as_slice-2.result.now) (has_read c.in_ok-found.found.reads q) (faults_at c.in_ok-found.found.faults q) (shown_in c.in_ok-lists.lists q)
           (c.in_ok-lists.ensures.listed q)
           (ap (list_any (bytes_eq q)) (c.as_slice-2.ensures.value ∙ c.in_ok-paths.ensures) ∙ c.paths_are_sets.ensures.members c.args.docs.now q ∙ ap (λ t. is_some (text_at t q)) (sym same))
-          (c.in_ok-found.ensures.faults q ∙ (λ i. filter (falls_on q) (flat_map (λ unit. (meaning (sym c.in_ok-found.ensures.same i) c.args.conf.now unit).faults) ((c.as_slice.ensures.value ∙ c.in_ok-units.ensures ∙ ap units (sym same)) i))))
-          (c.in_ok-found.ensures.reads q ∙ (λ i. list_any (bytes_eq q) (flat_map (λ unit. (meaning (sym c.in_ok-found.ensures.same i) c.args.conf.now unit).reads) ((c.as_slice.ensures.value ∙ c.in_ok-units.ensures ∙ ap units (sym same)) i))));
+          (c.in_ok-found.ensures.faults q ∙ (λ i. filter (falls_on q) (flat_map (λ unit. (meaning (sym c.in_ok-found.ensures.same i) (c.in_ok-reading.ensures i) unit).faults) (chosen i))))
+          (c.in_ok-found.ensures.reads q ∙ (λ i. list_any (bytes_eq q) (flat_map (λ unit. (meaning (sym c.in_ok-found.ensures.same i) (c.in_ok-reading.ensures i) unit).reads) (chosen i))));
       within = c.in_ok-lists.ensures.within;
     })
