@@ -12,6 +12,7 @@ pub mod Remembered
 pub mod Responding
 pub mod Responses
 pub mod Telling
+pub mod Turning
 pub mod Unchanged
 pub mod Unlike
 pub mod Usable

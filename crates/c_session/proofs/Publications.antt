@@ -1,5 +1,5 @@
 -- What is written by what is kept of an earlier moment is what is published, file by file.
-use Rattle.std.proofs.Common.{◌≡◌, ℕ, Bool, true, false, not, List, [], ◌∷◌, ◌++◌, flat_map, ◌||◌, Option, Some, None, is_some, sym, refl, ap, ◌∙◌, true≢false, bytes_eq}
+use Rattle.std.proofs.Common.{◌≡◌, ℕ, Bool, true, false, not, cond, List, [], ◌∷◌, ◌++◌, flat_map, ◌||◌, Option, Some, None, is_some, sym, refl, ap, ◌∙◌, true≢false, bytes_eq}
 use Rattle.std.specs.FinMap.{get, keys}
 use Rattle.std.specs.List.{list_any, filter}
 use Rattle.std.specs.Option.{option_map_or}
@@ -7,8 +7,9 @@ use Rattle.std.proofs.lemmas.Bool.{or_right}
 use Rattle.std.proofs.lemmas.Slice.Eq.{bytes_eq-Decides}
 use Rattle.doc_texts.specs.Texts.{Texts, text_at, same_text, path_set, paths_of, marked, add_all}
 use Rattle.doc_texts.specs.Prior.{Prior, is_changed}
-use Rattle.c_session.specs.Ties.News.{IsPrior, ByPath, is_told, news, may_have_news}
-use Rattle.c_session.specs.Shown.{shows, has_news, is_published, publication, publications}
+use Rattle.plain_mean.specs.Confs.{database_path, database_fault}
+use Rattle.c_session.specs.Ties.News.{IsPrior, ByPath, is_told, news, may_have_news, database_news, tidings}
+use Rattle.c_session.specs.Shown.{shows, has_news, is_published, publication, publications, fault_log, database_logs}
 use Rattle.c_session.specs.State.{State}
 use Rattle.c_session.proofs.Nothing.{nothing_of}
 use Rattle.c_session.proofs.PathSets.{ties, keys_rise, same_filtered, flat_map_tested, has_path_of_two, has_kept}
@@ -77,13 +78,24 @@ module _ (touched : List (List ℕ)) (s s' : State) (there : (q : List ℕ) → 
         (same_filtered (is_published touched s s') (may_have_news prior s'.texts) (path_set (paths_of s.texts ++ paths_of s'.texts))
         (keys_rise (add_all (marked (keys prior)) (paths_of s'.texts))) (keys_rise (marked (paths_of s.texts ++ paths_of s'.texts))) alike)
 
+-- ---- the database
+
+-- whether its text differs is told by what is remembered
+database_told : (s s' : State) (prior : Prior) → IsPrior s.texts prior s'.texts → database_news prior s'.texts ≡ database_logs s s'
+unfolding database_news database_logs
+database_told s s' prior is =
+    λ i. cond (option_map_or (λ path. changed prior s.texts s'.texts is path i) (database_path s'.texts.root) false) (fault_log (database_fault s'.texts)) []
+
+-- ---- all that is told
+
 none_touched : (t : Texts) (q : List ℕ) → list_any (bytes_eq q) [] ≡ true → is_some (text_at t q) ≡ true
 none_touched t q among = absurd (true≢false (sym among))
 
 -- where nothing was opened or changed
 pub news_told : (s s' : State) (prior : Prior) (before after : ByPath) → IsPrior s.texts prior s'.texts → ((path : List ℕ) → before path ≡ shows s path) → ((path : List ℕ) → after path ≡ shows s' path) →
-    news [] s'.encoding before after prior s'.texts ≡ publications [] s s'
-news_told s s' prior before after is was are = news_published [] s s' (none_touched s'.texts) prior is before after was are
+    tidings [] s'.encoding before after prior s'.texts ≡ database_logs s s' ++ publications [] s s'
+news_told s s' prior before after is was are =
+    λ i. database_told s s' prior is i ++ news_published [] s s' (none_touched s'.texts) prior is before after was are i
 
 one_touched : (t : Texts) (path q : List ℕ) (b : Bool) → bytes_eq q path ≡ b → is_some (text_at t path) ≡ true → (b || false) ≡ true → is_some (text_at t q) ≡ true
 one_touched t path q true same some among = ap (λ x. is_some (text_at t x)) ((bytes_eq-Decides q path).0 same) ∙ some
@@ -92,6 +104,6 @@ one_touched t path q false same some among = absurd (true≢false (sym among))
 -- where a document was, which has a text
 pub touched_told : (s s' : State) (path : List ℕ) (prior : Prior) (before after : ByPath) → is_some (text_at s'.texts path) ≡ true → IsPrior s.texts prior s'.texts →
     ((path : List ℕ) → before path ≡ shows s path) → ((path : List ℕ) → after path ≡ shows s' path) →
-    news (path ∷ []) s'.encoding before after prior s'.texts ≡ publications (path ∷ []) s s'
+    tidings (path ∷ []) s'.encoding before after prior s'.texts ≡ database_logs s s' ++ publications (path ∷ []) s s'
 touched_told s s' path prior before after some is was are =
-    news_published (path ∷ []) s s' (λ q among. one_touched s'.texts path q (bytes_eq q path) refl some among) prior is before after was are
+    λ i. database_told s s' prior is i ++ news_published (path ∷ []) s s' (λ q among. one_touched s'.texts path q (bytes_eq q path) refl some among) prior is before after was are i

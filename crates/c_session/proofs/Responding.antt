@@ -23,7 +23,10 @@ use Rattle.c_session.specs.declared.params.FileChangeKind.TheVariants.{Created, 
 use Rattle.c_session.specs.Reasons.{Reason, ByTexts, by_uri}
 use Rattle.c_session.specs.Replies.{log}
 use Rattle.c_session.specs.Responses.{IsNotice, Logs, Publishes, AreNotices}
-use Rattle.c_session.specs.Shown.{uri_for, shows, publication, published_paths, publications}
+use Rattle.project_conf.specs.Entries.{refusal}
+use Rattle.project_conf.specs.declared.database.ConfError.{ConfError}
+use Rattle.plain_mean.specs.Confs.{database_fault}
+use Rattle.c_session.specs.Shown.{uri_for, shows, publication, published_paths, publications, fault_log, database_differs, database_logs}
 use Rattle.c_session.specs.State.{State}
 use Rattle.plain_mean.specs.declared.types.Shown.{Shown}
 
@@ -80,8 +83,21 @@ each_published s (path ∷ paths) =
     (one_notice (publication s.encoding s.texts (shows s path) path) (publication_notice s.encoding s.texts (shows s path) path))
     (each_published s paths)
 
-pub publications_notices : (touched : List (List ℕ)) (s s' : State) → AreNotices (publications touched s s')
+publications_notices : (touched : List (List ℕ)) (s s' : State) → AreNotices (publications touched s s')
 publications_notices touched s s' = each_published s' (published_paths touched s s')
+
+fault_notices : (differs : Bool) (fault : Option ConfError) → AreNotices (cond differs (fault_log fault) [])
+fault_notices false fault = no_notice
+fault_notices true None = no_notice
+fault_notices true (Some e) = log_notice (codes "compile_commands: " ++ refusal e)
+
+database_notices : (s s' : State) → AreNotices (database_logs s s')
+unfolding database_logs
+database_notices s s' = fault_notices (database_differs s s') (database_fault s'.texts)
+
+-- what is told of other texts
+pub tidings_notices : (touched : List (List ℕ)) (s s' : State) → AreNotices (database_logs s s' ++ publications touched s s')
+tidings_notices touched s s' = more_notices (database_logs s s') (publications touched s s') (database_notices s s') (publications_notices touched s s')
 
 -- ---- log messages of files that are read
 

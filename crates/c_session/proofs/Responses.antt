@@ -18,12 +18,12 @@ use Rattle.c_session.specs.React.{Outcome, tells, is_quiet, has_texts, invalid_r
 use Rattle.c_session.specs.Reasons.{Reason, reason_text, by_params}
 use Rattle.c_session.specs.Replies.{response, error, log, initialize_result}
 use Rattle.c_session.specs.Responses.{IsResponse, HasResult, HasError, AreNotices, IsResponded, IsAnswered, IsExit, is_edit, IsRefusal, Fails, Logs}
-use Rattle.c_session.specs.Shown.{publications}
+use Rattle.c_session.specs.Shown.{publications, database_logs}
 use Rattle.c_session.specs.State.{State, in_phase, with_texts}
 use Rattle.c_session.specs.declared.phase.Phase.{Phase}
 use Rattle.c_session.specs.declared.phase.Phase.TheVariants.{Fresh, Running, Down}
-use Rattle.c_session.proofs.Responding.{Each, each_then, each_if, each_if_by, no_notice, more_notices, log_notice, publications_notices, Logged, LogsLoad, KeepsRefused, root_logged, read_back_logged, read_back_logs, changes_logged, change_keeps}
-use Rattle.c_session.proofs.Unlike.{no_notices, no_error, no_log, no_closing}
+use Rattle.c_session.proofs.Responding.{Each, each_then, each_if, each_if_by, no_notice, more_notices, log_notice, tidings_notices, Logged, LogsLoad, KeepsRefused, root_logged, read_back_logged, read_back_logs, changes_logged, change_keeps}
+use Rattle.c_session.proofs.Unlike.{no_notices, no_error, no_closing, no_refusal}
 
 -- ---- what an outcome has to be, by the message
 
@@ -88,13 +88,13 @@ begun : (s : State) (id : Id) (encoding : Encoding) (l : Loading) → Logged l �
 begun s id encoding l logged =
     let answer = response id (initialize_result encoding) in
     let s' : State = record { options = s.options; texts = l.texts; encoding = encoding; phase = Running } in
-    let shown = publications [] s s' in
+    let shown = database_logs s s' ++ publications [] s s' in
     record {
       answers = record {
         first = answer;
         rest = l.logs ++ shown;
         responds = HasResult id (initialize_result encoding) refl refl;
-        notices = more_notices l.logs shown logged (publications_notices [] s s');
+        notices = more_notices l.logs shown logged (tidings_notices [] s s');
         joined = append_assoc answer l.logs shown;
       };
       goes_on = refl;
@@ -139,7 +139,7 @@ refused s method named text = record { answers = log_notice _; goes_on = refl; k
 
 new_notices : (s s' : State) (logs : List ℕ) (touched : List (List ℕ)) → AreNotices logs → AreNotices (has_texts s s' [] logs touched).bytes
 new_notices s s' logs touched logged =
-    more_notices logs (publications touched s s') logged (publications_notices touched s s')
+    more_notices logs (database_logs s s' ++ publications touched s s') logged (tidings_notices touched s s')
 
 edits_notify : (s : State) (method named : List ℕ) (r : Result Edited Reason) → Notifies s method (edits s named r)
 edits_notify s method named (Ok e) =
@@ -147,18 +147,18 @@ edits_notify s method named (Ok e) =
     record {
       answers = new_notices s s' [] (e.path ∷ []) no_notice;
       goes_on = refl;
-      kept = λ text edit is. absurd (no_log (e.path ∷ []) s s' (method ++ codes ": " ++ text) is);
+      kept = λ text edit is. absurd (no_refusal (e.path ∷ []) s s' method text edit is);
     }
 edits_notify s method named (Err r) = refused s method named (reason_text r)
 
 -- what was logged where a document was closed is no refusal of that
-loaded_no_closing : (s s' : State) (l : Loading) (method text : List ℕ) → method ≡ did_close → LogsLoad l →
+loaded_no_closing : (s s' : State) (l : Loading) (method text : List ℕ) → method ≡ did_close → is_edit method ≡ true → LogsLoad l →
     (has_texts s s' [] l.logs []).bytes ≡ log (method ++ codes ": " ++ text) → ⊥
-loaded_no_closing s s' l method text closes logs is =
-    let shown = publications [] s s' in
+loaded_no_closing s s' l method text closes edit logs is =
+    let shown = database_logs s s' ++ publications [] s s' in
     let closing : l.logs ++ shown ≡ log (did_close ++ codes ": " ++ text) = is ∙ ap (λ (m : List ℕ). log (m ++ codes ": " ++ text)) closes in
     elim logs [
-      | inl none ↦ no_log [] s s' (did_close ++ codes ": " ++ text) (ap (λ (xs : List ℕ). xs ++ shown) (sym none) ∙ closing)
+      | inl none ↦ no_refusal [] s s' method text edit (ap (λ (xs : List ℕ). xs ++ shown) (sym none) ∙ is)
       | inr load ↦ no_closing load.0 shown text (ap (λ (xs : List ℕ). xs ++ shown) (sym load.1) ∙ closing)
     ]
 
@@ -175,7 +175,7 @@ closes_notify s method (Ok e) is =
     (λ l known. record {
       answers = new_notices s (with_texts l.texts s) l.logs [] known.0;
       goes_on = refl;
-      kept = λ text edit same. absurd (loaded_no_closing s (with_texts l.texts s) l method text is known.1 same);
+      kept = λ text edit same. absurd (loaded_no_closing s (with_texts l.texts s) l method text is edit known.1 same);
     })
 closes_notify s method (Err r) is = refused s method did_close (reason_text r)
 
@@ -414,6 +414,10 @@ all_keep : {A : Type 0} (P : A → Type 0) (t next : Asking A) (xs : List Entry)
     Each P t → Each P next
 all_keep P t next [] e h = subst (Each P) (some_is t next e) h
 all_keep P t next (x ∷ xs) e h = all_behind P t (after_one t x) next x xs (λ s. all_keep P s next xs) refl e h
+
+-- what holds of each result holds of the one that was reached
+pub reached_each : {A : Type 0} (P : A → Type 0) (t : Asking A) (x : A) (old new : Option (List Entry)) → Reached t (Gives x) old new → Each P t → P x
+reached_each P t x old new r h = all_keep P t (Gives x) r.added r.follows h
 
 handled_fits : (s : State) (content : List ℕ) (o : Outcome) (old new : Option (List Entry)) → Reached (asks s content) (Gives o) old new → Fits s (message content) o
 handled_fits s content o old new r = all_keep (Fits s (message content)) (asks s content) (Gives o) r.added r.follows (asks_fits s content)

@@ -1,5 +1,5 @@
 -- What the reply to a message is made of.
-use Rattle.std.proofs.Common.{◌≡◌, ◌≢◌, ℕ, List, [], ◌++◌, Option, Some, Result, Ok, Err, true, is_some, T, IfOk, refl, sym, ap, ◌∙◌, subst, codes}
+use Rattle.std.proofs.Common.{◌≡◌, ◌≢◌, ℕ, List, [], ◌++◌, Option, Some, Result, Ok, Err, true, false, is_some, T, IfOk, refl, sym, ap, ◌∙◌, subst, codes}
 use Rattle.std.specs.Cmp.Lexicographic.{slice_cmp}
 use Rattle.std.specs.FinMap.{empty, get-empty}
 use Rattle.std.specs.Ordering.{nat_cmp}
@@ -8,7 +8,7 @@ use Rattle.io_edges.specs.Store.{Entry}
 use Rattle.text_lines.specs.declared.encoding.Encoding.{Encoding}
 use Rattle.uri_paths.specs.Uris.{path_of_uri}
 use Rattle.doc_texts.specs.Texts.{Texts, text_at}
-use Rattle.doc_texts.specs.Docs.{opened, changed}
+use Rattle.doc_texts.specs.Docs.{opened, changed, closed}
 use Rattle.doc_texts.specs.Prior.{Prior, remembered}
 use Rattle.doc_texts.specs.declared.error.DocError.{DocError}
 use Rattle.c_session.specs.Asking.{Asking, Gives, and_then}
@@ -16,13 +16,13 @@ use Rattle.json_view.specs.declared.id.Id.{Id}
 use Rattle.c_session.specs.Handled.{Reached}
 use Rattle.c_session.specs.Ties.Interrupted.{Refused, GaveUp}
 use Rattle.c_session.specs.Loading.{Loading, read_back, updates_all, loads_root, did_change_watched}
-use Rattle.c_session.specs.Ties.News.{IsPrior, KeepsPrior, ByPath, HasPublished, news}
+use Rattle.c_session.specs.Ties.News.{IsPrior, KeepsPrior, ByPath, HasPublished, tidings}
 use Rattle.c_session.specs.Params.{FileChange, opening_in, changing_in}
-use Rattle.c_session.specs.React.{Outcome, Edited, tells, has_texts, edits, opened_by, changed_by, closes, did_close, watches, Beginning, begins, starts, on_message, asks}
+use Rattle.c_session.specs.React.{Outcome, Edited, tells, has_texts, edits, opened_by, changed_by, closing_path, closed_by, closes, did_close, watches, Beginning, begins, starts, on_message, asks}
 use Rattle.c_session.specs.Message.{Message, value_of, of_read}
 use Rattle.c_session.specs.Reasons.{Reason, reason_text, by_params, by_uri, by_texts, if_ok}
 use Rattle.c_session.specs.Ties.Refused.{reason, Answers, Leaves, edited, IsReply, IsBehind}
-use Rattle.c_session.specs.Ties.Sessions.{current_state, IsKept}
+use Rattle.c_session.specs.Ties.Sessions.{Turned, SameOpen, Shifts, shifted_by, current_state, IsKept}
 use Rattle.c_session.specs.declared.current.Current.{Current}
 use Rattle.plain_mean.specs.Lists.{shown_in}
 use Rattle.c_session.specs.Replies as Replies
@@ -34,7 +34,7 @@ use Rattle.c_session.specs.declared.error.SessionError.{SessionError}
 use Rattle.c_session.specs.declared.reasons.Refusal.{Refusal}
 use Rattle.c_session.specs.declared.reasons.Refusal.TheVariants.{NoMemory}
 use Rattle.c_session.proofs.Asking.{goes_then, gave_up, reached_same, refused_then}
-use Rattle.c_session.proofs.Priors.{IsEdit, opened_edits, changed_edits, keeps_prior}
+use Rattle.c_session.proofs.Priors.{IsEdit, opened_edits, changed_edits, keeps_prior, opened_turns, changed_open, closed_turns}
 use Rattle.c_session.proofs.Publications.{news_told, touched_told}
 
 -- ---- steps that weren't refused
@@ -89,6 +89,42 @@ changing_edits t t' encoding params path is =
     let d : WentOn (by_texts (changed t p.value o.value.version o.value.changes encoding)) (λ texts. Ok (edited texts p.value)) (edited t' path) = went_on _ _ _ p.second in
     subst (λ (e : Edited). IsEdit e.path t e.texts) (same_edit (edited d.value p.value) (edited t' path) d.second)
     (changed_edits t d.value p.value o.value.version o.value.changes encoding (texts_came _ d.value d.first))
+
+-- ---- which documents are open then
+
+opening_turns : (t t' : Texts) (params : Option Data) (path : List ℕ) → opened_by t params ≡ Ok (edited t' path) → Turned path t t'
+unfolding opened_by
+opening_turns t t' params path is =
+    let o : WentOn (by_params (opening_in params)) _ (edited t' path) = went_on _ _ _ is in
+    let p : WentOn (by_uri (path_of_uri o.value.uri)) _ (edited t' path) = went_on _ _ _ o.second in
+    let d : WentOn (by_texts (opened t p.value o.value.uri o.value.version o.value.text)) (λ texts. Ok (edited texts p.value)) (edited t' path) = went_on _ _ _ p.second in
+    subst (λ (e : Edited). Turned e.path t e.texts) (same_edit (edited d.value p.value) (edited t' path) d.second)
+    (opened_turns t d.value p.value o.value.uri o.value.version o.value.text (texts_came _ d.value d.first))
+
+changing_opens : (t t' : Texts) (encoding : Encoding) (params : Option Data) (path : List ℕ) → changed_by t encoding params ≡ Ok (edited t' path) → SameOpen t t'
+unfolding changed_by
+changing_opens t t' encoding params path is =
+    let o : WentOn (by_params (changing_in params)) _ (edited t' path) = went_on _ _ _ is in
+    let p : WentOn (by_uri (path_of_uri o.value.uri)) _ (edited t' path) = went_on _ _ _ o.second in
+    let d : WentOn (by_texts (changed t p.value o.value.version o.value.changes encoding)) (λ texts. Ok (edited texts p.value)) (edited t' path) = went_on _ _ _ p.second in
+    subst (λ (e : Edited). SameOpen t e.texts) (same_edit (edited d.value p.value) (edited t' path) d.second)
+    (changed_open t d.value p.value o.value.version o.value.changes encoding (texts_came _ d.value d.first))
+
+pub closing_turns : (t t' : Texts) (params : Option Data) (path : List ℕ) → closed_by t params ≡ Ok (edited t' path) → Turned path t t'
+closing_turns t t' params path is =
+    let p : WentOn (closing_path params) _ (edited t' path) = went_on _ _ _ is in
+    let d : WentOn (by_texts (closed t p.value)) (λ texts. Ok (edited texts p.value)) (edited t' path) = went_on _ _ _ p.second in
+    subst (λ (e : Edited). Turned e.path t e.texts) (same_edit (edited d.value p.value) (edited t' path) d.second)
+    (closed_turns t d.value p.value (texts_came _ d.value d.first))
+
+pub opening_shifts : (t t' : Texts) (params : Option Data) (r : Result (List ℕ) Refusal) → IfOk r (λ path. opened_by t params ≡ Ok (edited t' path) → Shifts (shifted_by true path) t t')
+opening_shifts t t' params (Ok path) = opening_turns t t' params path
+opening_shifts t t' params (Err e) = tt
+
+pub changing_shifts : (t t' : Texts) (encoding : Encoding) (params : Option Data) (r : Result (List ℕ) Refusal) →
+    IfOk r (λ path. changed_by t encoding params ≡ Ok (edited t' path) → Shifts (shifted_by false path) t t')
+changing_shifts t t' encoding params (Ok path) = changing_opens t t' encoding params path
+changing_shifts t t' encoding params (Err e) = tt
 
 -- ---- what was remembered
 
@@ -163,7 +199,7 @@ changing_prior t t' encoding params (Err e) none prior nothing is = tt
 -- texts were loaded, and the reply tells what that changed
 published_at : (s : State) (t : Texts) (asking : Asking Loading) (bytes logs : List ℕ) (prior : Prior) (before after : ByPath) (old new : Option (List Entry)) →
     Reached asking (Gives (record { texts = t; logs = logs })) old new → IsPrior s.texts prior t → ShowsAll s before → ShowsAll (with_texts t s) after →
-    bytes ≡ logs ++ news [] s.encoding before after prior t →
+    bytes ≡ logs ++ tidings [] s.encoding before after prior t →
     Reached (and_then asking (λ l. Gives (has_texts s (with_texts l.texts s) [] l.logs []))) (Gives (tells (with_texts t s) bytes)) old new
 published_at s t asking bytes logs prior before after old new reached is was are wrote =
     subst (λ o. Reached (and_then asking (λ l. Gives (has_texts s (with_texts l.texts s) [] l.logs []))) (Gives o) old new)
@@ -172,7 +208,7 @@ published_at s t asking bytes logs prior before after old new reached is was are
 
 pub published_then : (s s' : State) (asking : Asking Loading) (bytes logs : List ℕ) (prior : Prior) (before after : ByPath) (old new : Option (List Entry)) →
     Reached asking (Gives (record { texts = s'.texts; logs = logs })) old new → s' ≡ with_texts s'.texts s → IsPrior s.texts prior s'.texts → ShowsAll s before → ShowsAll s' after →
-    bytes ≡ logs ++ news [] s.encoding before after prior s'.texts →
+    bytes ≡ logs ++ tidings [] s.encoding before after prior s'.texts →
     Reached (and_then asking (λ l. Gives (has_texts s (with_texts l.texts s) [] l.logs []))) (Gives (tells s' bytes)) old new
 published_then s s' asking bytes logs prior before after old new reached settings is was are wrote =
     subst (λ x. Reached (and_then asking (λ l. Gives (has_texts s (with_texts l.texts s) [] l.logs []))) (Gives (tells x bytes)) old new) (sym settings)
@@ -187,12 +223,12 @@ closed_then s s1 s' meant path bytes before after prior old new meets settings i
     subst (λ m. Reached (closes s m) (Gives (tells s' bytes)) old new) (sym meets)
     (published_then s s' (read_back (record { texts = s1.texts; logs = [] }) path) bytes h.logs h.last before after old new h.reached
     (h.settings ∙ ap (with_texts s'.texts) settings) (h.keeps.earlier s.texts is) was are
-    (h.wrote ∙ ap (λ (x : State). h.logs ++ news [] x.encoding before after h.last s'.texts) settings))
+    (h.wrote ∙ ap (λ (x : State). h.logs ++ tidings [] x.encoding before after h.last s'.texts) settings))
 
 -- what reading a file back published
 pub read_back_tells : (asking : Asking Loading) (s s' : State) (logs bytes : List ℕ) (before after : ByPath) (prior prior' : Prior) (old new : Option (List Entry)) →
     Reached asking (Gives (record { texts = s'.texts; logs = logs })) old new → s' ≡ with_texts s'.texts s → KeepsPrior prior s.texts prior' s'.texts →
-    bytes ≡ logs ++ news [] s.encoding before after prior' s'.texts → HasPublished asking s s' bytes before after prior old new
+    bytes ≡ logs ++ tidings [] s.encoding before after prior' s'.texts → HasPublished asking s s' bytes before after prior old new
 read_back_tells asking s s' logs bytes before after prior prior' old new reached settings keeps wrote = record {
   logs = logs;
   reached = reached;
@@ -224,7 +260,7 @@ not_closed s texts meant r bytes told means leaves refused wrote =
 -- changes were taken over
 pub watched_then : (s s' : State) (changes : List FileChange) (bytes logs : List ℕ) (before after : ByPath) (prior : Prior) (old new : Option (List Entry)) →
     Reached (updates_all (record { texts = s.texts; logs = [] }) changes) (Gives (record { texts = s'.texts; logs = logs })) old new → s' ≡ with_texts s'.texts s →
-    KeepsPrior empty s.texts prior s'.texts → ShowsAll s before → ShowsAll s' after → bytes ≡ logs ++ news [] s.encoding before after prior s'.texts →
+    KeepsPrior empty s.texts prior s'.texts → ShowsAll s before → ShowsAll s' after → bytes ≡ logs ++ tidings [] s.encoding before after prior s'.texts →
     Reached (watches s (Ok changes)) (Gives (tells s' bytes)) old new
 watched_then s s' changes bytes logs before after prior old new reached settings keeps was are wrote =
     published_then s s' (updates_all (record { texts = s.texts; logs = [] }) changes) bytes logs prior before after old new reached settings (keeps.earlier s.texts (nothing_remembered s.texts)) was are wrote
@@ -263,7 +299,7 @@ loaded_with texts logs = record { texts = texts; logs = logs }
 
 closed_tells_at : (s : State) (t : Texts) (path logs0 logs shown response bytes : List ℕ) (before after : ByPath) (prior prior' : Prior) (old new : Option (List Entry)) →
     Reached (read_back (loaded_with s.texts logs0) path) (Gives (loaded_with t logs)) old new → logs0 ≡ [] →
-    KeepsPrior prior s.texts prior' t → bytes ≡ (response ++ shown) ++ news [] s.encoding before after prior' t → response ≡ [] → shown ≡ logs →
+    KeepsPrior prior s.texts prior' t → bytes ≡ (response ++ shown) ++ tidings [] s.encoding before after prior' t → response ≡ [] → shown ≡ logs →
     HasPublished (read_back (loaded_with s.texts []) path) s (with_texts t s) bytes before after prior old new
 closed_tells_at s t path logs0 logs shown response bytes before after prior prior' old new reached none keeps wrote empty_response same =
     read_back_tells (read_back (loaded_with s.texts []) path) s (with_texts t s) logs bytes before after prior prior' old new
@@ -272,7 +308,7 @@ closed_tells_at s t path logs0 logs shown response bytes before after prior prio
 
 pub closed_tells : (s s' : State) (t : Texts) (path logs0 logs shown response bytes : List ℕ) (before after : ByPath) (prior prior' : Prior) (old new : Option (List Entry)) → s' ≡ with_texts t s →
     Reached (read_back (loaded_with s.texts logs0) path) (Gives (loaded_with t logs)) old new → logs0 ≡ [] →
-    KeepsPrior prior s.texts prior' t → bytes ≡ (response ++ shown) ++ news [] s.encoding before after prior' t → response ≡ [] → shown ≡ logs →
+    KeepsPrior prior s.texts prior' t → bytes ≡ (response ++ shown) ++ tidings [] s.encoding before after prior' t → response ≡ [] → shown ≡ logs →
     HasPublished (read_back (loaded_with s.texts []) path) s s' bytes before after prior old new
 closed_tells s s' t path logs0 logs shown response bytes before after prior prior' old new settings reached none keeps wrote empty_response same =
     subst (λ x. HasPublished (read_back (loaded_with s.texts []) path) s x bytes before after prior old new) (sym settings)
@@ -280,7 +316,7 @@ closed_tells s s' t path logs0 logs shown response bytes before after prior prio
 
 pub watched_tells : (s s' : State) (t : Texts) (changes : List FileChange) (logs0 logs shown response bytes : List ℕ) (before after : ByPath) (prior0 prior : Prior) (old new : Option (List Entry)) → s' ≡ with_texts t s →
     Reached (updates_all (loaded_with s.texts logs0) changes) (Gives (loaded_with t logs)) old new → logs0 ≡ [] → prior0 ≡ empty →
-    KeepsPrior prior0 s.texts prior t → ShowsAll s before → ShowsAll s' after → bytes ≡ (response ++ shown) ++ news [] s.encoding before after prior t → response ≡ [] → shown ≡ logs →
+    KeepsPrior prior0 s.texts prior t → ShowsAll s before → ShowsAll s' after → bytes ≡ (response ++ shown) ++ tidings [] s.encoding before after prior t → response ≡ [] → shown ≡ logs →
     Reached (watches s (Ok changes)) (Gives (tells s' bytes)) old new
 watched_tells s s' t changes logs0 logs shown response bytes before after prior0 prior old new settings reached none nothing keeps was are wrote empty_response same =
     subst (λ x. Reached (watches s (Ok changes)) (Gives (tells x bytes)) old new) (sym settings)
@@ -313,16 +349,16 @@ begun s docs encoding = record { options = s.options; texts = docs; encoding = e
 
 begins_at_told : (s : State) (id : Id) (encoding : Encoding) (docs : Texts) (logs shown response bytes : List ℕ) (before after : ByPath) (prior : Prior) (d : Data) →
     IsPrior s.texts prior docs → ShowsAll s before → ShowsAll (begun s docs encoding) after → d ≡ initialize_result encoding → response ≡ Replies.response id d → shown ≡ logs →
-    bytes ≡ (response ++ shown) ++ news [] encoding before after prior docs → begins s id encoding (loaded_with docs logs) ≡ tells (begun s docs encoding) bytes
+    bytes ≡ (response ++ shown) ++ tidings [] encoding before after prior docs → begins s id encoding (loaded_with docs logs) ≡ tells (begun s docs encoding) bytes
 begins_at_told s id encoding docs logs shown response bytes before after prior d is was are same_data same_response same wrote =
     ap (tells (begun s docs encoding))
     (ap (λ (b : List ℕ). (Replies.response id (initialize_result encoding) ++ logs) ++ b) (sym (news_told s (begun s docs encoding) prior before after is was are))
-    ∙ sym (wrote ∙ ap (λ (r : List ℕ). (r ++ shown) ++ news [] encoding before after prior docs) (same_response ∙ ap (Replies.response id) same_data)
-    ∙ ap (λ (l : List ℕ). (Replies.response id (initialize_result encoding) ++ l) ++ news [] encoding before after prior docs) same))
+    ∙ sym (wrote ∙ ap (λ (r : List ℕ). (r ++ shown) ++ tidings [] encoding before after prior docs) (same_response ∙ ap (Replies.response id) same_data)
+    ∙ ap (λ (l : List ℕ). (Replies.response id (initialize_result encoding) ++ l) ++ tidings [] encoding before after prior docs) same))
 
 pub begins_tells : (s s' : State) (id : Id) (encoding : Encoding) (docs : Texts) (logs shown response bytes : List ℕ) (before after : ByPath) (prior : Prior) (d : Data) →
     s' ≡ begun s docs encoding → IsPrior s.texts prior docs → ShowsAll s before → ShowsAll s' after → d ≡ initialize_result encoding → response ≡ Replies.response id d → shown ≡ logs →
-    bytes ≡ (response ++ shown) ++ news [] encoding before after prior docs → begins s id encoding (loaded_with docs logs) ≡ tells s' bytes
+    bytes ≡ (response ++ shown) ++ tidings [] encoding before after prior docs → begins s id encoding (loaded_with docs logs) ≡ tells s' bytes
 begins_tells s s' id encoding docs logs shown response bytes before after prior d now is was are same_data same_response same wrote =
     begins_at_told s id encoding docs logs shown response bytes before after prior d is was (subst (λ x. ShowsAll x after) now are) same_data same_response same wrote
     ∙ ap (λ x. tells x bytes) (sym now)

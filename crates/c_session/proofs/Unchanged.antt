@@ -1,14 +1,16 @@
--- Where no text differs, what files show stays; where some does, it is told which.
-use Rattle.std.proofs.Common.{◌≡◌, ℕ, Bool, true, false, not, if◌then◌else◌, codes, bytes_eq, List, [], ◌∷◌, ◌+◌, ◌||◌, Option, None, Some, Result, Ok, Err, IfOk, OnOk, is_some, unwrap_or, refl, sym, ap, ◌∙◌, subst, true≢false, length}
+-- Where no text differs and the same paths are units, what files show stays; else it is told what differs.
+use Rattle.std.proofs.Common.{◌≡◌, ℕ, Bool, true, false, not, cond, codes, bytes_eq, List, [], ◌∷◌, ◌+◌, ◌||◌, Option, None, Some, Result, Ok, Err, IfOk, OnOk, is_some, unwrap_or, option_and_then, refl, sym, ap, ◌∙◌, subst, true≢false, length}
 use Rattle.std.specs.FinMap.{get, keys, empty, contains_key-keys}
 use Rattle.std.specs.List.{list_any}
 use Rattle.std.proofs.lemmas.Slice.Eq.{bytes_eq-Decides}
 use Rattle.text_lines.specs.declared.encoding.Encoding.{Encoding}
 use Rattle.doc_texts.specs.Texts.{Texts, text_at, same_text}
 use Rattle.doc_texts.specs.Prior.{Prior, is_changed}
-use Rattle.plain_mean.specs.Confs.{conf_of}
+use Rattle.project_conf.specs.Entries.{is_unit}
+use Rattle.project_conf.specs.declared.options.Options.{Options}
+use Rattle.plain_mean.specs.Confs.{base_of, folders_from, database_in, read_as, database_of, units_read, conf_of}
 use Rattle.plain_mean.specs.Lists.{AreShown, shown_in}
-use Rattle.plain_mean.specs.Shown.{shown, units}
+use Rattle.plain_mean.specs.Shown.{shown, is_open, is_unit_of, units}
 use Rattle.plain_mean.specs.Within.{AreWithin}
 use Rattle.plain_mean.specs.declared.lists.ShownLists.{ShownLists}
 use Rattle.project_conf.specs.declared.conf.Conf.{Conf}
@@ -17,9 +19,9 @@ use Rattle.json_view.specs.declared.id.Id.{Id}
 use Rattle.c_session.specs.React.{Edited, Outcome, tells, running_request}
 use Rattle.c_session.specs.Reasons.{Reason}
 use Rattle.c_session.specs.Ties.Refused.{Answers, Leaves, IsKeptBy, IsWorked, edited}
-use Rattle.c_session.specs.Handled.{Differ, Began, DifferAt, IsWork, NoUnit, EachUnit}
-use Rattle.c_session.specs.Ties.Sessions.{IsKept, WereShown, WereKept, current_state, worked}
-use Rattle.c_session.specs.Shown.{conf_in}
+use Rattle.c_session.specs.Handled.{Differ, Began, DifferAt, TurnsAt, IsWork, NoUnit, EachUnit}
+use Rattle.c_session.specs.Ties.Sessions.{IsKept, WereShown, WereKept, current_state, SameOpen, Turned, Shifts, shifted_by, is_hinged, turns, is_due, worked}
+use Rattle.c_session.specs.Shown.{conf_in, is_unit_in}
 use Rattle.c_session.specs.State.{State, in_phase, with_texts}
 use Rattle.c_session.specs.declared.current.Current.{Current}
 use Rattle.c_session.specs.declared.phase.Phase.{Phase}
@@ -29,6 +31,7 @@ use Rattle.c_session.proofs.PathSets.{ties, tied_is}
 use Rattle.c_session.proofs.Priors.{IsEdit, keeps_then}
 use Rattle.c_session.proofs.Publications.{same_itself, changed}
 use Rattle.c_session.proofs.Telling.{with_docs, nothing_remembered, begun}
+use Rattle.c_session.proofs.Turning.{unhinged, hinged, shifts_then}
 
 -- ---- which text differs
 
@@ -89,37 +92,91 @@ module _ (prior : Prior) (start now : Texts) (is : IsPrior start prior now) wher
 
 -- ---- what a session keeps
 
--- what files show follows from the text that each path has
+-- what files show follows from the text that each path has, and from which paths are units
 abbrev pub Follows : Type 0
-Follows = (t t' : Texts) (conf : Conf) → ((path : List ℕ) → text_at t' path ≡ text_at t path) → (path : List ℕ) → shown t' conf path ≡ shown t conf path
+Follows =
+    (t t' : Texts) (conf : Conf) → ((path : List ℕ) → text_at t' path ≡ text_at t path) → ((path : List ℕ) → is_unit_of t' conf path ≡ is_unit_of t conf path) →
+    (path : List ℕ) → shown t' conf path ≡ shown t conf path
 
 still_shown : Follows → (t : Texts) (conf : Conf) (lists : ShownLists) → WereShown t conf lists → AreShown t conf lists
 still_shown follows t conf lists w = record {
-  right = λ path. w.were.right path ∙ sym (follows w.before t conf w.same path);
+  right = λ path. w.were.right path ∙ sym (follows w.before t conf w.same w.units path);
   within = λ path. subst (λ o. AreWithin (length (unwrap_or o [])) (shown_in lists path)) (sym (w.same path)) (w.were.within path);
 }
 
-pub stands : Follows → (c : Current) (prior : Prior) (differs : Bool) → differs ≡ any_changed prior c.docs → differs ≡ false → (any_changed prior c.docs ≡ false → WereKept c) → IsKept c
-stands follows c prior differs told none were = still_shown follows c.docs (conf_in (current_state c)) c.shown (were (sym told ∙ none))
+pub stands : Follows → (c : Current) (prior : Prior) (shifted : Option (List ℕ)) (due : Bool) → due ≡ is_due shifted prior (current_state c) → due ≡ false →
+    (is_due shifted prior (current_state c) ≡ false → WereKept c) → IsKept c
+stands follows c prior shifted due told none were = still_shown follows c.docs (conf_in (current_state c)) c.shown (were (sym told ∙ none))
 
 pub on_ok : {T E P : Type 0} (r : Result T E) → P → OnOk r P
 on_ok (Ok x) holds = holds
 on_ok (Err e) holds = tt
 
-still_kept : (s : State) (t : Texts) (prior : Prior) (lists : ShownLists) → IsPrior s.texts prior t → t.root ≡ s.texts.root → AreShown s.texts (conf_in s) lists →
-    any_changed prior t ≡ false → WereShown t (conf_in (with_texts t s)) lists
-still_kept s t prior lists is root were none = record {
-  before = s.texts;
-  same = stays prior s.texts t is none;
-  were = subst (λ r. AreShown s.texts (conf_of s.options r) lists) (sym root) were;
-}
+-- how units are read follows from the options, the root and the text of each path
+module _ (t t' : Texts) (same_root : t'.root ≡ t.root) (same : (path : List ℕ) → text_at t' path ≡ text_at t path) where
+  same_database : database_of t' ≡ database_of t
+  unfolding database_of
+  same_database = λ i. option_and_then (λ root. option_and_then (λ path. option_and_then (read_as root) (same path i)) (database_in root)) (same_root i)
+
+  same_conf : (options : Options) → conf_of options t' ≡ conf_of options t
+  same_conf options = λ i. record {
+    root = same_root i;
+    includes = folders_from (base_of (same_root i)) options.includes;
+    defines = options.defines;
+    database = units_read (same_database i);
+  }
+
+-- where a document was opened or closed that is a unit or none either way, the same paths are units
+still_unit_by : (t t' : Texts) (conf : Conf) (opened path : List ℕ) (b : Bool) → bytes_eq path opened ≡ b → Turned opened t t' → is_hinged conf.database opened ≡ false →
+    is_unit_of t' conf path ≡ is_unit_of t conf path
+still_unit_by t t' conf opened path true same turned none =
+    unhinged conf.database path (is_open t' path) (is_open t path) (ap (is_hinged conf.database) ((bytes_eq-Decides path opened).0 same) ∙ none)
+still_unit_by t t' conf opened path false apart turned none = ap (λ b. is_unit conf.database b path) (turned.others path apart)
+
+still_unit : (t t' : Texts) (conf : Conf) (shifted : Option (List ℕ)) → Shifts shifted t t' → turns conf shifted ≡ false → (path : List ℕ) → is_unit_of t' conf path ≡ is_unit_of t conf path
+still_unit t t' conf None shifts none = λ path. ap (λ b. is_unit conf.database b path) (shifts path)
+still_unit t t' conf (Some opened) shifts none = λ path. still_unit_by t t' conf opened path (bytes_eq path opened) refl shifts none
+
+module _ (s : State) (t : Texts) (prior : Prior) (shifted : Option (List ℕ)) (is : IsPrior s.texts prior t) (root : t.root ≡ s.texts.root) (shifts : Shifts shifted s.texts t) where
+  module _ (none : any_changed prior t ≡ false) where
+    conf_kept : conf_in (with_texts t s) ≡ conf_in s
+    conf_kept = same_conf s.texts t root (stays prior s.texts t is none) s.options
+
+    -- the document that was opened or closed is a unit by that, or none
+    turned_by : (o : Option (List ℕ)) → Shifts o s.texts t → turns (conf_in (with_texts t s)) o ≡ true → Differ s (with_texts t s)
+    turned_by None now some = absurd (true≢false (sym some))
+    turned_by (Some path) now some =
+        TurnsAt path (ap (λ (c : Conf). is_unit c.database (is_open s.texts path) path) (sym conf_kept)
+        ∙ hinged (conf_in (with_texts t s)).database path (is_open s.texts path) some
+        ∙ now.turns ∙ ap not (sym (hinged (conf_in (with_texts t s)).database path (is_open t path) some)))
+
+  module _ (undue : is_due shifted prior (with_texts t s) ≡ false) where
+    abbrev unchanged : any_changed prior t ≡ false
+    unchanged = left_false (any_changed prior t) (turns (conf_in (with_texts t s)) shifted) undue
+
+    same_units : (path : List ℕ) → is_unit_of t (conf_in (with_texts t s)) path ≡ is_unit_of s.texts (conf_in (with_texts t s)) path
+    same_units = still_unit s.texts t (conf_in (with_texts t s)) shifted shifts (right_false (any_changed prior t) (turns (conf_in (with_texts t s)) shifted) undue)
+
+    still_kept : (lists : ShownLists) → AreShown s.texts (conf_in s) lists → WereShown t (conf_in (with_texts t s)) lists
+    still_kept lists were = record {
+      before = s.texts;
+      same = stays prior s.texts t is unchanged;
+      units = same_units;
+      were = subst (λ c. AreShown s.texts c lists) (sym (conf_kept unchanged)) were;
+    }
 
 -- ---- where nothing differs
 
--- the session didn't begin, and each file has the text that it had
-alike : (s s' : State) → (s.phase ≡ Fresh → s'.phase ≡ Running → ⊥) → ((path : List ℕ) → text_at s'.texts path ≡ text_at s.texts path) → Differ s s' → ⊥
-alike s s' rests same (Began fresh runs) = rests fresh runs
-alike s s' rests same (DifferAt path apart) =
+not_itself : (b : Bool) → b ≡ not b → ⊥
+not_itself true h = true≢false h
+not_itself false h = true≢false (sym h)
+
+-- the session didn't begin, each file has the text that it had, and the same paths are units
+alike : (s s' : State) → (s.phase ≡ Fresh → s'.phase ≡ Running → ⊥) → ((path : List ℕ) → text_at s'.texts path ≡ text_at s.texts path) →
+    ((path : List ℕ) → is_unit_in s' path ≡ is_unit_in s path) → Differ s s' → ⊥
+alike s s' rests same units (Began fresh runs) = rests fresh runs
+alike s s' rests same units (TurnsAt path turns) = not_itself (is_unit_in s path) (turns ∙ ap not (units path))
+alike s s' rests same units (DifferAt path apart) =
     true≢false (sym (same_itself (text_at s.texts path)) ∙ ap (same_text (text_at s.texts path)) (sym (same path)) ∙ apart)
 
 no_beginning : (p : Phase) → p ≡ Fresh → p ≡ Running → ⊥
@@ -127,21 +184,21 @@ no_beginning p fresh runs = let bad : Fresh ≡ Running = sym fresh ∙ runs in 
 
 -- a message that leaves the state
 pub no_work : (s : State) (count : ℕ) → IsWork s s count count
-no_work s count = NoUnit (alike s s (no_beginning s.phase) (λ path. refl)) refl
+no_work s count = NoUnit (alike s s (no_beginning s.phase) (λ path. refl) (λ path. refl)) refl
 
 -- one that leaves the texts
 pub left_works : (s s' : State) (t : Texts) (old new : ℕ) → s' ≡ with_texts t s → t ≡ s.texts → new ≡ old → IsWork s s' old new
 left_works s s' t old new settings same are =
-    subst (λ x. IsWork s x old new) (sym settings) (NoUnit (alike s (with_texts t s) (no_beginning s.phase) (λ path. ap (λ (x : Texts). text_at x path) same)) are)
+    subst (λ x. IsWork s x old new) (sym settings) (NoUnit (alike s (with_texts t s) (no_beginning s.phase) (λ path. ap (λ (x : Texts). text_at x path) same) (λ path. ap (λ (x : Texts). is_unit_in (with_texts x s) path) same)) are)
 
 -- a request while the session runs
 down : (s : State) (count : ℕ) → IsWork s (in_phase Down s) count count
-down s count = NoUnit (alike s (in_phase Down s) (λ fresh runs. let bad : Down ≡ Running = runs in cc) (λ path. refl)) refl
+down s count = NoUnit (alike s (in_phase Down s) (λ fresh runs. let bad : Down ≡ Running = runs in cc) (λ path. refl) (λ path. refl)) refl
 
 abbrev IsIdle : State → ℕ → Outcome → Type 0
 IsIdle s count o = IsWork s o.state count count
 
-either : (P : Outcome → Type 0) (b : Bool) (x y : Outcome) → P x → P y → P (if b then x else y)
+either : (P : Outcome → Type 0) (b : Bool) (x y : Outcome) → P x → P y → P (cond b x y)
 either P true x y first second = first
 either P false x y first second = second
 
@@ -154,30 +211,50 @@ running_idles s id method count =
 pub running_works : (s s' : State) (id : Id) (method bytes : List ℕ) (count : ℕ) → running_request s id method ≡ tells s' bytes → IsWork s s' count count
 running_works s s' id method bytes count is = subst (λ x. IsWork s x count count) (ap (λ (o : Outcome). o.state) is) (running_idles s id method count)
 
--- ---- where some text differs, or none does
+-- ---- where something differs, or nothing does
 
-works_by : (s : State) (t : Texts) (prior : Prior) (old new : ℕ) (differs : Bool) → IsPrior s.texts prior t → any_changed prior t ≡ differs → new ≡ worked differs t old → IsWork s (with_texts t s) old new
-works_by s t prior old new false is none are = NoUnit (alike s (with_texts t s) (no_beginning s.phase) (stays prior s.texts t is none)) are
-works_by s t prior old new true is some are =
-    let p : Passes (is_changed prior t) = passes (is_changed prior t) (keys prior) some in
-    EachUnit (DifferAt p.at (not_true _ (sym (changed prior s.texts t is p.at) ∙ p.is))) are
+module _ (s : State) (t : Texts) (prior : Prior) (shifted : Option (List ℕ)) (is : IsPrior s.texts prior t) (root : t.root ≡ s.texts.root) (shifts : Shifts shifted s.texts t) where
+  differs_by : (changed_one : Bool) → any_changed prior t ≡ changed_one → (changed_one || turns (conf_in (with_texts t s)) shifted) ≡ true → Differ s (with_texts t s)
+  differs_by true some due =
+      let p : Passes (is_changed prior t) = passes (is_changed prior t) (keys prior) some in
+      DifferAt p.at (not_true _ (sym (changed prior s.texts t is p.at) ∙ p.is))
+  differs_by false none due = turned_by s t prior shifted is root shifts none shifted shifts due
 
-pub works : (s s' : State) (t : Texts) (prior : Prior) (old new : ℕ) → s' ≡ with_texts t s → IsPrior s.texts prior t → new ≡ worked (any_changed prior t) t old → IsWork s s' old new
-works s s' t prior old new settings is are = subst (λ x. IsWork s x old new) (sym settings) (works_by s t prior old new (any_changed prior t) is refl are)
+  works_by : (old new : ℕ) (due : Bool) → is_due shifted prior (with_texts t s) ≡ due → new ≡ worked due (with_texts t s) old → IsWork s (with_texts t s) old new
+  works_by old new false undue are =
+      NoUnit (alike s (with_texts t s) (no_beginning s.phase) (stays prior s.texts t is (unchanged s t prior shifted is root shifts undue))
+      (λ path. same_units s t prior shifted is root shifts undue path
+      ∙ ap (λ (c : Conf). is_unit_of s.texts c path) (conf_kept s t prior shifted is root shifts (unchanged s t prior shifted is root shifts undue)))) are
+  works_by old new true due are = EachUnit (differs_by (any_changed prior t) refl due) are
+
+pub works : (s s' : State) (t : Texts) (prior : Prior) (shifted : Option (List ℕ)) (old new : ℕ) → s' ≡ with_texts t s → IsPrior s.texts prior t → t.root ≡ s.texts.root → Shifts shifted s.texts t →
+    new ≡ worked (is_due shifted prior (with_texts t s)) (with_texts t s) old → IsWork s s' old new
+works s s' t prior shifted old new settings is root shifts are =
+    subst (λ x. IsWork s x old new) (sym settings) (works_by s t prior shifted is root shifts old new (is_due shifted prior (with_texts t s)) refl are)
 
 -- ---- an edit
 
-pub edit_keeps : (c : Current) (t : Texts) (r : Result (List ℕ) Refusal) (meant : Result Edited Reason) (prior : Prior) →
-    IfOk r (λ path. meant ≡ Ok (edited t path) → IsEdit path c.docs t × IsPrior c.docs prior t) → Answers (edited t) r meant → IsKept c → IsKeptBy r prior (with_docs t c)
-edit_keeps c t (Ok path) meant prior edit answers were =
+pub edit_keeps : (c : Current) (t : Texts) (r : Result (List ℕ) Refusal) (opens : Bool) (meant : Result Edited Reason) (prior : Prior) →
+    IfOk r (λ path. meant ≡ Ok (edited t path) → IsEdit path c.docs t × IsPrior c.docs prior t) → IfOk r (λ path. meant ≡ Ok (edited t path) → Shifts (shifted_by opens path) c.docs t) →
+    Answers (edited t) r meant → IsKept c → IsKeptBy r opens prior (with_docs t c)
+edit_keeps c t (Ok path) opens meant prior edit shifts answers were =
     let is = edit answers in
-    still_kept (current_state c) t prior c.shown is.1 is.0.others.root were
-edit_keeps c t (Err r) meant prior edit answers were = tt
+    λ undue. still_kept (current_state c) t prior (shifted_by opens path) is.1 is.0.others.root (shifts answers) undue c.shown were
+edit_keeps c t (Err r) opens meant prior edit shifts answers were = tt
 
-pub edit_works : (s s' : State) (t : Texts) (r : Result (List ℕ) Refusal) (meant : Result Edited Reason) (prior : Prior) (old new : ℕ) → s' ≡ with_texts t s →
-    IfOk r (λ path. meant ≡ Ok (edited t path) → IsEdit path s.texts t × IsPrior s.texts prior t) → Answers (edited t) r meant → Leaves r s.texts t → IsWorked r prior t old new → IsWork s s' old new
-edit_works s s' t (Ok path) meant prior old new settings edit answers leaves are = works s s' t prior old new settings (edit answers).1 are
-edit_works s s' t (Err r) meant prior old new settings edit answers leaves are = left_works s s' t old new settings leaves are
+pub edit_kept : (r : Result (List ℕ) Refusal) (path : List ℕ) (shifted : Option (List ℕ)) (opens : Bool) (prior : Prior) (c : Current) → r ≡ Ok path → shifted ≡ shifted_by opens path →
+    IsKeptBy r opens prior c → is_due shifted prior (current_state c) ≡ false → WereKept c
+edit_kept r path shifted opens prior c is same kept undue =
+    let were : IsKeptBy (Ok path) opens prior c = subst (λ x. IsKeptBy x opens prior c) is kept in
+    were (ap (λ s. is_due s prior (current_state c)) (sym same) ∙ undue)
+
+pub edit_works : (s s' : State) (t : Texts) (r : Result (List ℕ) Refusal) (opens : Bool) (meant : Result Edited Reason) (prior : Prior) (old new : ℕ) → s' ≡ with_texts t s →
+    IfOk r (λ path. meant ≡ Ok (edited t path) → IsEdit path s.texts t × IsPrior s.texts prior t) → IfOk r (λ path. meant ≡ Ok (edited t path) → Shifts (shifted_by opens path) s.texts t) →
+    Answers (edited t) r meant → Leaves r s.texts t → IsWorked r opens prior (with_texts t s) old new → IsWork s s' old new
+edit_works s s' t (Ok path) opens meant prior old new settings edit shifts answers leaves are =
+    let is = edit answers in
+    works s s' t prior (shifted_by opens path) old new settings is.1 is.0.others.root (shifts answers) are
+edit_works s s' t (Err r) opens meant prior old new settings edit shifts answers leaves are = left_works s s' t old new settings leaves are
 
 -- ---- files that are read
 
@@ -185,30 +262,34 @@ edit_works s s' t (Err r) meant prior old new settings edit answers leaves are =
 pub first_kept : (t t' : Texts) (none prior : Prior) → none ≡ empty → KeepsPrior none t prior t' → IsPrior t prior t'
 first_kept t t' none prior nothing keeps = keeps.earlier t (subst (λ m. IsPrior t m t) (sym nothing) (nothing_remembered t))
 
-pub read_keeps : (s : State) (t : Texts) (none prior : Prior) (lists : ShownLists) → none ≡ empty → KeepsPrior none s.texts prior t → AreShown s.texts (conf_in s) lists →
-    any_changed prior t ≡ false → WereShown t (conf_in (with_texts t s)) lists
-read_keeps s t none prior lists nothing keeps were = still_kept s t prior lists (first_kept s.texts t none prior nothing keeps) keeps.root were
+pub read_keeps : (s : State) (t : Texts) (none prior : Prior) (shifted : Option (List ℕ)) (lists : ShownLists) → none ≡ empty → KeepsPrior none s.texts prior t → Shifts shifted s.texts t →
+    AreShown s.texts (conf_in s) lists → is_due shifted prior (with_texts t s) ≡ false → WereShown t (conf_in (with_texts t s)) lists
+read_keeps s t none prior shifted lists nothing keeps shifts were undue = still_kept s t prior shifted (first_kept s.texts t none prior nothing keeps) keeps.root shifts undue lists were
 
-pub closed_keeps : (s : State) (t : Texts) (none prior : Prior) (lists : ShownLists) → none ≡ empty → KeepsPrior none s.texts prior t → AreShown s.texts (conf_in s) lists →
-    (last : Prior) (t' : Texts) → KeepsPrior prior t last t' → any_changed last t' ≡ false → WereShown t' (conf_in (with_texts t' s)) lists
-closed_keeps s t none prior lists nothing keeps were last t' later = read_keeps s t' none last lists nothing (keeps_then none prior last s.texts t t' keeps later) were
+pub closed_keeps : (s : State) (t : Texts) (path : List ℕ) (none prior : Prior) (lists : ShownLists) → none ≡ empty → KeepsPrior none s.texts prior t → Turned path s.texts t →
+    AreShown s.texts (conf_in s) lists → (last : Prior) (t' : Texts) → KeepsPrior prior t last t' → SameOpen t t' → is_due (Some path) last (with_texts t' s) ≡ false →
+    WereShown t' (conf_in (with_texts t' s)) lists
+closed_keeps s t path none prior lists nothing keeps turned were last t' then same =
+    read_keeps s t' none last (Some path) lists nothing (keeps_then none prior last s.texts t t' keeps then) (shifts_then (Some path) s.texts t t' turned same) were
 
-pub closed_works : (s s1 s' : State) (none prior last : Prior) (old new : ℕ) → s1 ≡ with_texts s1.texts s → s' ≡ with_texts s'.texts s1 → none ≡ empty → KeepsPrior none s.texts prior s1.texts →
-    KeepsPrior prior s1.texts last s'.texts → new ≡ worked (any_changed last s'.texts) s'.texts old → IsWork s s' old new
-closed_works s s1 s' none prior last old new first second nothing keeps later are =
-    works s s' s'.texts last old new (second ∙ ap (with_texts s'.texts) first)
-    (first_kept s.texts s'.texts none last nothing (keeps_then none prior last s.texts s1.texts s'.texts keeps later)) are
+pub closed_works : (s s1 s' : State) (path : List ℕ) (none prior last : Prior) (old new : ℕ) → s1 ≡ with_texts s1.texts s → s' ≡ with_texts s'.texts s1 → none ≡ empty → KeepsPrior none s.texts prior s1.texts →
+    Turned path s.texts s1.texts → KeepsPrior prior s1.texts last s'.texts → SameOpen s1.texts s'.texts → new ≡ worked (is_due (Some path) last s') s' old → IsWork s s' old new
+closed_works s s1 s' path none prior last old new first second nothing keeps turned then same are =
+    let settings : s' ≡ with_texts s'.texts s = second ∙ ap (with_texts s'.texts) first in
+    let all = keeps_then none prior last s.texts s1.texts s'.texts keeps then in
+    works s s' s'.texts last (Some path) old new settings (first_kept s.texts s'.texts none last nothing all) all.root (shifts_then (Some path) s.texts s1.texts s'.texts turned same)
+    (subst (λ (x : State). new ≡ worked (is_due (Some path) last x) x old) settings are)
 
 -- what was said of texts is said of those that a reply left
 pub left_keeps : (c new : State) (m last : Prior) (t : Texts) → new ≡ c → KeepsPrior m t last c.texts → KeepsPrior m t last new.texts
 left_keeps c new m last t same keeps = subst (λ (x : State). KeepsPrior m t last x.texts) (sym same) keeps
 
-pub left_worked : (c new : State) (last : Prior) (old count : ℕ) → new ≡ c → count ≡ worked (any_changed last c.texts) c.texts old → count ≡ worked (any_changed last new.texts) new.texts old
-left_worked c new last old count same are = subst (λ (x : State). count ≡ worked (any_changed last x.texts) x.texts old) (sym same) are
+pub left_worked : (c new : State) (shifted : Option (List ℕ)) (last : Prior) (old count : ℕ) → new ≡ c → count ≡ worked (is_due shifted last c) c old → count ≡ worked (is_due shifted last new) new old
+left_worked c new shifted last old count same are = subst (λ (x : State). count ≡ worked (is_due shifted last x) x old) (sym same) are
 
 -- ---- the beginning, and a content
 
-pub began_works : (s s' : State) (docs : Texts) (encoding : Encoding) (old new : ℕ) → s' ≡ begun s docs encoding → s.phase ≡ Fresh → new ≡ old + length (units docs) → IsWork s s' old new
+pub began_works : (s s' : State) (docs : Texts) (encoding : Encoding) (old new : ℕ) → s' ≡ begun s docs encoding → s.phase ≡ Fresh → new ≡ old + length (units docs (conf_in (begun s docs encoding))) → IsWork s s' old new
 began_works s s' docs encoding old new settings fresh are = subst (λ x. IsWork s x old new) (sym settings) (EachUnit (Began fresh refl) are)
 
 pub handled_works : (s s1 s' : State) (old old1 new : ℕ) → s1 ≡ s → old1 ≡ old → IsWork s1 s' old1 new → IsWork s s' old new

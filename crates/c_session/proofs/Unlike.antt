@@ -1,5 +1,5 @@
 -- No response begins notifications.
-use Rattle.std.proofs.Common.{◌≡◌, ℕ, zero, suc, ◌+◌, ◌/◌, ◌%◌, ◌<◌, Bool, true, false, cond, ◌==◌, ◌||◌, List, [], ◌∷◌, ◌++◌, length, slice_index, Option, ℤ, codes, decimal, refl, sym, ap, ◌∙◌, append_assoc, arith, append-nil, flat_map, ne_eqb, lt-ltb, true≢false}
+use Rattle.std.proofs.Common.{◌≡◌, ℕ, zero, suc, ◌+◌, ◌/◌, ◌%◌, ◌<◌, Bool, true, false, cond, ◌==◌, ◌||◌, List, [], ◌∷◌, ◌++◌, length, slice_index, Option, None, Some, ℤ, codes, decimal, refl, sym, ap, ◌∙◌, append_assoc, arith, append-nil, flat_map, ne_eqb, lt-ltb, true≢false}
 use Rattle.std.specs.Fmt.{digits, digits_onto, digit_glyph}
 use Rattle.std.specs.List.{All, concat}
 use Rattle.std.proofs.lemmas.List.Elements.{All-head}
@@ -9,13 +9,18 @@ use Rattle.serde_json.proofs.OnLiterals.{serde_json_on_literals}
 use Rattle.json_view.specs.declared.id.Id.{Id}
 use Rattle.text_lines.specs.declared.encoding.Encoding.{Encoding}
 use Rattle.doc_texts.specs.Texts.{Texts, version_at}
-use Rattle.c_session.specs.React.{did_close}
-use Rattle.c_session.specs.Shown.{uri_for, shows, publication, published_paths, publications}
+use Rattle.std.specs.Str.{bytes_eq}
+use Rattle.std.proofs.lemmas.Slice.Eq.{bytes_eq-Decides}
+use Rattle.project_conf.specs.Entries.{refusal}
+use Rattle.project_conf.specs.declared.database.ConfError.{ConfError}
+use Rattle.plain_mean.specs.Confs.{database_fault}
+use Rattle.c_session.specs.React.{did_open, did_change, did_close}
+use Rattle.c_session.specs.Shown.{uri_for, shows, publication, published_paths, publications, fault_log, database_differs, database_logs}
 use Rattle.c_session.specs.State.{State}
 use Rattle.plain_mean.specs.declared.types.Shown.{Shown}
 use Rattle.frame_form.specs.Written.{framed}
 use Rattle.c_session.specs.Replies.{id_data, id_or_null, response_data, error_data, log_data, publish_data, response, error, log, publish}
-use Rattle.c_session.specs.Responses.{IsResponse, HasResult, HasError, IsNotice, Logs, Publishes, AreNotices}
+use Rattle.c_session.specs.Responses.{IsResponse, HasResult, HasError, IsNotice, Logs, Publishes, AreNotices, is_edit}
 
 -- what stands from the first brace on
 abbrev from_brace : List ℕ → List ℕ
@@ -199,6 +204,18 @@ closing_message : (text more : List ℕ) → letter 67 (compact_text (log_data (
 unfolding serde_json_on_literals
 closing_message text more = refl
 
+opening_message : (text more : List ℕ) → letter 67 (compact_text (log_data (did_open ++ codes ": " ++ text)) ++ more) ≡ 116
+unfolding serde_json_on_literals
+opening_message text more = refl
+
+changing_message : (text more : List ℕ) → letter 67 (compact_text (log_data (did_change ++ codes ": " ++ text)) ++ more) ≡ 116
+unfolding serde_json_on_literals
+changing_message text more = refl
+
+database_message : (text more : List ℕ) → letter 67 (compact_text (log_data (codes "compile_commands: " ++ text)) ++ more) ≡ 99
+unfolding serde_json_on_literals
+database_message text more = refl
+
 loading_at : (text more : List ℕ) → letter 67 (log (codes "load: " ++ text) ++ more) ≡ 108
 unfolding log
 loading_at text more = letter_in 67 (compact_text (log_data (codes "load: " ++ text))) more ∙ loading_message text more
@@ -211,3 +228,44 @@ closing_at text more = letter_in 67 (compact_text (log_data (did_close ++ codes 
 pub no_closing : (text more other : List ℕ) → log (codes "load: " ++ text) ++ more ≡ log (did_close ++ codes ": " ++ other) → ⊥
 no_closing text more other is =
     letters_differ 67 (loading_at text more) (closing_at other []) (λ e. omega (arith, e)) (is ∙ sym (append-nil (log (did_close ++ codes ": " ++ other))))
+
+-- ---- a fault of the database is no refusal of an edit
+
+database_at : (text more : List ℕ) → letter 67 (log (codes "compile_commands: " ++ text) ++ more) ≡ 99
+unfolding log
+database_at text more = letter_in 67 (compact_text (log_data (codes "compile_commands: " ++ text))) more ∙ database_message text more
+
+opening_at : (text more : List ℕ) → letter 67 (log (did_open ++ codes ": " ++ text) ++ more) ≡ 116
+unfolding log
+opening_at text more = letter_in 67 (compact_text (log_data (did_open ++ codes ": " ++ text))) more ∙ opening_message text more
+
+changing_at : (text more : List ℕ) → letter 67 (log (did_change ++ codes ": " ++ text) ++ more) ≡ 116
+unfolding log
+changing_at text more = letter_in 67 (compact_text (log_data (did_change ++ codes ": " ++ text))) more ∙ changing_message text more
+
+edit_is : (method named text more : List ℕ) → bytes_eq method named ≡ true → letter 67 (log (named ++ codes ": " ++ text) ++ more) ≡ 116 →
+    letter 67 (log (method ++ codes ": " ++ text) ++ more) ≡ 116
+edit_is method named text more same is = ap (λ (m : List ℕ). letter 67 (log (m ++ codes ": " ++ text) ++ more)) ((bytes_eq-Decides method named).0 same) ∙ is
+
+edit_by : (method text more : List ℕ) (opens changes closes : Bool) → bytes_eq method did_open ≡ opens → bytes_eq method did_change ≡ changes → bytes_eq method did_close ≡ closes →
+    (opens || (changes || closes)) ≡ true → letter 67 (log (method ++ codes ": " ++ text) ++ more) ≡ 116
+edit_by method text more true changes closes a b c edit = edit_is method did_open text more a (opening_at text more)
+edit_by method text more false true closes a b c edit = edit_is method did_change text more b (changing_at text more)
+edit_by method text more false false true a b c edit = edit_is method did_close text more c (closing_at text more)
+edit_by method text more false false false a b c edit = absurd (true≢false (sym edit))
+
+edit_at : (method text more : List ℕ) → is_edit method ≡ true → letter 67 (log (method ++ codes ": " ++ text) ++ more) ≡ 116
+edit_at method text more edit = edit_by method text more (bytes_eq method did_open) (bytes_eq method did_change) (bytes_eq method did_close) refl refl refl edit
+
+fault_no_log : (touched : List (List ℕ)) (s s' : State) (differs : Bool) (fault : Option ConfError) (method text : List ℕ) → is_edit method ≡ true →
+    cond differs (fault_log fault) [] ++ publications touched s s' ≡ log (method ++ codes ": " ++ text) → ⊥
+fault_no_log touched s s' false fault method text edit is = no_log touched s s' (method ++ codes ": " ++ text) is
+fault_no_log touched s s' true None method text edit is = no_log touched s s' (method ++ codes ": " ++ text) is
+fault_no_log touched s s' true (Some e) method text edit is =
+    letters_differ 67 (database_at (refusal e) (publications touched s s')) (edit_at method text [] edit) (λ e. omega (arith, e)) (is ∙ sym (append-nil (log (method ++ codes ": " ++ text))))
+
+-- what is told of other texts is no refusal of an edit
+pub no_refusal : (touched : List (List ℕ)) (s s' : State) (method text : List ℕ) → is_edit method ≡ true →
+    database_logs s s' ++ publications touched s s' ≡ log (method ++ codes ": " ++ text) → ⊥
+unfolding database_logs
+no_refusal touched s s' method text edit is = fault_no_log touched s s' (database_differs s s') (database_fault s'.texts) method text edit is

@@ -1,10 +1,15 @@
--- Definitions that are usable are so within a wider limit.
-use Rattle.std.proofs.Common.{◌≡◌, ◌≤◌, ℕ, List, sum_by, arith, sym, subst}
-use Rattle.project_conf.specs.Defines.{size_of, AreUsable}
-use Rattle.project_conf.specs.declared.options.Define.{Define}
+-- How units are read begins with usable definitions.
+use Rattle.std.proofs.Common.{◌≡◌, List, sym, ap, subst}
+use Rattle.std.specs.Prelude.{All, IfSome}
+use Rattle.doc_texts.specs.Texts.{Texts}
+use Rattle.plain_mean.specs.Confs.{conf_of, IsUsable}
+use Rattle.project_conf.specs.Defines.{AreUsable}
+use Rattle.project_conf.specs.declared.conf.Conf.{Conf}
+use Rattle.project_conf.specs.declared.options.Options.{Options}
 
-within : (n : ℕ) → n ≤ 131072 → n ≤ 268435456
-within n h = omega (arith, h)
-
-pub usable_more : (defines defines' : List Define) → AreUsable 131072 defines → defines' ≡ defines → AreUsable 268435456 defines'
-usable_more defines defines' h same = subst (AreUsable 268435456) (sym same) (record { names = h.names; size = within (sum_by size_of defines) h.size })
+pub usable_conf : (options : Options) (t : Texts) (conf : Conf) → AreUsable 131072 options.defines → conf ≡ conf_of options t →
+    IfSome conf.database (All (λ u. AreUsable 33554432 u.defines)) → IsUsable conf
+usable_conf options t conf words is entries = record {
+  words = subst (AreUsable 131072) (sym (ap (λ (c : Conf). c.defines) is)) words;
+  entries = entries;
+}

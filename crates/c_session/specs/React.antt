@@ -15,7 +15,7 @@ use Rattle.json_view.specs.declared.id.Id.{Id}
 use Rattle.c_session.specs.Params.{FileChange, opening_in, changing_in, closing_in, watching_in, starting_in}
 use Rattle.c_session.specs.Reasons.{Reason, reason_text, by_params, by_uri, by_texts, if_ok}
 use Rattle.c_session.specs.Replies.{response, error, log, initialize_result}
-use Rattle.c_session.specs.Shown.{publications}
+use Rattle.c_session.specs.Shown.{publications, database_logs}
 use Rattle.c_session.specs.State.{State, in_phase, with_texts}
 use Rattle.c_session.specs.declared.phase.Phase.{Phase}
 use Rattle.c_session.specs.declared.phase.Phase.TheVariants.{Fresh, Running, Down}
@@ -34,9 +34,10 @@ tells s bytes = record { state = s; bytes = bytes; end = None }
 abbrev pub is_quiet : State → Outcome
 is_quiet s = tells s []
 
--- other texts: the response or none, log messages, then what is published (LSP 3.17, publishDiagnostics)
+-- other texts: the response or none, log messages, the last of them on the database, then what is published (LSP 3.17,
+-- publishDiagnostics)
 abbrev pub has_texts : State → State → List ℕ → List ℕ → List (List ℕ) → Outcome
-has_texts s s' response logs touched = tells s' ((response ++ logs) ++ publications touched s s')
+has_texts s s' response logs touched = tells s' ((response ++ logs) ++ (database_logs s s' ++ publications touched s s'))
 
 -- ---- refusals
 

@@ -1,20 +1,27 @@
 -- The diagnostics that files show, and those that are published after a message.
-use Rattle.std.specs.Prelude.{ℕ, Bool, true, false, not, ◌&&◌, ◌||◌, ◌==◌, List, [], ◌∷◌, ◌++◌, flat_map, length, map, unwrap_or}
+use Rattle.std.specs.Prelude.{ℕ, Bool, true, false, not, ◌&&◌, ◌||◌, ◌==◌, List, [], ◌∷◌, ◌++◌, codes, flat_map, length, map, unwrap_or, Option, None, Some, if◌then◌else◌}
 use Rattle.std.specs.List.{filter, list_any}
+use Rattle.std.specs.Option.{option_map_or}
 use Rattle.std.specs.Str.{bytes_eq}
 use Rattle.uri_paths.specs.Uris.{uri_of_path}
 use Rattle.text_lines.specs.declared.encoding.Encoding.{Encoding}
 use Rattle.doc_texts.specs.Texts.{Texts, text_at, same_text, version_at, uri_at, paths_of, path_set}
+use Rattle.project_conf.specs.Entries.{refusal}
 use Rattle.project_conf.specs.declared.conf.Conf.{Conf}
-use Rattle.plain_mean.specs.Confs.{conf_of}
-use Rattle.plain_mean.specs.Shown.{shown}
+use Rattle.project_conf.specs.declared.database.ConfError.{ConfError}
+use Rattle.plain_mean.specs.Confs.{conf_of, database_path, database_fault}
+use Rattle.plain_mean.specs.Shown.{shown, is_unit_of}
 use Rattle.plain_mean.specs.declared.types.Shown.{Shown}
-use Rattle.c_session.specs.Replies.{diagnostic, publish}
+use Rattle.c_session.specs.Replies.{diagnostic, log, publish}
 use Rattle.c_session.specs.State.{State}
 
 -- how the units are read
 abbrev pub conf_in : State → Conf
-conf_in s = conf_of s.options s.texts.root
+conf_in s = conf_of s.options s.texts
+
+-- whether the text at a path is a unit
+abbrev pub is_unit_in : State → List ℕ → Bool
+is_unit_in s path = is_unit_of s.texts (conf_in s) path
 
 -- what a file shows: the faults of all units that fall on it
 abbrev pub shows : State → List ℕ → List Shown
@@ -57,3 +64,18 @@ publication encoding t faults path = publish (uri_for t path) (version_at t path
 -- what is published after a message
 abbrev pub publications : List (List ℕ) → State → State → List ℕ
 publications touched s s' = flat_map (λ path. publication s'.encoding s'.texts (shows s' path) path) (published_paths touched s s')
+
+-- ---- the database
+
+-- a log message that says why a database is faulty
+abbrev pub fault_log : Option ConfError → List ℕ
+fault_log None = []
+fault_log (Some e) = log (codes "compile_commands: " ++ refusal e)
+
+-- the database has another text than before, as the message left the root
+abbrev pub database_differs : State → State → Bool
+database_differs s s' = option_map_or (λ path. not (same_text (text_at s.texts path) (text_at s'.texts path))) (database_path s'.texts.root) false
+
+-- what is logged where a message left another text of the database, and that is faulty
+unfoldable pub database_logs : State → State → List ℕ
+database_logs s s' = if database_differs s s' then fault_log (database_fault s'.texts) else []

@@ -11,16 +11,17 @@ ghost use Rattle.c_session.specs.Params.{watching_in};
 ghost use Rattle.c_session.specs.Reasons.{reason_text, by_params};
 ghost use Rattle.c_session.specs.Ties.Refused.{reason, IsReply, IsBehind, IsKeptBy, IsWorked};
 ghost use Rattle.c_session.specs.Loading.{read_back};
-ghost use Rattle.c_session.specs.Ties.News.{KeepsPrior, any_changed, touched_by, news, HasPublished};
+ghost use Rattle.c_session.specs.Ties.News.{KeepsPrior, touched_by, tidings, HasPublished};
 ghost use Rattle.plain_mean.specs.Given.{text_in};
 ghost use Rattle.plain_mean.specs.Lists.{AreShown, shown_in};
 ghost use Rattle.plain_mean.specs.Shown.{units};
 ghost use Rattle.plain_mean.specs.Within.{AreWithin};
 ghost use Rattle.project_conf.specs.Defines.{AreUsable};
+ghost use Rattle.plain_mean.specs.Confs.{IsUsable};
 ghost use Rattle.c_session.specs.Replies.{log, error};
 ghost use Rattle.c_session.specs.Ties.SeenParams.{seen_file_change};
 ghost use Rattle.c_session.specs.Ties.Seen.{seen};
-ghost use Rattle.c_session.specs.Ties.Sessions.{current_state, loading, outcome_of, IsKept, WereKept, WereShown, worked};
+ghost use Rattle.c_session.specs.Ties.Sessions.{current_state, loading, outcome_of, SameOpen, shifted_by, is_hinged, turns, is_due, IsKept, WereKept, WereShown, worked};
 ghost use Rattle.c_session.specs.Shown.{conf_in};
 ghost use Rattle.c_session.specs.State.{fresh, with_texts};
 ghost use Rattle.c_session.specs.declared.phase.Phase.TheVariants.{Fresh};
@@ -30,7 +31,7 @@ use crate::documents::{change_document, close_document, open_document};
 use crate::error::SessionError;
 use crate::loading::read_back;
 use crate::message::Message;
-use crate::news::{Change, any_changed, prior_of, push_news};
+use crate::news::{Change, any_changed, prior_of, push_tidings};
 use crate::params::{FileChange, watching_in};
 use crate::phase::Phase;
 use crate::reasons::Refusal;
@@ -42,7 +43,7 @@ use doc_texts::{Docs, PriorTexts};
 use io_edges::Store;
 use json_view::Id;
 use plain_mean::{ShownLists, shown_follows, shown_lists};
-use project_conf::Options;
+use project_conf::{Conf, Entries, Options, is_unit};
 use serde_json::Value;
 use shared_list::Listing;
 use std::alloc::{AllocError, Global};
@@ -92,6 +93,28 @@ fn refusal_log(alloc: Global, method: &str, reason: &str) -> Result<Vec<u8>, All
 {
     let text = format!(in alloc; "{method}: {reason}")?;
     log(alloc, text.as_str())
+}
+
+/// The document that an edit opened, and none that it changed.
+fn shifted_by(opens: bool, path: &Path) -> Option<&Path>
+    ensures { option_map (λ p. p.now) result ≡ shifted_by opens path.now }
+{
+    if opens {
+        return Some(path);
+    }
+    None
+}
+
+/// Whether a path is a unit just as long as its document is open.
+#[tactic(auto, using(crate::proofs::Turning::never_hinged))]
+fn is_hinged(alloc: Global, conf: &Conf, path: &Path) -> Result<bool, AllocError>
+    ensures { IfOk result (λ b. b ≡ is_hinged conf.now.database path.now) }
+{
+    let Some(units) = &conf.database else {
+        return Ok(false);
+    };
+    let entries = Entries::of(alloc, units.as_slice())?;
+    Ok(is_unit(Some(&entries), true, path) && !is_unit(Some(&entries), false, path))
 }
 
 impl Current {
@@ -146,18 +169,27 @@ impl Current {
         &mut self,
         method: &str,
         edited: Result<Path, Refusal>,
+        opens: bool,
         prior: &PriorTexts,
         steps: &mut Steps<L>,
     ) -> Result<Vec<u8>, AllocError>
-        requires kept { IsKeptBy edited prior.now self.old }
+        requires kept { IsKeptBy edited opens prior.now self.old }
         ensures reply { IfOk result (λ v. IsReply method.now self.old.docs self.old.encoding edited v.items (shown_in self.old.shown) (shown_in self.new.shown) prior.now) }
         ensures behind { OnOk result (IsBehind edited self.old self.new) }
-        ensures steps { OnOk result (IsWorked edited prior.now self.old.docs steps.old steps.new) }
+        ensures steps { OnOk result (IsWorked edited opens prior.now (current_state self.old) steps.old steps.new) }
         ensures same { OnOk result (current_state self.new ≡ current_state self.old) }
     {
         match edited {
             Ok(path) => {
-                let bytes = self.finish(Vec::new(self.alloc), &[], prior, Some(&path), steps)?;
+                let shifted = shifted_by(opens, &path);
+                let bytes = self.finish(
+                    Vec::new(self.alloc),
+                    &[],
+                    prior,
+                    Some(&path),
+                    shifted,
+                    steps,
+                )?;
                 Ok(bytes)
             }
             Err(refusal) => {
@@ -180,7 +212,7 @@ impl Current {
     {
         let mut prior = PriorTexts::new(self.alloc);
         let edited = open_document(self.alloc, &mut self.docs, &mut prior, params);
-        let bytes = self.reply_to_edit("textDocument/didOpen", edited, &prior, steps)?;
+        let bytes = self.reply_to_edit("textDocument/didOpen", edited, true, &prior, steps)?;
         Ok(bytes)
     }
 
@@ -203,16 +235,25 @@ impl Current {
             &mut prior,
             params,
         );
-        let bytes = self.reply_to_edit("textDocument/didChange", edited, &prior, steps)?;
+        let bytes = self.reply_to_edit("textDocument/didChange", edited, false, &prior, steps)?;
         Ok(bytes)
+    }
+
+    /// How the units are read now.
+    fn conf_now(&self) -> Result<Conf, AllocError>
+        ensures conf { IfOk result (λ conf. conf ≡ conf_in (current_state self.now)) }
+        ensures usable { IfOk result (λ conf. IsUsable conf) }
+    {
+        let conf = self.words.conf(self.alloc, &self.docs)?;
+        Ok(conf)
     }
 
     /// Works out what each file shows now.
     fn shown_now<L: Ledger>(&self, steps: &mut Steps<L>) -> Result<ShownLists, AllocError>
         ensures shown { IfOk result (λ lists. AreShown self.now.docs (conf_in (current_state self.now)) lists) }
-        ensures steps { OnOk result (steps.new ≡ steps.old + length (units self.now.docs)) }
+        ensures steps { OnOk result (steps.new ≡ steps.old + length (units self.now.docs (conf_in (current_state self.now)))) }
     {
-        let conf = self.words.conf(self.alloc, self.docs.root())?;
+        let conf = self.conf_now()?;
         let lists = shown_lists(self.alloc, &self.docs, &conf, steps)?;
         Ok(lists)
     }
@@ -220,7 +261,7 @@ impl Current {
     /// Works out what each file shows now, where that isn't kept.
     pub fn catch_up<L: Ledger>(&mut self, steps: &mut Steps<L>) -> Result<(), AllocError>
         ensures kept { OnOk result (IsKept self.new) }
-        ensures steps { OnOk result (steps.new ≡ steps.old + length (units self.old.docs)) }
+        ensures steps { OnOk result (steps.new ≡ steps.old + length (units self.old.docs (conf_in (current_state self.old)))) }
         ensures same { OnOk result (current_state self.new ≡ current_state self.old) }
     {
         self.shown = self.shown_now(steps)?;
@@ -236,11 +277,11 @@ impl Current {
         change: Change<'_>,
     ) -> Result<Vec<u8>, AllocError>
         requires within { (q : List ℕ) → AreWithin (length (text_in self.now.docs q)) (shown_in change.after.now q) }
-        ensures { IfOk result (λ v. v.items ≡ (response.items ++ logs.now) ++ news (touched_by (option_map (λ p. p.now) change.entry.touched)) self.now.encoding (shown_in change.entry.before.now) (shown_in change.entry.after.now) change.entry.prior.now self.now.docs) }
+        ensures { IfOk result (λ v. v.items ≡ (response.items ++ logs.now) ++ tidings (touched_by (option_map (λ p. p.now) change.entry.touched)) self.now.encoding (shown_in change.entry.before.now) (shown_in change.entry.after.now) change.entry.prior.now self.now.docs) }
     {
         let mut out = response;
         out.extend_from_slice(logs)?;
-        push_news(self.alloc, &mut out, &self.docs, self.encoding, change)?;
+        push_tidings(self.alloc, &mut out, &self.docs, self.encoding, change)?;
         Ok(out)
     }
 
@@ -253,9 +294,9 @@ impl Current {
         touched: Option<&Path>,
         steps: &mut Steps<L>,
     ) -> Result<Vec<u8>, AllocError>
-        ensures wrote { IfOk result (λ v. v.items ≡ (response.items ++ logs.now) ++ news (touched_by (option_map (λ p. p.now) touched.entry)) self.old.encoding (shown_in self.old.shown) (shown_in self.new.shown) prior.now self.old.docs) }
+        ensures wrote { IfOk result (λ v. v.items ≡ (response.items ++ logs.now) ++ tidings (touched_by (option_map (λ p. p.now) touched.entry)) self.old.encoding (shown_in self.old.shown) (shown_in self.new.shown) prior.now self.old.docs) }
         ensures kept { OnOk result (IsKept self.new) }
-        ensures steps { OnOk result (steps.new ≡ steps.old + length (units self.old.docs)) }
+        ensures steps { OnOk result (steps.new ≡ steps.old + length (units self.old.docs (conf_in (current_state self.old)))) }
         ensures same { OnOk result (current_state self.new ≡ current_state self.old) }
     {
         let after = self.shown_now(steps)?;
@@ -270,22 +311,45 @@ impl Current {
         Ok(out)
     }
 
-    /// The same, where what the files show is worked out anew if some text differs, and else stays.
+    /// Whether the document that was opened or closed, if one was, is a unit by that, or none. It costs the database's text.
+    fn turns(&self, shifted: Option<&Path>) -> Result<bool, AllocError>
+        ensures { IfOk result (λ b. b ≡ turns (conf_in (current_state self.now)) (option_map (λ p. p.now) shifted.entry)) }
+    {
+        let Some(path) = shifted else {
+            return Ok(false);
+        };
+        let conf = self.conf_now()?;
+        is_hinged(self.alloc, &conf, path)
+    }
+
+    /// Whether what files show has to be worked out: some text differs, or the document that was opened or closed is a unit by that, or
+    /// none.
+    fn is_due(&self, prior: &PriorTexts, shifted: Option<&Path>) -> Result<bool, AllocError>
+        ensures { IfOk result (λ b. b ≡ is_due (option_map (λ p. p.now) shifted.entry) prior.now (current_state self.now)) }
+    {
+        if any_changed(&self.docs, prior)? {
+            return Ok(true);
+        }
+        self.turns(shifted)
+    }
+
+    /// The same, where what the files show is worked out anew if that is due, and else stays.
     fn finish<L: Ledger>(
         &mut self,
         response: Vec<u8>,
         logs: &[u8],
         prior: &PriorTexts,
         touched: Option<&Path>,
+        shifted: Option<&Path>,
         steps: &mut Steps<L>,
     ) -> Result<Vec<u8>, AllocError>
-        requires kept { any_changed prior.now self.old.docs ≡ false → WereKept self.old }
-        ensures wrote { IfOk result (λ v. v.items ≡ (response.items ++ logs.now) ++ news (touched_by (option_map (λ p. p.now) touched.entry)) self.old.encoding (shown_in self.old.shown) (shown_in self.new.shown) prior.now self.old.docs) }
+        requires kept { is_due (option_map (λ p. p.now) shifted) prior.now (current_state self.old) ≡ false → WereKept self.old }
+        ensures wrote { IfOk result (λ v. v.items ≡ (response.items ++ logs.now) ++ tidings (touched_by (option_map (λ p. p.now) touched.entry)) self.old.encoding (shown_in self.old.shown) (shown_in self.new.shown) prior.now self.old.docs) }
         ensures kept { OnOk result (IsKept self.new) }
-        ensures steps { OnOk result (steps.new ≡ worked (any_changed prior.now self.old.docs) self.old.docs steps.old) }
+        ensures steps { OnOk result (steps.new ≡ worked (is_due (option_map (λ p. p.now) shifted.entry) prior.now (current_state self.old)) (current_state self.old) steps.old) }
         ensures same { OnOk result (current_state self.new ≡ current_state self.old) }
     {
-        if any_changed(&self.docs, prior)? {
+        if self.is_due(prior, shifted)? {
             return self.finish_anew(response, logs, prior, touched, steps);
         }
         shown_follows();
@@ -335,11 +399,11 @@ impl Current {
         steps: &mut Steps<L>,
     ) -> Result<Vec<u8>, SessionError>
         requires store { D.faults store.old + 1 < 2 ^ 64 }
-        requires kept { (last : Prior) (t : Texts) → KeepsPrior prior.old self.old.docs last t → any_changed last t ≡ false → WereShown t (conf_in (with_texts t (current_state self.old))) self.old.shown }
+        requires kept { (last : Prior) (t : Texts) → KeepsPrior prior.old self.old.docs last t → SameOpen self.old.docs t → is_due (Some path.now) last (with_texts t (current_state self.old)) ≡ false → WereShown t (conf_in (with_texts t (current_state self.old))) self.old.shown }
         ensures handled { IfOk result (λ v. HasPublished (read_back (loading self.old.docs []) path.now) (current_state self.old) (current_state self.new) v.items (shown_in self.old.shown) (shown_in self.new.shown) prior.old (D.answers store.old) (D.answers store.new)) }
         ensures kept { OnOk result (IsKept self.new) }
         ensures prior { OnOk result (KeepsPrior prior.old self.old.docs prior.new self.new.docs) }
-        ensures steps { OnOk result (steps.new ≡ worked (any_changed prior.new self.new.docs) self.new.docs steps.old) }
+        ensures steps { OnOk result (steps.new ≡ worked (is_due (Some path.now) prior.new (current_state self.new)) (current_state self.new) steps.old) }
         ensures counted { OnOk result (D.faults store.new ≡ D.faults store.old) }
         ensures refused { IfErr result (λ e. Refused e (read_back (loading self.old.docs []) path.now) (D.answers store.old) (D.answers store.new) (D.faults store.old) (D.faults store.new)) }
     {
@@ -348,7 +412,14 @@ impl Current {
             Ok(()) => {}
             Err(error) => return Err(error),
         }
-        match self.finish(Vec::new(self.alloc), logs.as_slice(), prior, None, steps) {
+        match self.finish(
+            Vec::new(self.alloc),
+            logs.as_slice(),
+            prior,
+            None,
+            Some(path),
+            steps,
+        ) {
             Ok(bytes) => Ok(bytes),
             Err(_) => Err(SessionError::NoMemory),
         }
@@ -412,7 +483,14 @@ impl Current {
             Ok(()) => {}
             Err(error) => return Err(error),
         }
-        match self.finish(Vec::new(self.alloc), logs.as_slice(), &prior, None, steps) {
+        match self.finish(
+            Vec::new(self.alloc),
+            logs.as_slice(),
+            &prior,
+            None,
+            None,
+            steps,
+        ) {
             Ok(bytes) => Ok(bytes),
             Err(_) => Err(SessionError::NoMemory),
         }

@@ -1,16 +1,20 @@
 // What is published after a message that changed texts.
-ghost use Rattle.std.specs.Prelude.{◌≡◌, ◌≤◌, ℕ, ◌++◌, List, [], bytes_eq, length, option_map, IfOk, OnOk, string_bytes, unwrap_or};
+ghost use Rattle.std.specs.Prelude.{◌≡◌, ◌≤◌, ℕ, ◌++◌, List, [], codes, bytes_eq, length, option_map, IfOk, OnOk, string_bytes, unwrap_or};
 ghost use Rattle.std.specs.List.{list_any};
 ghost use Rattle.doc_texts.specs.Texts.{text_at, add_all};
 ghost use Rattle.plain_mean.specs.Given.{text_in};
 ghost use Rattle.plain_mean.specs.Lists.{shown_in};
 ghost use Rattle.plain_mean.specs.Within.{AreWithin};
 ghost use Rattle.c_session.specs.Shown.{same_fault, same_list, has_news, uri_for, publication};
-ghost use Rattle.c_session.specs.Ties.News.{IsPrior, any_changed, all_remembered, touched_by, is_told, news_of, may_have_news, news};
+ghost use Rattle.project_conf.specs.Entries.{refusal};
+ghost use Rattle.c_session.specs.Replies.{log};
+ghost use Rattle.c_session.specs.Ties.News.{IsPrior, any_changed, all_remembered, touched_by, is_told, news_of, may_have_news, news, other_database, database_news, tidings};
 
 use crate::diagnostics::{Showing, push_diagnostics_of};
+use crate::replies::push_log;
 use doc_texts::{Docs, PathSet, PriorTexts};
-use plain_mean::{Shown, ShownLists};
+use plain_mean::{Shown, ShownLists, database_fault, database_path};
+use project_conf::ConfError;
 use std::alloc::{AllocError, Global};
 use text_lines::Encoding;
 use uri_paths::{Path, uri_of};
@@ -173,7 +177,7 @@ fn may_have_news(alloc: Global, docs: &Docs, prior: &PriorTexts) -> Result<Vec<P
 }
 
 /// Writes the diagnostics of the files that have news, and of the one that was opened or changed, in order of path.
-pub(crate) fn push_news(
+fn push_news(
     alloc: Global,
     out: &mut Vec<u8>,
     docs: &Docs,
@@ -189,6 +193,61 @@ pub(crate) fn push_news(
         rest = behind;
         push_news_of(alloc, out, docs, encoding, change, path)?;
     }
+    Ok(())
+}
+
+/// Whether the database has another text than the one that is kept for it.
+fn other_database(alloc: Global, docs: &Docs, prior: &PriorTexts) -> Result<bool, AllocError>
+    ensures { IfOk result (λ differs. differs ≡ other_database prior.now docs.now) }
+{
+    match database_path(alloc, docs.root())? {
+        Some(path) => Ok(prior.is_changed(docs, &path)),
+        None => Ok(false),
+    }
+}
+
+/// Logs why the database is faulty.
+fn push_fault(alloc: Global, out: &mut Vec<u8>, error: ConfError) -> Result<(), AllocError>
+    ensures { OnOk result (out.new.items ≡ out.old.items ++ log (codes "compile_commands: " ++ refusal error)) }
+{
+    let name = error.name();
+    let text = format!(in alloc; "compile_commands: {name}")?;
+    push_log(alloc, out, text.as_str())
+}
+
+/// Logs why the database is faulty, where it has another text than before.
+#[tactic(auto, unfolding(crate::specs::Ties::News::database_news))]
+fn push_database(
+    alloc: Global,
+    out: &mut Vec<u8>,
+    docs: &Docs,
+    prior: &PriorTexts,
+) -> Result<(), AllocError>
+    ensures { OnOk result (out.new.items ≡ out.old.items ++ database_news prior.now docs.now) }
+{
+    if !other_database(alloc, docs, prior)? {
+        return Ok(());
+    }
+    match database_fault(alloc, docs)? {
+        Some(error) => push_fault(alloc, out, error),
+        None => Ok(()),
+    }
+}
+
+/// Writes why the database is faulty, where it has another text than before, and the diagnostics of the files that have news, and of the
+/// one that was opened or changed, in order of path.
+pub(crate) fn push_tidings(
+    alloc: Global,
+    out: &mut Vec<u8>,
+    docs: &Docs,
+    encoding: Encoding,
+    change: Change<'_>,
+) -> Result<(), AllocError>
+    requires within { (q : List ℕ) → AreWithin (length (text_in docs.now q)) (shown_in change.after.now q) }
+    ensures { OnOk result (out.new.items ≡ out.old.items ++ tidings (touched_by (option_map (λ p. p.now) change.entry.touched)) encoding (shown_in change.entry.before.now) (shown_in change.entry.after.now) change.entry.prior.now docs.now) }
+{
+    push_database(alloc, out, docs, change.prior)?;
+    push_news(alloc, out, docs, encoding, change)?;
     Ok(())
 }
 

@@ -1,13 +1,13 @@
 // What the words of the command line say, for as long as a session lasts.
-ghost use Rattle.std.specs.Prelude.{◌≡◌, option_map, IfOk};
-ghost use Rattle.plain_mean.specs.Confs.{conf_of};
+ghost use Rattle.std.specs.Prelude.{◌≡◌, IfOk};
+ghost use Rattle.plain_mean.specs.Confs.{conf_of, IsUsable};
 ghost use Rattle.project_conf.specs.Defines.{AreUsable};
 
+use doc_texts::Docs;
 use plain_mean::conf_of;
 use project_conf::{Conf, Options};
 use std::alloc::{AllocError, Global};
 use std::marker::Model;
-use uri_paths::Path;
 
 /// Options with whose definitions a unit may begin. Contracts see the options.
 #[derive(Drop)]
@@ -34,13 +34,13 @@ impl Words {
         Words { options }
     }
 
-    /// How the units are read under this root, or none.
-    #[tactic(auto, using(crate::proofs::Usable::usable_more))]
-    pub fn conf(&self, alloc: Global, root: Option<&Path>) -> Result<Conf, AllocError>
-        ensures conf { IfOk result (λ conf. conf ≡ conf_of self.now (option_map (λ r. r.now) root.entry)) }
-        ensures usable { IfOk result (λ conf. AreUsable 268435456 conf.defines) }
+    /// How the units of these texts are read.
+    #[tactic(auto, using(crate::proofs::Usable::usable_conf))]
+    pub fn conf(&self, alloc: Global, docs: &Docs) -> Result<Conf, AllocError>
+        ensures conf { IfOk result (λ conf. conf ≡ conf_of self.now docs.now) }
+        ensures usable { IfOk result (λ conf. IsUsable conf) }
     {
-        let conf = conf_of(alloc, &self.options, root)?;
+        let conf = conf_of(alloc, &self.options, docs)?;
         Ok(conf)
     }
 }

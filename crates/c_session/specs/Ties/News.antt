@@ -1,17 +1,19 @@
 -- What a message changed, by what the files showed before it and the texts that some had.
 use Rattle.std.specs.Prelude.{◌≡◌, ℕ, Bool, false, ◌||◌, List, [], ◌∷◌, ◌++◌, Option, None, Some, flat_map, if◌then◌else◌}
 use Rattle.std.specs.List.{list_any}
+use Rattle.std.specs.Option.{option_map_or}
 use Rattle.std.specs.Str.{bytes_eq}
 use Rattle.std.specs.FinMap.{get, keys}
 use Rattle.text_lines.specs.declared.encoding.Encoding.{Encoding}
 use Rattle.io_edges.specs.Store.{Entry}
 use Rattle.doc_texts.specs.Texts.{Texts, text_at, paths_of, marked, add_all}
 use Rattle.doc_texts.specs.Prior.{Prior, remembered, is_changed}
+use Rattle.plain_mean.specs.Confs.{database_path, database_fault}
 use Rattle.plain_mean.specs.declared.types.Shown.{Shown}
 use Rattle.c_session.specs.Asking.{Asking, Gives}
 use Rattle.c_session.specs.Handled.{Reached}
 use Rattle.c_session.specs.Loading.{Loading}
-use Rattle.c_session.specs.Shown.{has_news, publication}
+use Rattle.c_session.specs.Shown.{has_news, publication, fault_log}
 use Rattle.c_session.specs.State.{State, with_texts}
 
 -- The prior texts are those of an earlier moment, of each file at least whose text is another now.
@@ -62,6 +64,17 @@ may_have_news prior now = keys (add_all (marked (keys prior)) (paths_of now))
 abbrev pub news : List (List ℕ) → Encoding → ByPath → ByPath → Prior → Texts → List ℕ
 news touched encoding before after prior now = flat_map (news_of touched encoding before after prior now) (may_have_news prior now)
 
+-- the database has another text than the one that is kept for it
+abbrev pub other_database : Prior → Texts → Bool
+other_database prior now = option_map_or (is_changed prior now) (database_path now.root) false
+
+unfoldable pub database_news : Prior → Texts → List ℕ
+database_news prior now = if other_database prior now then fault_log (database_fault now) else []
+
+-- a log message on the database, and what is published
+abbrev pub tidings : List (List ℕ) → Encoding → ByPath → ByPath → Prior → Texts → List ℕ
+tidings touched encoding before after prior now = database_news prior now ++ news touched encoding before after prior now
+
 -- Something asked the store and left texts and logs, and what that changed was written.
 pub record HasPublished (asking : Asking Loading) (s s' : State) (bytes : List ℕ) (before after : ByPath) (prior : Prior) (old new : Option (List Entry)) : Type 0 where
   pub logs : List ℕ
@@ -69,4 +82,4 @@ pub record HasPublished (asking : Asking Loading) (s s' : State) (bytes : List �
   pub settings : s' ≡ with_texts s'.texts s
   pub last : Prior
   pub keeps : KeepsPrior prior s.texts last s'.texts
-  pub wrote : bytes ≡ logs ++ news [] s.encoding before after last s'.texts
+  pub wrote : bytes ≡ logs ++ tidings [] s.encoding before after last s'.texts

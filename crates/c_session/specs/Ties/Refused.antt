@@ -1,5 +1,5 @@
 -- What the code's refusals stand for.
-use Rattle.std.specs.Prelude.{◌≡◌, ◌≢◌, ℕ, false, List, [], ◌∷◌, ◌++◌, codes, Result, Ok, Err}
+use Rattle.std.specs.Prelude.{◌≡◌, ◌≢◌, ℕ, Bool, false, List, [], ◌∷◌, ◌++◌, codes, Result, Ok, Err}
 use Rattle.json_view.specs.Refusals as view
 use Rattle.json_view.specs.declared.error.ViewError.{ViewError}
 use Rattle.json_view.specs.declared.error.ViewError.TheVariants as view_error
@@ -13,8 +13,9 @@ use Rattle.text_lines.specs.declared.encoding.Encoding.{Encoding}
 use Rattle.c_session.specs.React.{Edited}
 use Rattle.c_session.specs.Reasons.{Reason, ByParams, ByUri, ByTexts, reason_text}
 use Rattle.c_session.specs.Replies.{log}
-use Rattle.c_session.specs.Ties.News.{ByPath, any_changed, news}
-use Rattle.c_session.specs.Ties.Sessions.{IsKept, WereKept, worked}
+use Rattle.c_session.specs.State.{State}
+use Rattle.c_session.specs.Ties.News.{ByPath, tidings}
+use Rattle.c_session.specs.Ties.Sessions.{current_state, shifted_by, is_due, IsKept, WereKept, worked}
 use Rattle.c_session.specs.declared.current.Current.{Current}
 use Rattle.c_session.specs.declared.reasons.Refusal.{Refusal}
 use Rattle.c_session.specs.declared.reasons.Refusal.TheVariants.{Params, Uri, Texts as ByDocs, NoMemory}
@@ -66,7 +67,7 @@ edited texts path = record { path = path; texts = texts }
 
 -- The reply to an edit: what is published then, or a log message.
 abbrev pub IsReply : List ℕ → Texts → Encoding → Result (List ℕ) Refusal → List ℕ → ByPath → ByPath → Prior → Type 0
-IsReply method texts encoding (Ok path) bytes before after prior = bytes ≡ news (path ∷ []) encoding before after prior texts
+IsReply method texts encoding (Ok path) bytes before after prior = bytes ≡ tidings (path ∷ []) encoding before after prior texts
 IsReply method texts encoding (Err r) bytes before after prior = (r ≢ NoMemory) × (bytes ≡ log (method ++ codes ": " ++ reason_text (reason r)))
 
 -- Behind the reply to an edit what files show is kept, or nothing was changed by it.
@@ -74,12 +75,12 @@ abbrev pub IsBehind : {T : Type 0} → Result T Refusal → Current → Current 
 IsBehind (Ok x) old new = IsKept new
 IsBehind (Err r) old new = new ≡ old
 
--- the lists that are kept are those of the same texts, where an edit left each as it was
-abbrev pub IsKeptBy : {T : Type 0} → Result T Refusal → Prior → Current → Type 0
-IsKeptBy (Ok x) prior current = any_changed prior current.docs ≡ false → WereKept current
-IsKeptBy (Err r) prior current = Unit {0}
+-- the lists that are kept are those of the same texts and units, where an edit left each as it was
+abbrev pub IsKeptBy : Result (List ℕ) Refusal → Bool → Prior → Current → Type 0
+IsKeptBy (Ok path) opens prior current = is_due (shifted_by opens path) prior (current_state current) ≡ false → WereKept current
+IsKeptBy (Err r) opens prior current = Unit {0}
 
--- the counter of steps behind the reply to an edit that left these texts
-abbrev pub IsWorked : {T : Type 0} → Result T Refusal → Prior → Texts → ℕ → ℕ → Type 0
-IsWorked (Ok x) prior t old new = new ≡ worked (any_changed prior t) t old
-IsWorked (Err r) prior t old new = new ≡ old
+-- the counter of steps behind the reply to an edit that left this state
+abbrev pub IsWorked : Result (List ℕ) Refusal → Bool → Prior → State → ℕ → ℕ → Type 0
+IsWorked (Ok path) opens prior s old new = new ≡ worked (is_due (shifted_by opens path) prior s) s old
+IsWorked (Err r) opens prior s old new = new ≡ old
