@@ -1,5 +1,6 @@
 // The tags of the cases: `struct S { int x; int b : 2; }`, `struct I` of no members, `enum E`, `struct K { const int k; }`, `union U {
-// struct { int y; }; int c; }`, and `struct D { char a; struct { int c[3]; } d; }`.
+// struct { int y; }; int c; }`, and `struct D { char a; struct { int c[3]; } d; }`; and two heaps of 200 structures, each of which
+// holds the one before twice: `struct N` on `struct S`, whose hundredth is `H`, and `struct M` on `struct K`.
 use crate::types::plain;
 use shared_list::Listing;
 use shared_text::Name;
@@ -155,6 +156,36 @@ fn with_array(alloc: Global, tags: &mut Tags) -> Result<(), AllocError> {
     Ok(())
 }
 
+// A structure that holds another one twice. Its size is too large to be told.
+fn doubled(alloc: Global, name: &str, held: u32) -> Result<TagInfo, AllocError> {
+    let first = member(alloc, "p", CType::of(Node::Tagged(tag(alloc, held)?)))?;
+    let second = member(alloc, "q", CType::of(Node::Tagged(tag(alloc, held)?)))?;
+    let members = vec![in alloc; first, second]?;
+    Ok(TagInfo {
+        kind: TagKind::Struct,
+        name: named(alloc, name)?,
+        members: Some(Listing::from_vec(members)),
+        layout: None,
+    })
+}
+
+// Structures from a number on, each of which holds the one before twice.
+fn heaped(
+    alloc: Global,
+    tags: &mut Tags,
+    name: &str,
+    bottom: u32,
+    from: u32,
+) -> Result<(), AllocError> {
+    let mut below = bottom;
+    for number in 0u32..200 {
+        let number = from.wrapping_add(number);
+        tags.insert(tag(alloc, number)?, doubled(alloc, name, below)?)?;
+        below = number;
+    }
+    Ok(())
+}
+
 /// What is known of these tags.
 pub fn tags_of(alloc: Global) -> Result<Tags, AllocError> {
     let mut tags = Tags::new(alloc);
@@ -163,5 +194,7 @@ pub fn tags_of(alloc: Global) -> Result<Tags, AllocError> {
     with_const(alloc, &mut tags)?;
     with_anonymous(alloc, &mut tags)?;
     with_array(alloc, &mut tags)?;
+    heaped(alloc, &mut tags, "N", 1, 1000)?;
+    heaped(alloc, &mut tags, "M", 4, 2000)?;
     Ok(tags)
 }

@@ -1,8 +1,8 @@
 // Types in postfix notation, a character a part: `v` void, `b` _Bool, `c` char, `s` short, `i` int, `u` unsigned int, `l` long, `m`
-// unsigned long, `f` float, `d` double, `S` `K` `U` `D` complete structures and unions, `I` an incomplete one, `E` an enumeration,
-// `B` a type with a fault; then `*` a pointer, a digit an array of that size, `_` one of no size, `?` one of an untold size, `k`
-// const for what the next pointer or array is of, and a function: `o` `()`, `z` `(void)`, `n` `(int)`, `t` `(int, int)`, `V` `(int,
-// ...)`, `p` `(int *)`.
+// unsigned long, `f` float, `d` double, `S` `K` `U` `D` `H` `N` `M` complete structures and unions, `I` an incomplete one, `E` an
+// enumeration, `B` a type with a fault; then `*` a pointer, a digit an array of that size, `_` one of no size, `?` one of an untold
+// size, `k` const for what the next pointer or array is of, and a function: `o` `()`, `z` `(void)`, `n` `(int)`, `t` `(int, int)`,
+// `V` `(int, ...)`, `p` `(int *)`.
 use crate::tags::tag;
 use std::alloc::{AllocError, Global};
 use type_data::{Basic, CType, Extent, Node, ParamList, Params, Proto, Qual};
@@ -37,6 +37,9 @@ fn tagged(letter: u8) -> Option<u32> {
         b'K' => Some(4),
         b'U' => Some(5),
         b'D' => Some(7),
+        b'H' => Some(1099),
+        b'N' => Some(1199),
+        b'M' => Some(2199),
         _ => None,
     }
 }
