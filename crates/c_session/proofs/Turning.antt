@@ -1,5 +1,5 @@
 -- Documents that are opened and closed, and which paths are units by that.
-use Rattle.std.proofs.Common.{◌≡◌, ℕ, Bool, true, false, not, ◌&&◌, ◌||◌, List, [], ◌∷◌, Option, None, Some, Result, Ok, Err, is_some, T, refl, sym, ap, ◌∙◌, subst, true≢false}
+use Rattle.std.proofs.Common.{◌≡◌, ℕ, Bool, true, false, not, ◌&&◌, ◌||◌, List, [], ◌∷◌, Option, None, Some, Result, Ok, Err, is_some, refl, sym, ap, ◌∙◌, true≢false}
 use Rattle.uri_paths.specs.Uris.{path_of_uri}
 use Rattle.io_edges.specs.Store.{Entry}
 use Rattle.doc_texts.specs.Texts.{Texts}
@@ -8,13 +8,13 @@ use Rattle.doc_texts.specs.declared.error.DocError.{DocError}
 use Rattle.doc_texts.specs.declared.error.DocError.TheVariants.{OutsideRoot}
 use Rattle.project_conf.specs.Entries.{entry_of, is_source, is_unit}
 use Rattle.project_conf.specs.declared.conf.UnitConf.{UnitConf}
-use Rattle.c_session.specs.Asking.{Asking, Gives}
+use Rattle.c_session.specs.Asking.{Gives}
 use Rattle.c_session.specs.Files.{with_found}
 use Rattle.c_session.specs.Handled.{Reached}
 use Rattle.c_session.specs.Loading.{Loading, with_log, settles, load_log, is_read, read_back, watched_log, updates, updates_at, updates_all}
 use Rattle.c_session.specs.Params.{FileChange}
 use Rattle.c_session.specs.Reasons.{Reason, ByTexts, by_uri}
-use Rattle.c_session.specs.Ties.Sessions.{SameOpen, Turned, Shifts, is_hinged}
+use Rattle.c_session.specs.Ties.Sessions.{SameOpen, Shifts, is_hinged}
 use Rattle.c_session.specs.declared.params.FileChangeKind.{FileChangeKind}
 use Rattle.c_session.specs.declared.params.FileChangeKind.TheVariants.{Created, Changed, Deleted}
 use Rattle.c_session.proofs.Priors.{loaded_open, found_open}

@@ -1,5 +1,5 @@
 -- How units are read begins with usable definitions.
-use Rattle.std.proofs.Common.{◌≡◌, List, sym, ap, subst}
+use Rattle.std.proofs.Common.{◌≡◌, sym, ap, subst}
 use Rattle.std.specs.Prelude.{All, IfSome}
 use Rattle.doc_texts.specs.Texts.{Texts}
 use Rattle.plain_mean.specs.Confs.{conf_of, IsUsable}
