@@ -85,9 +85,11 @@ impl Session {
 
     /// Handles one content: what the plain server does with it, asking the store for what that wants. Each answer that
     /// the store gives was wanted then. A content that is refused leaves the state. As long as each call gave a reply
-    /// (`is_whole`), each unit of the texts is worked out, which is one step each, where the session began with this content
-    /// or some file has another text than before, and else none is. After an error (`StoreFault`, `NoMemory`) the session
-    /// isn't used again: its state isn't told then, and a call that came nonetheless might work out more units.
+    /// (`is_whole`), each unit of the texts is worked out, which is one step each, where the session began with this content,
+    /// some file has another text than before, or a path became a unit or none, and else none is. The database is read where
+    /// units are worked out and where a document is opened or closed, which costs its text. After an error (`StoreFault`,
+    /// `NoMemory`) the session isn't used again: its state isn't told then, and a call that came nonetheless might work out
+    /// more units.
     pub fn handle<D: Store, L: Ledger>(
         &mut self,
         content: &[u8],
