@@ -76,7 +76,7 @@ impl Session {
         }
     }
 
-    /// How many contents were handed to `handle`.
+    /// To how many contents `handle` gave a reply. After an error this isn't told.
     pub fn handled(&self) -> u64
         ensures { result ≡ handled_by self.now }
     {
