@@ -1,8 +1,8 @@
 -- Kinds told apart.
 use Rattle.std.proofs.Common.{◌≡◌, refl, ap, sym, ◌∙◌, subst, ℕ, ◌<◌, List, arith, Bool, true, false, true≢false}
 use Rattle.c_parser.specs.declared.kinds.Kind.{Kind}
-use Rattle.c_parser.specs.declared.kinds.Kind.TheVariants.{Identifier, TypeName, TypeWord, Qualifier, Tag, AlignOf, Constant, Text, OpenParen, CloseParen, OpenBracket, CloseBracket, Member, Step, Ampersand, Star, Sign, Complement, SizeOf, Quotient, Shift, Relation, Equality, Caret, Bar, And, Or, Question, Colon, Assignment, Comma, OpenBrace, CloseBrace, Dot, Equals, Generic, OffsetOf, Default, Atomic, Static, End, Ellipsis}
-use Rattle.c_parser.specs.Kinds.{kind_at, level_of, is_prefix, is_size, is_suffix, is_opening, is_specifying, starts_type, is_dot, is_equals, is_member, is_designating}
+use Rattle.c_parser.specs.declared.kinds.Kind.TheVariants.{Identifier, TypeName, TypeWord, Qualifier, Tag, AlignOf, Constant, Text, OpenParen, CloseParen, OpenBracket, CloseBracket, Member, Step, Ampersand, Star, Sign, Complement, SizeOf, Quotient, Shift, Relation, Equality, Caret, Bar, And, Or, Question, Colon, Assignment, Comma, OpenBrace, CloseBrace, Dot, Equals, Generic, OffsetOf, Default, Atomic, Static, Storage, End, Ellipsis}
+use Rattle.c_parser.specs.Kinds.{kind_at, level_of, is_prefix, is_size, is_suffix, is_opening, starts_type, is_dot, is_equals, is_member, is_designating}
 use Rattle.c_parser.specs.Reading.{Stops}
 
 abbrev pub code_of : Kind → ℕ
@@ -38,6 +38,7 @@ code_of OffsetOf = 29
 code_of Default = 30
 code_of Atomic = 31
 code_of Static = 32
+code_of Storage = 35
 code_of End = 33
 code_of Ellipsis = 34
 code_of _ = 0
@@ -152,13 +153,6 @@ not_question Dot h not = absurd (omega (arith, h))
 not_question Step h not = absurd (omega (arith, h))
 not_question _ h not = omega arith
 
-pub word_starts : (k : Kind) → is_specifying k ≡ true → starts_type k ≡ true
-word_starts TypeWord h = refl
-word_starts Qualifier h = refl
-word_starts Tag h = refl
-word_starts TypeName h = refl
-word_starts _ h = absurd (true≢false (sym h))
-
 -- what an expression may begin with
 abbrev pub is_start : Kind → Bool
 is_start Identifier = true
@@ -197,6 +191,8 @@ no_type Qualifier h = absurd (true≢false (sym h))
 no_type Tag h = absurd (true≢false (sym h))
 no_type TypeName h = absurd (true≢false (sym h))
 no_type Atomic h = absurd (true≢false (sym h))
+no_type Storage h = absurd (true≢false (sym h))
+no_type Static h = absurd (true≢false (sym h))
 no_type _ h = refl
 
 pub size_is : (k : Kind) → is_size k ≡ true → (k ≡ SizeOf → ⊥) → (k ≡ AlignOf → ⊥) → ⊥

@@ -167,7 +167,7 @@ mutual
 
   pub formed_naming : (ks : List Kind) → (y : Bool) → (t : Naming) → (a b : ℕ) → HoldsNaming ks y t a b → IsNaming ks y t
   formed_naming ks y (Type_of ss d) a b h =
-      (h.1, formed_specifyings ks false ss a h.0 h.2, formed_declaring ks y d h.0 b h.3)
+      (h.1, formed_specifyings ks false ss a h.0 h.2, formed_declaring ks y d h.0 b h.3, h.4)
 
   formed_declaring : (ks : List Kind) → (y : Bool) → (d : Declaring) → (a b : ℕ) → HoldsDeclaring ks y d a b → IsDeclaring ks y d
   formed_declaring ks y (Declaring_of ps g ds) a b h =
@@ -874,7 +874,7 @@ mutual
   pub held_naming : (ks : List Kind) → (y : Bool) → (t : Naming) → (a b : ℕ) → IsNaming ks y t → Spans (spell_type t) a b → HoldsNaming ks y t a b
   held_naming ks y (Type_of xs d) a b f s =
       let r = spans_split (spell_specifyings xs) (spell_declaring d) a b s in
-      (r.at, f.0, held_specifyings ks false xs a r.at f.1 r.front, held_declaring ks y d r.at b f.2 r.back)
+      (r.at, f.0, held_specifyings ks false xs a r.at f.1 r.front, held_declaring ks y d r.at b f.2 r.back, f.3)
 
   held_declaring : (ks : List Kind) → (y : Bool) → (d : Declaring) → (a b : ℕ) → IsDeclaring ks y d → Spans (spell_declaring d) a b
       → HoldsDeclaring ks y d a b

@@ -1,21 +1,22 @@
 -- Specifiers and qualifiers, as the code reads them one behind another, and the name of a type from them and its declarator.
-use Rattle.std.proofs.Common.{◌≡◌, refl, ap, sym, ◌∙◌, subst, ℕ, ◌+◌, ◌<◌, ◌≤◌, List, [], ◌∷◌, ◌++◌, length, arith, Bool, true, false, true≢false, ◌||◌, ◌==◌}
+use Rattle.std.proofs.Common.{◌≡◌, refl, ap, sym, ◌∙◌, subst, ℕ, ◌+◌, ◌<◌, ◌≤◌, List, [], ◌∷◌, ◌++◌, length, arith, Bool, true, false, true≢false, ◌||◌, ◌==◌, inl, inr}
 use Rattle.std.proofs.lemmas.List.{map-append}
 use Rattle.tree_data.specs.declared.types.Specifier.{Specifier}
 use Rattle.tree_data.specs.Seen.{specifier_of, specifiers_of}
 use Rattle.tree_data.specs.Trees.{Specifying, Word_of, Typedef_of, Tag_of, Atomic_of, Specifyings, No_specifiers, Specifier_then, Naming, Type_of, Declaring, specifyings}
 use Rattle.c_parser.specs.declared.answers.Stop.{Stop}
+use Rattle.c_parser.specs.declared.answers.Stop.TheVariants as stop
 use Rattle.c_parser.specs.declared.kinds.Kind.{Kind}
-use Rattle.c_parser.specs.declared.kinds.Kind.TheVariants.{TypeWord, Qualifier, TypeName, Tag, Atomic, CloseParen}
+use Rattle.c_parser.specs.declared.kinds.Kind.TheVariants.{TypeWord, Qualifier, Storage, Static, TypeName, Tag, Atomic, CloseParen}
 use Rattle.c_parser.specs.Beginnings.{IsNamed}
-use Rattle.c_parser.specs.Grammar.{has_type, AreSome}
-use Rattle.c_parser.specs.Kinds.{kind_at, is_word, is_type_word, ends_type, ends_specifiers, specifies_at, atomic_opens}
+use Rattle.c_parser.specs.Grammar.{has_type, AreSome, MayStand, stores, stores_one}
+use Rattle.c_parser.specs.Kinds.{kind_at, is_word, is_type_word, ends_type, ends_specifiers, specifies_at, atomic_opens, is_storage, stored_amiss}
 use Rattle.c_parser.specs.Reading.{HoldSpecifying, HoldSpecifyings, HoldsNaming, HoldsType, HoldsDeclaring, FoundNaming, IsWant}
 use Rattle.c_parser.specs.TypeNames.{NoMore, FoundSpecifying, FoundSpecifiers, FoundDeclaring, FailsSpecifying}
 use Rattle.c_parser.proofs.Marks.{clash}
 use Rattle.c_parser.proofs.Forth.{specifyings_forth}
-use Rattle.c_parser.proofs.TypeReading.{everywhere, specifying_only, specifying_strict, no_specifying, declaring_begins}
-use Rattle.c_parser.proofs.Words.{specifies_not, specifies_none, atomic_not, opens_kind, opens_next, opens_both}
+use Rattle.c_parser.proofs.TypeReading.{everywhere, specifying_only, specifying_strict, no_specifying, declaring_begins, ends_none}
+use Rattle.c_parser.proofs.Words.{specifies_not, specifies_none, atomic_not, opens_kind, opens_next, opens_both, either, or_left, or_right, amiss_starts, amiss_storage, amiss_unnamed, storage_allowed}
 
 one_only : (ks : List Kind) → (y : Bool) → (s : Specifying) → (a b : ℕ) → HoldSpecifying ks y s a b
     → (s' : Specifying) → (b' : ℕ) → HoldSpecifying ks y s' a b' → (s ≡ s') × (b ≡ b')
@@ -86,9 +87,9 @@ untagged ks y at o k n =
     (λ x w. true≢false (sym w ∙ n))
 
 pub no_kind : (ks : List Kind) → (y : Bool) → (at : ℕ) → (k : Kind) → atomic_opens ks at ≡ false → k ≡ kind_at ks at → (k ≡ TypeWord → ⊥)
-    → (k ≡ Qualifier → ⊥) → (k ≡ Atomic → ⊥) → (k ≡ TypeName → ⊥) → (k ≡ Tag → ⊥) → NoMore ks y at
-no_kind ks y at k o e w q a n t =
-    nothing_stands ks y at o (specifies_none ks at k e w q a) (λ f x. n (e ∙ x)) (λ x i. t (e ∙ x))
+    → (k ≡ Qualifier → ⊥) → (k ≡ Storage → ⊥) → (k ≡ Static → ⊥) → (k ≡ Atomic → ⊥) → (k ≡ TypeName → ⊥) → (k ≡ Tag → ⊥) → NoMore ks y at
+no_kind ks y at k o e w q c s a n t =
+    nothing_stands ks y at o (specifies_none ks at k e w q c s a) (λ f x. n (e ∙ x)) (λ x i. t (e ∙ x))
 
 -- `_Atomic ( type-name )`
 pub atomic_found : (ks : List Kind) → (at : ℕ) → (s : Specifying) → (t : Naming) → (c : ℕ) → atomic_opens ks at ≡ true → s ≡ Atomic_of at (at + 1) t c
@@ -137,17 +138,19 @@ pub record SpecifiersLeft (ks : List Kind) (y : Bool) (done : List Specifying) (
   pub is : ss ≡ specifyings done left
   pub holds : HoldSpecifyings ks y left at m
 
-pub record Specifiers (ks : List Kind) (start : ℕ) (done : List Specifying) (at : ℕ) (y : Bool) : Type 0 where
+pub record Specifiers (ks : List Kind) (n : Bool) (start : ℕ) (done : List Specifying) (at : ℕ) (y : Bool) : Type 0 where
   pub grows : (ss : Specifyings) → (b : ℕ) → HoldSpecifyings ks y ss at b → HoldSpecifyings ks false (specifyings done ss) start b
   pub only : (ss : Specifyings) → (b : ℕ) → HoldSpecifyings ks false ss start b → ends_specifiers (kind_at ks b) ≡ true
       → SpecifiersLeft ks y done at ss b
+  pub fits : (ss : Specifyings) → MayStand ks n ss → MayStand ks n (specifyings done ss)
   pub forth : start ≤ at
   pub inside : at ≤ length ks
 
-pub specifiers_start : (ks : List Kind) → (at : ℕ) → at ≤ length ks → Specifiers ks at [] at false
-specifiers_start ks at i = record {
+pub specifiers_start : (ks : List Kind) → (n : Bool) → (at : ℕ) → at ≤ length ks → Specifiers ks n at [] at false
+specifiers_start ks n at i = record {
   grows = λ ss b h. h;
   only = λ ss b h e. record { left = ss; is = refl; holds = h };
+  fits = λ ss f. f;
   forth = omega arith;
   inside = i;
 }
@@ -169,10 +172,28 @@ left_turns ks y done at s k z h f ss (Specifier_then s' left) m is g e =
           (subst (λ x. HoldSpecifyings ks (has_type ks s' || y) left x m) (sym one.1) g.2);
     }
 
-specifiers_turn : (ks : List Kind) → (start : ℕ) → (done : List Specifying) → (at : ℕ) → (y : Bool) → (s : Specifying) → (m : ℕ) → (z : Bool)
-    → Specifiers ks start done at y → FoundSpecifying ks y at s m × (z ≡ (has_type ks s || y))
-    → Specifiers ks start (done ++ s ∷ []) m z
-specifiers_turn ks start done at y s m z loop found =
+-- a specifier is a storage class where its token is
+stores_at : (ks : List Kind) → (y : Bool) → (s : Specifying) → (a b : ℕ) → HoldSpecifying ks y s a b → stores_one ks s ≡ is_storage (kind_at ks a)
+stores_at ks y (Word_of n) a b h = ap (λ x. is_storage (kind_at ks x)) h.0
+stores_at ks y (Typedef_of n) a b h = sym (ap is_storage h.2)
+stores_at ks y (Tag_of k n) a b h = sym (ap is_storage h.1)
+stores_at ks y (Atomic_of k o t c) a b h = sym (ap is_storage h.1)
+
+one_may : (ks : List Kind) → (n y : Bool) → (s : Specifying) → (a b : ℕ) → HoldSpecifying ks y s a b → stored_amiss ks a n ≡ false → stores_one ks s ≡ true
+    → n ≡ true
+one_may ks n y s a b h f e = storage_allowed ks a n f (sym (stores_at ks y s a b h) ∙ e)
+
+may_then : (ks : List Kind) → (n : Bool) → (s : Specifying) → (ss : Specifyings) → (stores_one ks s ≡ true → n ≡ true) → MayStand ks n ss
+    → MayStand ks n (Specifier_then s ss)
+may_then ks n s ss one more e = elim (either (stores_one ks s) (stores ks ss) e) [
+  | inl p ↦ one p
+  | inr q ↦ more q
+]
+
+specifiers_turn : (ks : List Kind) → (n : Bool) → (start : ℕ) → (done : List Specifying) → (at : ℕ) → (y : Bool) → (s : Specifying) → (m : ℕ) → (z : Bool)
+    → Specifiers ks n start done at y → stored_amiss ks at n ≡ false → FoundSpecifying ks y at s m × (z ≡ (has_type ks s || y))
+    → Specifiers ks n start (done ++ s ∷ []) m z
+specifiers_turn ks n start done at y s m z loop told found =
     let one : start ≤ at = loop.forth in
     let two : at < m = found.0.forth in
     record {
@@ -184,46 +205,52 @@ specifiers_turn ks start done at y s m z loop found =
       only = λ ss b h e.
           let a = loop.only ss b h e in
           left_turns ks y done at s m z found.0.reads found.1 ss a.left b a.is a.holds e;
+      fits = λ ss f.
+          subst
+          (λ xs. MayStand ks n xs)
+          (sym (specifyings_snoc done s ss))
+          (loop.fits (Specifier_then s ss) (may_then ks n s ss (one_may ks n y s at m found.0.reads told) f));
       forth = omega arith;
       inside = found.0.inside;
     }
 
-pub specifiers_push : (ks : List Kind) → (start : ℕ) → (items more : List Specifier) → (at : ℕ) → (y : Bool) → (s : Specifier) → (m : ℕ) → (z : Bool)
-    → Specifiers ks start (specifiers_of items) at y → FoundSpecifying ks y at (specifier_of s) m × (z ≡ (has_type ks (specifier_of s) || y))
-    → more ≡ items ++ s ∷ [] → Specifiers ks start (specifiers_of more) m z
-specifiers_push ks start items more at y s m z loop found grown =
+pub specifiers_push : (ks : List Kind) → (n : Bool) → (start : ℕ) → (items more : List Specifier) → (at : ℕ) → (y : Bool) → (s : Specifier) → (m : ℕ) → (z : Bool)
+    → Specifiers ks n start (specifiers_of items) at y → stored_amiss ks at n ≡ false → FoundSpecifying ks y at (specifier_of s) m × (z ≡ (has_type ks (specifier_of s) || y))
+    → more ≡ items ++ s ∷ [] → Specifiers ks n start (specifiers_of more) m z
+specifiers_push ks n start items more at y s m z loop told found grown =
     subst
-    (λ xs. Specifiers ks start xs m z)
+    (λ xs. Specifiers ks n start xs m z)
     (sym (ap specifiers_of grown ∙ map-append specifier_of items (s ∷ [])))
-    (specifiers_turn ks start (specifiers_of items) at y (specifier_of s) m z loop found)
+    (specifiers_turn ks n start (specifiers_of items) at y (specifier_of s) m z loop told found)
 
-pub specifiers_end : (ks : List Kind) → (start : ℕ) → (done : List Specifying) → (at : ℕ) → (y : Bool) → Specifiers ks start done at y
-    → FoundSpecifiers ks start (specifyings done No_specifiers) at
-specifiers_end ks start done at y loop = record {
+pub specifiers_end : (ks : List Kind) → (n : Bool) → (start : ℕ) → (done : List Specifying) → (at : ℕ) → (y : Bool) → Specifiers ks n start done at y
+    → FoundSpecifiers ks n start (specifyings done No_specifiers) at
+specifiers_end ks n start done at y loop = record {
   reads = loop.grows No_specifiers at refl;
+  fits = loop.fits No_specifiers (λ e. absurd (true≢false (sym e)));
   forth = loop.forth;
   inside = loop.inside;
 }
 
 -- a call that reads specifiers has this for all that stand there
-abbrev pub OnlySpecifiers : List Kind → ℕ → Specifyings → ℕ → Type 0
-OnlySpecifiers ks a ss m =
-    (ss' : Specifyings) → (m' : ℕ) → HoldSpecifyings ks false ss' a m' → ends_specifiers (kind_at ks m') ≡ true → (ss ≡ ss') × (m ≡ m')
+abbrev pub OnlySpecifiers : List Kind → Bool → ℕ → Specifyings → ℕ → Type 0
+OnlySpecifiers ks n a ss m =
+    (ss' : Specifyings) → (m' : ℕ) → HoldSpecifyings ks false ss' a m' → MayStand ks n ss' → ends_specifiers (kind_at ks m') ≡ true → (ss ≡ ss') × (m ≡ m')
 
-abbrev pub FailsSpecifiers : List Kind → ℕ → Stop → Type 0
-FailsSpecifiers ks a e =
-    (ss : Specifyings) → (m : ℕ) → HoldSpecifyings ks false ss a m → ends_specifiers (kind_at ks m) ≡ true → IsWant e
+abbrev pub FailsSpecifiers : List Kind → Bool → ℕ → Stop → Type 0
+FailsSpecifiers ks n a e =
+    (ss : Specifyings) → (m : ℕ) → HoldSpecifyings ks false ss a m → MayStand ks n ss → ends_specifiers (kind_at ks m) ≡ true → IsWant e
 
 no_more_left : (ks : List Kind) → (y : Bool) → (done : List Specifying) → (at : ℕ) → NoMore ks y at → (ss left : Specifyings) → (m : ℕ)
     → ss ≡ specifyings done left → HoldSpecifyings ks y left at m → (specifyings done No_specifiers ≡ ss) × (at ≡ m)
 no_more_left ks y done at n ss No_specifiers m is h = (sym is, sym h)
 no_more_left ks y done at n ss (Specifier_then s left) m is h = absurd (n s h.0 h.1)
 
-pub specifiers_only : (ks : List Kind) → (start : ℕ) → (done : List Specifying) → (at : ℕ) → (y : Bool) → Specifiers ks start done at y → NoMore ks y at
-    → OnlySpecifiers ks start (specifyings done No_specifiers) at
-specifiers_only ks start done at y loop n ss m h e =
+pub specifiers_only : (ks : List Kind) → (n : Bool) → (start : ℕ) → (done : List Specifying) → (at : ℕ) → (y : Bool) → Specifiers ks n start done at y
+    → NoMore ks y at → OnlySpecifiers ks n start (specifyings done No_specifiers) at
+specifiers_only ks n start done at y loop none ss m h f e =
     let a = loop.only ss m h e in
-    no_more_left ks y done at n ss a.left m a.is a.holds
+    no_more_left ks y done at none ss a.left m a.is a.holds
 
 stop_left : (ks : List Kind) → (y : Bool) → (at : ℕ) → (e : Stop) → FailsSpecifying ks y at e → (left : Specifyings) → (m : ℕ)
     → HoldSpecifyings ks y left at m → ends_specifiers (kind_at ks m) ≡ true → IsWant e
@@ -231,11 +258,32 @@ stop_left ks y at e fails No_specifiers m h f =
     absurd (true≢false (sym f ∙ ap (λ x. ends_specifiers (kind_at ks x)) h ∙ fails.0))
 stop_left ks y at e fails (Specifier_then s left) m h f = fails.1 s h.0 h.1
 
-pub specifiers_fail : (ks : List Kind) → (start : ℕ) → (done : List Specifying) → (at : ℕ) → (y : Bool) → Specifiers ks start done at y → (e : Stop)
-    → FailsSpecifying ks y at e → FailsSpecifiers ks start e
-specifiers_fail ks start done at y loop e fails ss m h f =
+pub specifiers_fail : (ks : List Kind) → (n : Bool) → (start : ℕ) → (done : List Specifying) → (at : ℕ) → (y : Bool) → Specifiers ks n start done at y
+    → (e : Stop) → FailsSpecifying ks y at e → FailsSpecifiers ks n start e
+specifiers_fail ks n start done at y loop e fails ss m h g f =
     let a = loop.only ss m h f in
     stop_left ks y at e fails a.left m a.holds f
+
+-- a storage class where none may stand
+stores_through : (ks : List Kind) → (done : List Specifying) → (ss : Specifyings) → stores ks ss ≡ true → stores ks (specifyings done ss) ≡ true
+stores_through ks [] ss h = h
+stores_through ks (s ∷ done) ss h = or_right (stores_one ks s) (stores ks (specifyings done ss)) (stores_through ks done ss h)
+
+amiss_left : (ks : List Kind) → (n y : Bool) → (done : List Specifying) → (at : ℕ) → stored_amiss ks at n ≡ true → (ss left : Specifyings) → (m : ℕ)
+    → ss ≡ specifyings done left → HoldSpecifyings ks y left at m → MayStand ks n ss → ends_specifiers (kind_at ks m) ≡ true → ⊥
+amiss_left ks n y done at told ss No_specifiers m is h g f =
+    true≢false
+    (sym (amiss_starts ks at n told) ∙ ends_none (kind_at ks at) (ap (λ x. ends_specifiers (kind_at ks x)) (sym h) ∙ f))
+amiss_left ks n y done at told ss (Specifier_then s left) m is h g f =
+    let one : stores_one ks s ≡ true = stores_at ks y s at h.0 h.1 ∙ amiss_storage ks at n told in
+    let all = stores_through ks done (Specifier_then s left) (or_left (stores_one ks s) (stores ks left) one) in
+    amiss_unnamed ks at n told (g (ap (λ x. stores ks x) is ∙ all))
+
+pub specifiers_refused : (ks : List Kind) → (n : Bool) → (start : ℕ) → (done : List Specifying) → (at : ℕ) → (y : Bool) → Specifiers ks n start done at y
+    → stored_amiss ks at n ≡ true → (k : ℕ) → FailsSpecifiers ks n start (stop.Syntax k)
+specifiers_refused ks n start done at y loop told k ss m h g f =
+    let a = loop.only ss m h f in
+    amiss_left ks n y done at told ss a.left m a.is a.holds g f
 
 -- specifiers and a declarator
 abbrev pub FailsNaming : List Kind → Bool → ℕ → Stop → Type 0
@@ -244,22 +292,22 @@ FailsNaming ks y a e = (t : Naming) → (c : ℕ) → HoldsNaming ks y t a c →
 abbrev NoType : List Kind → Bool → ℕ → Type 0
 NoType ks y a = (t : Naming) → (c : ℕ) → HoldsNaming ks y t a c → ends_type (kind_at ks c) ≡ true → ⊥
 
-pub specifiers_missing : (ks : List Kind) → (y : Bool) → (a : ℕ) → (e : Stop) → FailsSpecifiers ks a e → FailsNaming ks y a e
-specifiers_missing ks y a e fails (Type_of ss d) c h f = fails ss h.0 h.2 (declaring_begins ks y d h.0 c h.3 f)
+pub specifiers_missing : (ks : List Kind) → (y : Bool) → (a : ℕ) → (e : Stop) → FailsSpecifiers ks y a e → FailsNaming ks y a e
+specifiers_missing ks y a e fails (Type_of ss d) c h f = fails ss h.0 h.2 h.4 (declaring_begins ks y d h.0 c h.3 f)
 
-no_type_without : (ks : List Kind) → (y : Bool) → (a m : ℕ) → OnlySpecifiers ks a No_specifiers m → NoType ks y a
+no_type_without : (ks : List Kind) → (y : Bool) → (a m : ℕ) → OnlySpecifiers ks y a No_specifiers m → NoType ks y a
 no_type_without ks y a m only (Type_of ss d) c h f =
-    subst AreSome (sym (only ss h.0 h.2 (declaring_begins ks y d h.0 c h.3 f)).0) h.1
+    subst AreSome (sym (only ss h.0 h.2 h.4 (declaring_begins ks y d h.0 c h.3 f)).0) h.1
 
 pub none_specifying : (ks : List Kind) → (y : Bool) → (a m : ℕ) → (xs : List Specifier) → (length xs == 0) ≡ true
-    → OnlySpecifiers ks a (specifyings (specifiers_of xs) No_specifiers) m → NoType ks y a
+    → OnlySpecifiers ks y a (specifyings (specifiers_of xs) No_specifiers) m → NoType ks y a
 none_specifying ks y a m [] h only = no_type_without ks y a m only
 none_specifying ks y a m (x ∷ xs) h only = λ t c g e. grind (arith, h)
 
-pub declarator_missing : (ks : List Kind) → (y : Bool) → (a : ℕ) → (ss : Specifyings) → (m : ℕ) → OnlySpecifiers ks a ss m → (e : Stop)
+pub declarator_missing : (ks : List Kind) → (y : Bool) → (a : ℕ) → (ss : Specifyings) → (m : ℕ) → OnlySpecifiers ks y a ss m → (e : Stop)
     → ((d : Declaring) → (c : ℕ) → HoldsDeclaring ks y d m c → ends_type (kind_at ks c) ≡ true → IsWant e) → FailsNaming ks y a e
 declarator_missing ks y a ss m only e fails (Type_of ss' d) c h f =
-    let same = only ss' h.0 h.2 (declaring_begins ks y d h.0 c h.3 f) in
+    let same = only ss' h.0 h.2 h.4 (declaring_begins ks y d h.0 c h.3 f) in
     fails d c (subst (λ x. HoldsDeclaring ks y d x c) (sym same.1) h.3) f
 
 pub some_specifying : (xs : List Specifier) → (length xs == 0) ≡ false → AreSome (specifyings (specifiers_of xs) No_specifiers)
@@ -271,18 +319,18 @@ some_forth ks No_specifiers a m i h e = i
 some_forth ks (Specifier_then s ss) a m i h e =
     omega (arith, specifying_strict ks false s a h.0 h.1, specifyings_forth ks (has_type ks s || false) ss h.0 m h.2, e)
 
-pub naming_found : (ks : List Kind) → (y : Bool) → (a : ℕ) → (ss : Specifyings) → (m : ℕ) → (d : Declaring) → (b : ℕ) → AreSome ss → FoundSpecifiers ks a ss m
+pub naming_found : (ks : List Kind) → (y : Bool) → (a : ℕ) → (ss : Specifyings) → (m : ℕ) → (d : Declaring) → (b : ℕ) → AreSome ss → FoundSpecifiers ks y a ss m
     → FoundDeclaring ks y m d b → FoundNaming ks y a (Type_of ss d) b
 naming_found ks y a ss m d b some x u =
     let one : a ≤ m = x.forth in
     let two : m ≤ b = u.forth in
     let not : a ≡ m → ⊥ = some_forth ks ss a m some x.reads in
-    record { reads = (m, some, x.reads, u.reads); forth = omega arith; inside = u.inside }
+    record { reads = (m, some, x.reads, u.reads, x.fits); forth = omega arith; inside = u.inside }
 
-pub name_only : (ks : List Kind) → (y : Bool) → (a : ℕ) → (ss : Specifyings) → (m : ℕ) → (d : Declaring) → (b : ℕ) → OnlySpecifiers ks a ss m
+pub name_only : (ks : List Kind) → (y : Bool) → (a : ℕ) → (ss : Specifyings) → (m : ℕ) → (d : Declaring) → (b : ℕ) → OnlySpecifiers ks y a ss m
     → ((d' : Declaring) → (c : ℕ) → HoldsDeclaring ks y d' m c → ends_type (kind_at ks c) ≡ true → (d ≡ d') × (b ≡ c))
     → (t : Naming) → (c : ℕ) → HoldsNaming ks y t a c → ends_type (kind_at ks c) ≡ true → (Type_of ss d ≡ t) × (b ≡ c)
 name_only ks y a ss m d b one two (Type_of ss' d') c h f =
-    let first = one ss' h.0 h.2 (declaring_begins ks y d' h.0 c h.3 f) in
+    let first = one ss' h.0 h.2 h.4 (declaring_begins ks y d' h.0 c h.3 f) in
     let more = two d' c (subst (λ x. HoldsDeclaring ks y d' x c) (sym first.1) h.3) f in
     (ap (λ x. Type_of x d) first.0 ∙ ap (λ x. Type_of ss' x) more.0, more.1)

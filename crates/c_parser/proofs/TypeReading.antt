@@ -3,7 +3,7 @@
 use Rattle.std.proofs.Common.{◌≡◌, refl, ap, sym, ◌∙◌, subst, ℕ, zero, suc, ◌+◌, ◌<◌, ◌≤◌, List, [], ◌∷◌, length, arith, Bool, true, false, true≢false, ◌||◌}
 use Rattle.tree_data.specs.Trees.{Tree, Name_of, Constant_of, Text_of, Paren_of, Postfix_of, Unary_of, Binary_of, Conditional_of, Assign_of, Of_type, Compound_of, Generic_of, Offset_of, Operator_of, Cast_of, Choice_of, Left_of, Fronts, None_before, Front_then, Specifying, Word_of, Typedef_of, Tag_of, Atomic_of, Specifyings, No_specifiers, Specifier_then, Naming, Type_of, Declaring, Declaring_of, Parameters, No_parameters, Fixed_of, Variadic_of, Row, No_more, Parameter_then, Grouping, No_group, Named_of, Group_of, Deriving, Array_of, Function_of, Derivings, No_derivings, Deriving_then, Bound, Unsized_of, Any_size_of, Sized_of, Static_sized_of, Sized_static_of}
 use Rattle.c_parser.specs.declared.kinds.Kind.{Kind}
-use Rattle.c_parser.specs.declared.kinds.Kind.TheVariants.{Identifier, Constant, Text, TypeName, Tag, Atomic, Static, Star, OpenParen, CloseParen, OpenBracket, CloseBracket, Generic, OffsetOf, Colon, Comma, End, TypeWord, Qualifier}
+use Rattle.c_parser.specs.declared.kinds.Kind.TheVariants.{Identifier, Constant, Text, TypeName, Tag, Atomic, Storage, Static, Star, OpenParen, CloseParen, OpenBracket, CloseBracket, Generic, OffsetOf, Colon, Comma, End, TypeWord, Qualifier}
 use Rattle.c_parser.specs.Declarators.{AreThere, IsWritten}
 use Rattle.c_parser.specs.Grammar.{IsBefore, has_type}
 use Rattle.c_parser.specs.Kinds.{kind_at, is_size, starts_type, ends_type, ends_specifiers, opens_parameters, qualifies_at}
@@ -15,7 +15,7 @@ use Rattle.c_parser.proofs.Marks.{clash, stops_at, is_start, no_type}
 use Rattle.c_parser.proofs.Typed.{Typed, From, later, next}
 use Rattle.c_parser.proofs.Types.{starting, naming_starts, pointers_only, pointers_forth, qualifiers_only, qualifiers_forth}
 use Rattle.c_parser.proofs.Views.{starts, front_starts}
-use Rattle.c_parser.proofs.Words.{Qualifies, by_qualifier, by_lone, qualifies_view, qualifies_starts, specifies_not, atomic_not}
+use Rattle.c_parser.proofs.Words.{Qualifies, by_qualifier, by_lone, qualifies_view, qualifies_starts, specifies_not, atomic_not, static_qualifies_not}
 
 -- behind a `*` in front of an operand something begins too
 mutual
@@ -70,11 +70,11 @@ pub data Bounding (ks : List Kind) (x : Bound) (a c : ℕ) : Type 0 where
 
 begins_static_not : (ks : List Kind) → (ns : List ℕ) → (a k : ℕ) → HoldQualifiers ks ns a k → (kind_at ks k ≡ Static → ⊥) → kind_at ks a ≡ Static → ⊥
 begins_static_not ks [] a k h n e = n (ap (λ x. kind_at ks x) h ∙ e)
-begins_static_not ks (q ∷ ns) a k h n e = kind_qualifies_not ks a Static e refl h.1
+begins_static_not ks (q ∷ ns) a k h n e = static_qualifies_not ks a e h.1
 
 there_static_not : (ks : List Kind) → (ns : List ℕ) → (a k : ℕ) → HoldQualifiers ks ns a k → AreThere ns → kind_at ks a ≡ Static → ⊥
 there_static_not ks [] a k h t e = t
-there_static_not ks (q ∷ ns) a k h t e = kind_qualifies_not ks a Static e refl h.1
+there_static_not ks (q ∷ ns) a k h t e = static_qualifies_not ks a e h.1
 
 pub bound_view : (ks : List Kind) → (x : Bound) → (a c : ℕ) → HoldsBound ks x a c → kind_at ks c ≡ CloseBracket → Bounding ks x a c
 bound_view ks (Unsized_of ns) a c h e =
@@ -110,7 +110,7 @@ bound_view ks (Sized_static_of ns n t) a c h e =
     ns
     n
     h.1
-    (kind_qualifies_not ks n Static h.2 refl)
+    (λ q. static_qualifies_not ks n h.2 q)
     (there_static_not ks ns a n h.1 h.0)
     (a_static t refl h.0 h.2 (h.3, h.4))
 
@@ -434,6 +434,8 @@ start_opens Qualifier h = refl
 start_opens Tag h = refl
 start_opens TypeName h = refl
 start_opens Atomic h = refl
+start_opens Storage h = refl
+start_opens Static h = refl
 start_opens _ h = absurd (true≢false (sym h))
 
 told_opens : (ks : List Kind) → (ps : Parameters) → (a c : ℕ) → Parametered ks ps a c → kind_at ks c ≡ CloseParen → opens_parameters (kind_at ks a) ≡ true
@@ -594,7 +596,7 @@ specifying_strict ks y (Typedef_of n) a b h = omega (arith, h.3)
 specifying_strict ks y (Tag_of k n) a b h = omega (arith, h.4, h.2)
 specifying_strict ks y (Atomic_of k o t c) a b h = omega (arith, h.6, h.2, type_forth ks t (o + 1) c h.4)
 
-ends_none : (k : Kind) → ends_specifiers k ≡ true → starts_type k ≡ false
+pub ends_none : (k : Kind) → ends_specifiers k ≡ true → starts_type k ≡ false
 ends_none Star h = refl
 ends_none Identifier h = refl
 ends_none OpenParen h = refl

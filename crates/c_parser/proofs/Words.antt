@@ -1,10 +1,10 @@
 -- Words among specifiers and qualifiers, told apart by their tokens.
 use Rattle.std.proofs.Common.{◌≡◌, refl, ap, sym, ◌∙◌, ℕ, zero, suc, ◌+◌, ◌<◌, List, [], ◌∷◌, length, arith, ◌⊎◌, inl, inr, Bool, true, false, true≢false, ◌&&◌, ◌||◌, not}
 use Rattle.c_parser.specs.declared.kinds.Kind.{Kind}
-use Rattle.c_parser.specs.declared.kinds.Kind.TheVariants.{Identifier, TypeWord, Qualifier, OpenParen, Atomic, End}
-use Rattle.c_parser.specs.Kinds.{kind_at, is_specifying, is_qualifier, is_atomic, is_opening, starts_type, atomic_at, specifies_at, qualifies_at, atomic_opens, is_identifier, names_at}
+use Rattle.c_parser.specs.declared.kinds.Kind.TheVariants.{Identifier, TypeWord, Qualifier, Storage, Static, OpenParen, Atomic, End}
+use Rattle.c_parser.specs.Kinds.{kind_at, is_specifying, is_qualifier, is_atomic, is_opening, starts_type, atomic_at, specifies_at, qualifies_at, atomic_opens, is_identifier, names_at, is_storage, stored_amiss}
 
-either : (p q : Bool) → (p || q) ≡ true → (p ≡ true) ⊎ (q ≡ true)
+pub either : (p q : Bool) → (p || q) ≡ true → (p ≡ true) ⊎ (q ≡ true)
 either true q h = inl refl
 either false q h = inr h
 
@@ -16,11 +16,11 @@ pub right_of : (p q : Bool) → (p && q) ≡ true → q ≡ true
 right_of true q h = h
 right_of false q h = absurd (true≢false (sym h))
 
-or_left : (p q : Bool) → p ≡ true → (p || q) ≡ true
+pub or_left : (p q : Bool) → p ≡ true → (p || q) ≡ true
 or_left true q h = refl
 or_left false q h = absurd (true≢false (sym h))
 
-or_right : (p q : Bool) → q ≡ true → (p || q) ≡ true
+pub or_right : (p q : Bool) → q ≡ true → (p || q) ≡ true
 or_right true q h = refl
 or_right false q h = h
 
@@ -35,6 +35,8 @@ is_word_qualifier _ h = absurd (true≢false (sym h))
 word_starts : (k : Kind) → is_specifying k ≡ true → starts_type k ≡ true
 word_starts TypeWord h = refl
 word_starts Qualifier h = refl
+word_starts Storage h = refl
+word_starts Static h = refl
 word_starts _ h = absurd (true≢false (sym h))
 
 atomic_kind : (ks : List Kind) → (a : ℕ) → atomic_at ks a ≡ true → kind_at ks a ≡ Atomic
@@ -105,6 +107,14 @@ pub qualifies_not : {A : Type 0} → (ks : List Kind) → (a : ℕ) → (k : Kin
     → is_atomic k ≡ false → A
 qualifies_not ks a k h e s n = specifies_not ks a k (qualifies_specifies ks a h) e s n
 
+-- `static` is no qualifier
+static_by : {A : Type 0} → (ks : List Kind) → (a : ℕ) → Qualifies ks a → kind_at ks a ≡ Static → A
+static_by ks a (by_qualifier p) e = absurd (true≢false (sym (ap is_qualifier p) ∙ ap is_qualifier e))
+static_by ks a (by_lone p n) e = absurd (true≢false (sym (ap is_atomic p) ∙ ap is_atomic e))
+
+pub static_qualifies_not : {A : Type 0} → (ks : List Kind) → (a : ℕ) → kind_at ks a ≡ Static → qualifies_at ks a ≡ true → A
+static_qualifies_not ks a e q = static_by ks a (qualifies_view ks a q) e
+
 -- `_Atomic` in front of a `(` is none
 atomic_not_by : {A : Type 0} → (ks : List Kind) → (a : ℕ) → Specifies ks a → kind_at ks a ≡ Atomic → kind_at ks (a + 1) ≡ OpenParen → A
 atomic_not_by ks a (by_word p) e o = absurd (true≢false (sym p ∙ ap is_specifying e))
@@ -161,18 +171,21 @@ lone_specifies ks a k n =
     or_right (is_specifying (kind_at ks a)) (atomic_at ks a) (atomic_alone_at ks a k (opens_not ks a k n))
 
 -- no word stands where none of their kinds does
-word_by : (k : Kind) → (k ≡ TypeWord → ⊥) → (k ≡ Qualifier → ⊥) → is_specifying k ≡ true → ⊥
-word_by TypeWord w q h = w refl
-word_by Qualifier w q h = q refl
-word_by _ w q h = true≢false (sym h)
+word_by : (k : Kind) → (k ≡ TypeWord → ⊥) → (k ≡ Qualifier → ⊥) → (k ≡ Storage → ⊥) → (k ≡ Static → ⊥) → is_specifying k ≡ true → ⊥
+word_by TypeWord w q c s h = w refl
+word_by Qualifier w q c s h = q refl
+word_by Storage w q c s h = c refl
+word_by Static w q c s h = s refl
+word_by _ w q c s h = true≢false (sym h)
 
-none_by : (ks : List Kind) → (a : ℕ) → (k : Kind) → k ≡ kind_at ks a → (k ≡ TypeWord → ⊥) → (k ≡ Qualifier → ⊥) → (k ≡ Atomic → ⊥) → Specifies ks a → ⊥
-none_by ks a k e w q n (by_word p) = word_by k w q (ap is_specifying e ∙ p)
-none_by ks a k e w q n (by_atomic h m) = n (e ∙ h)
+none_by : (ks : List Kind) → (a : ℕ) → (k : Kind) → k ≡ kind_at ks a → (k ≡ TypeWord → ⊥) → (k ≡ Qualifier → ⊥) → (k ≡ Storage → ⊥)
+    → (k ≡ Static → ⊥) → (k ≡ Atomic → ⊥) → Specifies ks a → ⊥
+none_by ks a k e w q c s n (by_word p) = word_by k w q c s (ap is_specifying e ∙ p)
+none_by ks a k e w q c s n (by_atomic h m) = n (e ∙ h)
 
-pub specifies_none : (ks : List Kind) → (a : ℕ) → (k : Kind) → k ≡ kind_at ks a → (k ≡ TypeWord → ⊥) → (k ≡ Qualifier → ⊥) → (k ≡ Atomic → ⊥)
-    → specifies_at ks a ≡ true → ⊥
-specifies_none ks a k e w q n h = none_by ks a k e w q n (specifies_view ks a h)
+pub specifies_none : (ks : List Kind) → (a : ℕ) → (k : Kind) → k ≡ kind_at ks a → (k ≡ TypeWord → ⊥) → (k ≡ Qualifier → ⊥) → (k ≡ Storage → ⊥)
+    → (k ≡ Static → ⊥) → (k ≡ Atomic → ⊥) → specifies_at ks a ≡ true → ⊥
+specifies_none ks a k e w q c s n h = none_by ks a k e w q c s n (specifies_view ks a h)
 
 starts_inside : (ks : List Kind) → (a : ℕ) → starts_type (kind_at ks a) ≡ true → a < length ks
 starts_inside [] a h = absurd (true≢false (sym h))
@@ -191,6 +204,36 @@ pub test_inside : (f : Kind → Bool) → f End ≡ false → (ks : List Kind) �
 test_inside f n [] a h = absurd (true≢false (sym h ∙ n))
 test_inside f n (k ∷ ks) zero h = omega arith
 test_inside f n (k ∷ ks) (suc a) h = omega (arith, test_inside f n ks a h)
+
+-- a storage class where none may stand
+storage_starts : (k : Kind) → is_storage k ≡ true → starts_type k ≡ true
+storage_starts Storage h = refl
+storage_starts Static h = refl
+storage_starts _ h = absurd (true≢false (sym h))
+
+pub amiss_starts : (ks : List Kind) → (a : ℕ) → (n : Bool) → stored_amiss ks a n ≡ true → starts_type (kind_at ks a) ≡ true
+unfolding stored_amiss
+amiss_starts ks a n h = storage_starts (kind_at ks a) (right_of (not n) (is_storage (kind_at ks a)) h)
+
+pub amiss_storage : (ks : List Kind) → (a : ℕ) → (n : Bool) → stored_amiss ks a n ≡ true → is_storage (kind_at ks a) ≡ true
+unfolding stored_amiss
+amiss_storage ks a n h = right_of (not n) (is_storage (kind_at ks a)) h
+
+not_false : (n : Bool) → not n ≡ true → n ≡ true → ⊥
+not_false true h e = true≢false (sym h)
+not_false false h e = true≢false (sym e)
+
+pub amiss_unnamed : (ks : List Kind) → (a : ℕ) → (n : Bool) → stored_amiss ks a n ≡ true → n ≡ true → ⊥
+unfolding stored_amiss
+amiss_unnamed ks a n h e = not_false n (left_of (not n) (is_storage (kind_at ks a)) h) e
+
+allowed_by : (n s : Bool) → (not n && s) ≡ false → s ≡ true → n ≡ true
+allowed_by true s h e = refl
+allowed_by false s h e = absurd (true≢false (sym e ∙ h))
+
+pub storage_allowed : (ks : List Kind) → (a : ℕ) → (n : Bool) → stored_amiss ks a n ≡ false → is_storage (kind_at ks a) ≡ true → n ≡ true
+unfolding stored_amiss
+storage_allowed ks a n h e = allowed_by n (is_storage (kind_at ks a)) h e
 
 -- the name of a declarator
 is_word_identifier : (k : Kind) → is_identifier k ≡ true → k ≡ Identifier

@@ -7,7 +7,7 @@ use Rattle.c_parser.specs.declared.answers.ParseError.TheVariants.{Syntax, TooDe
 use Rattle.c_parser.specs.declared.kinds.Kind.{Kind}
 use Rattle.c_parser.specs.declared.kinds.Kind.TheVariants.{Identifier, Constant, Text, OpenParen, CloseParen, OpenBracket, CloseBracket, OpenBrace, CloseBrace, Step, Question, Colon, Comma, Generic, OffsetOf, Default, Ellipsis, TypeName, Tag, Star, Atomic, Static}
 use Rattle.c_parser.specs.Brackets.{too_deep}
-use Rattle.c_parser.specs.Kinds.{kind_at, level_at, is_prefix, casts_at, is_size, is_word, is_equals, is_dot, is_member, is_type_word, specifies_at}
+use Rattle.c_parser.specs.Kinds.{kind_at, level_at, is_prefix, casts_at, is_size, is_word, is_equals, is_dot, is_member, is_type_word, is_storage, specifies_at}
 use Rattle.c_parser.specs.Declarators.{spell_pointers, AreQualifiers, AreThere, ArePointers, IsWritten}
 use Rattle.c_parser.specs.Levels.{expression, assignment_expression, conditional_expression, logical_OR_expression, unary_expression, postfix_expression, primary_expression, IsBinary, behinds_level, rank}
 
@@ -180,6 +180,21 @@ has_type kinds (Word_of n) = is_type_word (kind_at kinds n)
 has_type kinds (Typedef_of n) = true
 has_type kinds (Tag_of k n) = true
 has_type kinds (Atomic_of k o t c) = true
+
+-- a storage class or a function specifier is among these
+abbrev pub stores_one : List Kind → Specifying → Bool
+stores_one kinds (Word_of n) = is_storage (kind_at kinds n)
+stores_one kinds (Typedef_of n) = false
+stores_one kinds (Tag_of k n) = false
+stores_one kinds (Atomic_of k o t c) = false
+
+abbrev pub stores : List Kind → Specifyings → Bool
+stores kinds No_specifiers = false
+stores kinds (Specifier_then s ss) = stores_one kinds s || stores kinds ss
+
+-- they stand where a declaration has them, as a parameter does (6.7.6.3), and in no type's name (6.7.7)
+abbrev pub MayStand : List Kind → Bool → Specifyings → Type 0
+MayStand kinds named ss = stores kinds ss ≡ true → named ≡ true
 
 abbrev pub AreSome : Specifyings → Type 0
 AreSome No_specifiers = ⊥
@@ -384,7 +399,7 @@ abbrev mutual
   AreAssociated kinds (Association_then o x xs) =
       (kind_at kinds o ≡ Comma) × IsAssociated kinds x × AreAssociated kinds xs
 
-  -- 6.7.2.1 type-specifier | type-qualifier; an identifier is a typedef name where no type specifier stands before it
+  -- 6.7 storage-class-specifier | type-specifier | type-qualifier | function-specifier; an identifier is a typedef name where no type specifier stands before it
   pub IsSpecifying : List Kind → Bool → Specifying → Type 0
   IsSpecifying kinds typed (Word_of n) = specifies_at kinds n ≡ true
   IsSpecifying kinds typed (Typedef_of n) = (typed ≡ false) × (kind_at kinds n ≡ TypeName)
@@ -399,10 +414,10 @@ abbrev mutual
       IsSpecifying kinds typed s × AreSpecifying kinds (has_type kinds s || typed) ss
 
   -- 6.7.7 type-name : specifier-qualifier-list abstract-declarator opt
-  -- 6.7.6 parameter-declaration : declaration-specifiers declarator | declaration-specifiers abstract-declarator opt, so far with
-  -- the specifiers of a type's name; `named` says whether a name may be declared
+  -- 6.7.6 parameter-declaration : declaration-specifiers declarator | declaration-specifiers abstract-declarator opt, so far without
+  -- `_Alignas`; `named` says whether a name may be declared
   pub IsNaming : List Kind → Bool → Naming → Type 0
-  IsNaming kinds named (Type_of ss d) = AreSome ss × AreSpecifying kinds false ss × IsDeclaring kinds named d
+  IsNaming kinds named (Type_of ss d) = AreSome ss × AreSpecifying kinds false ss × IsDeclaring kinds named d × MayStand kinds named ss
 
   -- 6.7.7 abstract-declarator : pointer | pointer opt direct-abstract-declarator, each part left out or there
   pub IsDeclaring : List Kind → Bool → Declaring → Type 0

@@ -1,7 +1,7 @@
 -- The kinds of tokens by their numbers, and what those of operators begin or go on with (ISO C11 6.5).
 use Rattle.std.specs.Prelude.{ℕ, ◌+◌, ◌-◌, ◌<◌, ◌&&◌, ◌||◌, not, List, length, slice_index_or, Bool, true, false}
 use Rattle.c_parser.specs.declared.kinds.Kind.{Kind}
-use Rattle.c_parser.specs.declared.kinds.Kind.TheVariants.{Equals, Dot, Identifier, TypeName, OpenParen, CloseParen, OpenBracket, CloseBracket, Member, Step, SizeOf, AlignOf, TypeWord, Qualifier, Tag, Complement, Question, Assignment, Comma, Or, And, Bar, Caret, Ampersand, Equality, Relation, Shift, Sign, Star, Quotient, Colon, Atomic, End}
+use Rattle.c_parser.specs.declared.kinds.Kind.TheVariants.{Equals, Dot, Identifier, TypeName, OpenParen, CloseParen, OpenBracket, CloseBracket, Member, Step, SizeOf, AlignOf, TypeWord, Qualifier, Tag, Complement, Question, Assignment, Comma, Or, And, Bar, Caret, Ampersand, Equality, Relation, Shift, Sign, Star, Quotient, Colon, Atomic, Storage, Static, End}
 
 -- the level of precedence at which an expression goes on with such a token behind it, 0 where it doesn't: 1 for `,`,
 -- 2 for assignment, 3 for `?`, from `||` at 4 to `*` at 13, 16 for postfix operators
@@ -90,6 +90,8 @@ is_word _ = false
 abbrev pub is_specifying : Kind → Bool
 is_specifying TypeWord = true
 is_specifying Qualifier = true
+is_specifying Storage = true
+is_specifying Static = true
 is_specifying _ = false
 
 abbrev pub is_qualifier : Kind → Bool
@@ -100,13 +102,21 @@ abbrev pub is_type_word : Kind → Bool
 is_type_word TypeWord = true
 is_type_word _ = false
 
--- what the name of a type begins with (6.7.7)
+-- a storage class (6.7.1) or a function specifier (6.7.4)
+abbrev pub is_storage : Kind → Bool
+is_storage Storage = true
+is_storage Static = true
+is_storage _ = false
+
+-- what the name of a type or a parameter begins with (6.7.6, 6.7.7)
 abbrev pub starts_type : Kind → Bool
 starts_type TypeWord = true
 starts_type Qualifier = true
 starts_type Tag = true
 starts_type TypeName = true
 starts_type Atomic = true
+starts_type Storage = true
+starts_type Static = true
 starts_type _ = false
 
 -- in front of such a token the name of a type may end: `)`, `:`, `,`, and behind all tokens
@@ -179,6 +189,8 @@ opens_parameters Qualifier = true
 opens_parameters Tag = true
 opens_parameters TypeName = true
 opens_parameters Atomic = true
+opens_parameters Storage = true
+opens_parameters Static = true
 opens_parameters _ = false
 
 abbrev pub is_identifier : Kind → Bool
@@ -188,6 +200,10 @@ is_identifier _ = false
 -- the name that a declarator declares stands here, where it may have one
 unfoldable pub names_at : List Kind → ℕ → Bool → Bool
 names_at kinds at named = named && is_identifier (kind_at kinds at)
+
+-- a storage class or a function specifier stands here, among the specifiers of a type's name, which has none (6.7.2.1, 6.7.7)
+unfoldable pub stored_amiss : List Kind → ℕ → Bool → Bool
+stored_amiss kinds at named = not named && is_storage (kind_at kinds at)
 
 -- what an array or a function begins with in a declarator (6.7.6)
 abbrev pub is_deriving : Kind → Bool

@@ -8,7 +8,7 @@ use Rattle.c_parser.specs.declared.answers.Stop.TheVariants.{Syntax, NoMemory}
 use Rattle.c_parser.specs.declared.kinds.Kind.{Kind}
 use Rattle.c_parser.specs.declared.kinds.Kind.TheVariants.{Identifier, Constant, Text, OpenParen, CloseParen, OpenBracket, CloseBracket, OpenBrace, CloseBrace, Step, Question, Colon, Comma, Generic, OffsetOf, Default, Ellipsis, TypeName, Tag, Star, Atomic, Static}
 use Rattle.c_parser.specs.Brackets.{too_deep}
-use Rattle.c_parser.specs.Grammar.{IsMore, IsAny, IsBefore, AreSteps, goes_on, has_type, AreSome}
+use Rattle.c_parser.specs.Grammar.{IsMore, IsAny, IsBefore, AreSteps, goes_on, has_type, AreSome, MayStand}
 use Rattle.c_parser.specs.Kinds.{kind_at, level_at, is_prefix, casts_at, is_size, is_word, is_equals, is_dot, is_member, specifies_at, qualifies_at}
 use Rattle.c_parser.specs.Declarators.{AreThere, IsWritten}
 use Rattle.c_parser.specs.Levels.{IsBinary, behinds_level, rank}
@@ -180,7 +180,7 @@ abbrev mutual
 
   pub HoldsNaming : List Kind → Bool → Naming → ℕ → ℕ → Type 0
   HoldsNaming ks named (Type_of ss d) a b =
-      (m : ℕ) × AreSome ss × HoldSpecifyings ks false ss a m × HoldsDeclaring ks named d m b
+      (m : ℕ) × AreSome ss × HoldSpecifyings ks false ss a m × HoldsDeclaring ks named d m b × MayStand ks named ss
 
   pub HoldsDeclaring : List Kind → Bool → Declaring → ℕ → ℕ → Type 0
   HoldsDeclaring ks named (Declaring_of ps g ds) a b =

@@ -6,7 +6,7 @@ use Rattle.tree_data.specs.Trees.{Specifying, Specifyings, Declaring, Grouping, 
 use Rattle.c_parser.specs.declared.answers.Stop.{Stop}
 use Rattle.c_parser.specs.declared.kinds.Kind.{Kind}
 use Rattle.c_parser.specs.declared.kinds.Kind.TheVariants.{Star, CloseParen, Comma, Ellipsis}
-use Rattle.c_parser.specs.Grammar.{has_type}
+use Rattle.c_parser.specs.Grammar.{has_type, MayStand}
 use Rattle.c_parser.specs.Kinds.{kind_at, ends_specifiers, qualifies_at}
 use Rattle.c_parser.specs.Reading.{HoldQualifiers, HoldPointers, HoldSpecifying, HoldSpecifyings, HoldsDeclaring, HoldsGrouping, HoldsDeriving, HoldDerivings, HoldsBound, HoldParameters, HoldRow, IsWant}
 
@@ -31,8 +31,9 @@ FailsSpecifying kinds typed at e =
     (ends_specifiers (kind_at kinds at) ≡ false)
     × ((s : Specifying) → (b : ℕ) → HoldSpecifying kinds typed s at b → IsWant e)
 
-pub record FoundSpecifiers (kinds : List Kind) (a : ℕ) (ss : Specifyings) (b : ℕ) : Type 0 where
+pub record FoundSpecifiers (kinds : List Kind) (named : Bool) (a : ℕ) (ss : Specifyings) (b : ℕ) : Type 0 where
   pub reads : HoldSpecifyings kinds false ss a b
+  pub fits : MayStand kinds named ss
   pub forth : a ≤ b
   pub inside : b ≤ length kinds
 

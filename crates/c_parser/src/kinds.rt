@@ -12,6 +12,8 @@ pub(crate) enum Kind {
     Qualifier,
     // `_Atomic`.
     Atomic,
+    // A storage class but `static`, or a function specifier (6.7.1, 6.7.4).
+    Storage,
     Static,
     // `struct`, `union` and `enum`.
     Tag,
@@ -123,14 +125,27 @@ impl Kind {
         matches!(self, Kind::Step | Kind::SizeOf)
     }
 
-    // Whether the name of a type begins with it (6.7.7).
+    // Whether the name of a type or a parameter begins with it (6.7.6, 6.7.7).
     pub fn starts_type(self) -> bool
         ensures { result ≡ spec.starts_type self }
     {
         matches!(
             self,
-            Kind::TypeWord | Kind::Qualifier | Kind::Tag | Kind::TypeName | Kind::Atomic
+            Kind::TypeWord
+                | Kind::Qualifier
+                | Kind::Tag
+                | Kind::TypeName
+                | Kind::Atomic
+                | Kind::Storage
+                | Kind::Static
         )
+    }
+
+    // Whether it stands among the specifiers of a declaration, and in no type's name (6.7).
+    pub fn is_storage(self) -> bool
+        ensures { result ≡ spec.is_storage self }
+    {
+        matches!(self, Kind::Storage | Kind::Static)
     }
 
     // Whether a designator begins with it (6.7.9).
@@ -190,6 +205,8 @@ impl Kind {
                 | Kind::Tag
                 | Kind::TypeName
                 | Kind::Atomic
+                | Kind::Storage
+                | Kind::Static
         )
     }
 
@@ -293,6 +310,14 @@ pub(crate) fn names_at(kinds: &[Kind], at: u32, named: bool) -> bool
     ensures { result ≡ spec.names_at kinds.now at named }
 {
     named && kind_at(kinds, at).is_identifier()
+}
+
+// Whether a storage class or a function specifier stands here, among specifiers of which it is none (6.7.2.1).
+#[tactic(auto, unfolding(crate::specs::Kinds::stored_amiss))]
+pub(crate) fn stored_amiss(kinds: &[Kind], at: u32, named: bool) -> bool
+    ensures { result ≡ spec.stored_amiss kinds.now at named }
+{
+    !named && kind_at(kinds, at).is_storage()
 }
 
 // Whether no operator stands in front of this token that takes a unary-expression.

@@ -62,7 +62,7 @@ static MARKS: [(&str, Kind); 49] = [
     ("%>", Kind::CloseBrace),
 ];
 
-static WORDS: [(&str, Kind); 25] = [
+static WORDS: [(&str, Kind); 32] = [
     ("sizeof", Kind::SizeOf),
     ("_Alignof", Kind::AlignOf),
     ("const", Kind::Qualifier),
@@ -88,6 +88,13 @@ static WORDS: [(&str, Kind); 25] = [
     ("default", Kind::Default),
     ("_Atomic", Kind::Atomic),
     ("static", Kind::Static),
+    ("typedef", Kind::Storage),
+    ("extern", Kind::Storage),
+    ("_Thread_local", Kind::Storage),
+    ("auto", Kind::Storage),
+    ("register", Kind::Storage),
+    ("inline", Kind::Storage),
+    ("_Noreturn", Kind::Storage),
 ];
 
 fn look_up(text: &str, table: &[(&str, Kind)]) -> Option<Kind>

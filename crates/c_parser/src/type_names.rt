@@ -3,6 +3,7 @@ ghost use Rattle.std.specs.Prelude.{◌≡◌, true, false, ℕ, ◌+◌, ◌<�
 ghost use Rattle.tree_data.specs.Seen.{specifier_of, specifiers_of, type_of};
 ghost use Rattle.tree_data.specs.Trees.{Naming, Atomic_of, Specifyings, No_specifiers, specifyings};
 ghost use Rattle.c_parser.specs.declared.kinds.Kind.TheVariants.{CloseParen};
+ghost use Rattle.c_parser.specs.Grammar.{MayStand};
 ghost use Rattle.c_parser.specs.Kinds as spec;
 ghost use Rattle.c_parser.specs.Reading.{HoldsNaming, HoldsType, HoldSpecifyings, FoundNaming, FoundType, MustGive};
 ghost use Rattle.c_parser.specs.TypeNames.{FoundSpecifying, FoundSpecifiers, Specified, FailsSpecifying};
@@ -10,7 +11,7 @@ ghost use Rattle.c_parser.specs.TypeNames.{FoundSpecifying, FoundSpecifiers, Spe
 use crate::answers::Stop;
 use crate::before::typed;
 use crate::declarators::declarator;
-use crate::kinds::{Kind, atomic_opens, kind_at};
+use crate::kinds::{Kind, atomic_opens, kind_at, stored_amiss};
 use std::alloc::Global;
 use tree_data::{Specifier, Specs, TypeName};
 
@@ -25,6 +26,8 @@ fn short_specifier(kinds: &[Kind], at: u32, typed: bool) -> Option<(Specifier, u
         Kind::TypeWord => Some((Specifier::word(at), at + 1, true)),
         Kind::Qualifier => Some((Specifier::word(at), at + 1, typed)),
         Kind::Atomic => Some((Specifier::word(at), at + 1, typed)),
+        Kind::Storage => Some((Specifier::word(at), at + 1, typed)),
+        Kind::Static => Some((Specifier::word(at), at + 1, typed)),
         Kind::TypeName => {
             if typed {
                 return None;
@@ -83,13 +86,18 @@ fn specifier(
     }
 }
 
-// All specifiers and qualifiers that stand here.
+// All specifiers and qualifiers that stand here, with storage classes where a name may stand behind them.
 #[cycle(parser)]
-fn specifiers(alloc: Global, kinds: &[Kind], at: u32) -> Result<(Vec<Specifier>, u32), Stop>
+fn specifiers(
+    alloc: Global,
+    kinds: &[Kind],
+    at: u32,
+    named: bool,
+) -> Result<(Vec<Specifier>, u32), Stop>
     requires size { length kinds.now ≤ 2000000 }
     requires inside { at ≤ length kinds.now }
-    ensures found { IfOk result (λ r. FoundSpecifiers kinds.now at (specifyings (specifiers_of r.0.items) No_specifiers) r.1) }
-    ensures only { (ss : Specifyings) → (end : ℕ) → HoldSpecifyings kinds.now false ss at end
+    ensures found { IfOk result (λ r. FoundSpecifiers kinds.now named at (specifyings (specifiers_of r.0.items) No_specifiers) r.1) }
+    ensures only { (ss : Specifyings) → (end : ℕ) → HoldSpecifyings kinds.now false ss at end → MayStand kinds.now named ss
         → spec.ends_specifiers (spec.kind_at kinds.now end) ≡ true
         → MustGive result (λ r. (specifyings (specifiers_of r.0.items) No_specifiers ≡ ss) × (r.1 ≡ end)) }
 {
@@ -97,6 +105,9 @@ fn specifiers(alloc: Global, kinds: &[Kind], at: u32) -> Result<(Vec<Specifier>,
     let mut end = at;
     let mut typed = false;
     'specifiers: loop {
+        if stored_amiss(kinds, end, named) {
+            return Err(Stop::Syntax(end));
+        }
         let (one, next, typed_then) = match specifier(alloc, kinds, end, typed) {
             Ok(Some((one, next, typed_then))) => (one, next, typed_then),
             Ok(None) => return Ok((specifiers, end)),
@@ -124,7 +135,7 @@ pub(crate) fn specified(
     ensures only { (t : Naming) → (end : ℕ) → HoldsNaming kinds.now named t at end → spec.ends_type (spec.kind_at kinds.now end) ≡ true
         → MustGive result (λ r. (type_of r.0 ≡ t) × (r.1 ≡ end)) }
 {
-    let (specifiers, behind) = match specifiers(alloc, kinds, at) {
+    let (specifiers, behind) = match specifiers(alloc, kinds, at, named) {
         Ok(found) => found,
         Err(stop) => return Err(stop),
     };

@@ -1,6 +1,6 @@
 use Rattle.c_parser.proofs.ParameterLists.{parameter_row_found, parameter_row_same, parameter_row_fails, parameter_row_push, none_same, first_missing, rest_missing, fixed_same, variadic_same, fixed_found, variadic_found}
 use Rattle.c_parser.proofs.Abstract.{no_group, group_fails, group_left_open, group_found, group_same, static_fails, static_found, static_same, unsized_found, unsized_same, last_static_fails, last_static_found, last_static_same, sized_fails, sized_found, sized_same, any_found, any_same, array_fails, array_left_open, array_found, found_deriving_only, nothing_derives, derivings_found, derivings_same, derivings_fail, derivings_push, group_missing, derivings_missing, declaring_found, declaring_same, name_found, name_same, function_found, function_fails, function_left_open}
-use Rattle.c_parser.proofs.SpecifierLists.{atomic_found, atomic_specified, atomic_fails, specifiers_end, specifiers_only, specifiers_fail, specifiers_push, specifiers_missing, none_specifying, some_specifying, declarator_missing, naming_found, name_only}
+use Rattle.c_parser.proofs.SpecifierLists.{atomic_found, atomic_specified, atomic_fails, specifiers_end, specifiers_only, specifiers_fail, specifiers_refused, specifiers_push, specifiers_missing, none_specifying, some_specifying, declarator_missing, naming_found, name_only}
 use Rattle.c_parser.proofs.Words.{opens_inside, opens_next, name_stands, name_stands_not}
 use Rattle.c_parser.specs.TypeNames.{FoundGrouping, FoundBound, FoundDeriving, FoundDeclaring, FoundParameters}
 use Rattle.tree_data.specs.Trees.{Atomic_of, Type_of}
@@ -906,14 +906,20 @@ type_names::specifier-returns-in-Err t c = record {
 
 pub type_names::specifiers-returns-in-Ok-None : goal.type_names::specifiers-returns-in-Ok-None
 type_names::specifiers-returns-in-Ok-None t c = record {
-  found = specifiers_end _ _ _ _ _ c.specifiers.invariant;
-  only = specifiers_only _ _ _ _ _ c.specifiers.invariant (rw c.in-Ok-None.field-0-is at c.in-Ok-None.ensures.found);
+  found = specifiers_end _ _ _ _ _ _ c.specifiers.invariant;
+  only = specifiers_only _ _ _ _ _ _ c.specifiers.invariant (rw c.in-Ok-None.field-0-is at c.in-Ok-None.ensures.found);
 }
 
 pub type_names::specifiers-returns-in-Err : goal.type_names::specifiers-returns-in-Err
 type_names::specifiers-returns-in-Err t c = record {
   found = tt;
-  only = specifiers_fail _ _ _ _ _ c.specifiers.invariant _ c.in-Err.ensures.fails;
+  only = specifiers_fail _ _ _ _ _ _ c.specifiers.invariant _ c.in-Err.ensures.fails;
+}
+
+pub type_names::specifiers-returns-then-stored_amiss : goal.type_names::specifiers-returns-then-stored_amiss
+type_names::specifiers-returns-then-stored_amiss t c = record {
+  found = tt;
+  only = specifiers_refused _ _ _ _ _ _ c.specifiers.invariant (sym c.stored_amiss.ensures ∙ c.if-stored_amiss.true) c.args.at;
 }
 
 pub type_names::specifiers-specifiers-preserved : goal.type_names::specifiers-specifiers-preserved
@@ -928,7 +934,9 @@ type_names::specifiers-specifiers-preserved t c =
     _
     _
     _
+    _
     c.specifiers.invariant
+    (sym c.stored_amiss.ensures ∙ c.if-stored_amiss.false)
     (rw c.in-Ok-Some.field-0-is at c.in-Ok-Some.ensures.found)
     c.in-Ok.ensures.items
 

@@ -178,7 +178,7 @@ abbrev pub decreases-before::prefixes-prefixes : goal.decreases-before::prefixes
 decreases-before::prefixes-prefixes l = length l.kinds - l.end
 
 abbrev pub invariant-type_names::specifiers-specifiers : goal.invariant-type_names::specifiers-specifiers
-invariant-type_names::specifiers-specifiers l = Specifiers l.kinds l.fn.at (specifiers_of l.specifiers.items) l.end l.typed
+invariant-type_names::specifiers-specifiers l = Specifiers l.kinds l.fn.named l.fn.at (specifiers_of l.specifiers.items) l.end l.typed
 
 abbrev pub decreases-type_names::specifiers-specifiers : goal.decreases-type_names::specifiers-specifiers
 decreases-type_names::specifiers-specifiers l = length l.kinds - l.end

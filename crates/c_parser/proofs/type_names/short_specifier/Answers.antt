@@ -59,6 +59,34 @@ returns-in-Atomic c =
     c.in-Atomic.ensures.inside
     (ap (λ k. is_type_word k || c.args.typed) (sym here))
 
+pub returns-in-Storage : goal.returns-in-Storage
+returns-in-Storage c =
+    let here = sym c.in-Storage.ensures.kind in
+    word_found
+    _
+    _
+    _
+    _
+    _
+    c.word-in-Storage.ensures
+    (word_specifies _ _ _ here refl)
+    c.in-Storage.ensures.inside
+    (ap (λ k. is_type_word k || c.args.typed) (sym here))
+
+pub returns-in-Static : goal.returns-in-Static
+returns-in-Static c =
+    let here = sym c.in-Static.ensures.kind in
+    word_found
+    _
+    _
+    _
+    _
+    _
+    c.word-in-Static.ensures
+    (word_specifies _ _ _ here refl)
+    c.in-Static.ensures.inside
+    (ap (λ k. is_type_word k || c.args.typed) (sym here))
+
 pub returns-in_default : goal.returns-in_default
 returns-in_default c =
     no_kind
@@ -70,6 +98,8 @@ returns-in_default c =
     c.kind_at.ensures.kind
     c.in_default.not-TypeWord
     c.in_default.not-Qualifier
+    c.in_default.not-Storage
+    c.in_default.not-Static
     c.in_default.not-Atomic
     c.in_default.not-TypeName
     c.in_default.not-Tag
