@@ -10,11 +10,11 @@ use Rattle.macro_expand.specs.declared.operands.Operand.{Operand}
 use Rattle.macro_expand.specs.declared.building.Building.{Building}
 use Rattle.macro_expand.specs.declared.building.Part.{Part}
 use Rattle.macro_expand.specs.Tokens.{is_paste, begins_paste}
-use Rattle.macro_expand.specs.Building as build
+use Rattle.macro_expand.specs.Ties.Building as build
 use Rattle.macro_expand.specs.Substitution.{Expander}
 use Rattle.macro_expand.specs.Expansion as spec
-use Rattle.macro_expand.specs.Steps as steps
-use Rattle.macro_expand.specs.Steps.{after}
+use Rattle.macro_expand.specs.Ties.Steps as steps
+use Rattle.macro_expand.specs.Ties.Steps.{after}
 use Rattle.macro_expand.specs.Expansion.{Found, Stays, Put, Replaced}
 use Rattle.macro_expand.proofs.Cases.{if_both}
 use Rattle.macro_expand.proofs.SubstitutionLemmas.{replaced_as}

@@ -11,15 +11,15 @@ use Rattle.macro_expand.specs.declared.types.Progress.{Progress}
 use Rattle.macro_expand.specs.declared.operands.Operand.{Operand}
 use Rattle.macro_expand.specs.declared.building.Building.{Building}
 use Rattle.macro_expand.specs.declared.building.Part.{Part}
-use Rattle.macro_expand.specs.Codes.{Names}
-use Rattle.macro_expand.specs.Numbers.{real, reals, real_args, real_operand, real_building}
+use Rattle.macro_expand.specs.Ties.Codes.{Names}
+use Rattle.macro_expand.specs.Ties.Numbers.{real, reals, real_args, real_operand, real_building}
 use Rattle.macro_expand.specs.Tokens as token
 use Rattle.macro_expand.specs.Tokens.{is_paste, begins_paste, plain, last_of}
 use Rattle.macro_expand.specs.Pasting.{pasted}
 use Rattle.macro_expand.specs.Progress.{faulty}
-use Rattle.macro_expand.specs.Machine as work
-use Rattle.macro_expand.specs.Building as build
-use Rattle.macro_expand.specs.Building.{joins, operand, part}
+use Rattle.macro_expand.specs.Ties.Machine as work
+use Rattle.macro_expand.specs.Ties.Building as build
+use Rattle.macro_expand.specs.Ties.Building.{joins, operand, part}
 use Rattle.macro_expand.specs.Substitution.{Expander, all_marked, marked_by}
 use Rattle.macro_expand.proofs.ListLemmas.{map_snoc}
 use Rattle.macro_expand.proofs.NumberLemmas.{last_real, puts_real, plain_real, operand_real, first_spaced_real}

@@ -15,8 +15,8 @@ use Rattle.macro_expand.specs.declared.types.Marked.{Marked}
 use Rattle.macro_expand.specs.declared.operands.Operand.{Operand}
 use Rattle.macro_expand.specs.Tokens.{is_ident, is_punct, is_mark, is_hash, is_paste, begins_paste, plain}
 use Rattle.macro_expand.specs.Arguments.{arg_of}
-use Rattle.macro_expand.specs.Building as build
-use Rattle.macro_expand.specs.Building.{operand}
+use Rattle.macro_expand.specs.Ties.Building as build
+use Rattle.macro_expand.specs.Ties.Building.{operand}
 use Rattle.macro_expand.specs.Substitution as meant
 use Rattle.macro_expand.specs.Substitution.{Element, Paste, Quoted, Param, Other}
 use Rattle.macro_expand.specs.Substitution.{elements}

@@ -5,8 +5,8 @@ use Rattle.macro_table.specs.declared.definition.MacroDef.{MacroDef}
 use Rattle.macro_expand.specs.declared.types.Marked.{Marked}
 use Rattle.macro_expand.specs.declared.types.Progress.{Progress}
 use Rattle.macro_expand.specs.declared.arguments.Called.{Called}
-use Rattle.macro_expand.specs.Codes.{Names}
-use Rattle.macro_expand.specs.Numbers.{reals, real_args, real_called}
+use Rattle.macro_expand.specs.Ties.Codes.{Names}
+use Rattle.macro_expand.specs.Ties.Numbers.{reals, real_args, real_called}
 use Rattle.macro_expand.specs.HideSets.{common}
 use Rattle.macro_expand.specs.Arguments.{called, fitted, lacks_variable}
 use Rattle.macro_expand.specs.Progress.{counted, refused, faulty}

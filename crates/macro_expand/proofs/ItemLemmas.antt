@@ -14,8 +14,8 @@ use Rattle.macro_expand.specs.Tokens.{spaced}
 use Rattle.macro_expand.specs.Tokens.{last_of, with_first}
 use Rattle.macro_expand.specs.Progress.{faulty}
 use Rattle.macro_expand.specs.Pasting.{pasted, made_of, made_kind}
-use Rattle.macro_expand.specs.Building as build
-use Rattle.macro_expand.specs.Building.{joins}
+use Rattle.macro_expand.specs.Ties.Building as build
+use Rattle.macro_expand.specs.Ties.Building.{joins}
 use Rattle.macro_expand.specs.Substitution as meant
 use Rattle.macro_expand.specs.Substitution.{Item, Token, Placemarker}
 use Rattle.macro_expand.specs.Substitution.{Output, settled, items_of, spaced_if}

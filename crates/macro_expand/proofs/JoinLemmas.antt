@@ -6,8 +6,8 @@ use Rattle.std.specs.Cmp.Lexicographic.{pointwise, bytes_decides, pointwise_deci
 use Rattle.std.specs.List.{All}
 use Rattle.std.specs.Map.{lookup}
 use Rattle.indexmap.specs.IndexMap.{insert_entry}
-use Rattle.macro_expand.specs.Codes.{Names, coded}
-use Rattle.macro_expand.specs.Stands.{joined}
+use Rattle.macro_expand.specs.Ties.Codes.{Names, coded}
+use Rattle.macro_expand.specs.Ties.Stands.{joined}
 use Rattle.macro_expand.specs.declared.names.How.{How}
 use Rattle.macro_expand.specs.declared.sets.Join.{Join}
 use Rattle.macro_expand.specs.contracts.sets.JoinPartialEq.TheImpl.{eq-value}

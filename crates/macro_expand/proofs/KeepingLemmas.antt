@@ -14,17 +14,17 @@ use Rattle.macro_expand.specs.declared.types.Within.{Within}
 use Rattle.macro_expand.specs.declared.keeping.Kept.{Kept}
 use Rattle.macro_expand.specs.declared.keeping.Held.{Held}
 use Rattle.macro_expand.specs.declared.machine.Frame.{Frame}
-use Rattle.macro_expand.specs.Codes.{Names}
-use Rattle.macro_expand.specs.Stands.{Stands}
-use Rattle.macro_expand.specs.Numbers.{real, reals}
+use Rattle.macro_expand.specs.Ties.Codes.{Names}
+use Rattle.macro_expand.specs.Ties.Stands.{Stands}
+use Rattle.macro_expand.specs.Ties.Numbers.{real, reals}
 use Rattle.macro_expand.specs.Substitution.{Expander}
 use Rattle.macro_expand.specs.Tokens.{plain}
 use Rattle.macro_expand.specs.Expansion as spec
-use Rattle.macro_expand.specs.Machine as work
-use Rattle.macro_expand.specs.Steps as steps
+use Rattle.macro_expand.specs.Ties.Machine as work
+use Rattle.macro_expand.specs.Ties.Steps as steps
 use Rattle.macro_expand.specs.Room.{within}
-use Rattle.macro_expand.specs.Keeping as keeping
-use Rattle.macro_expand.specs.Keeping.{put, keep, bare, held, nothing_kept, first_of}
+use Rattle.macro_expand.specs.Ties.Keeping as keeping
+use Rattle.macro_expand.specs.Ties.Keeping.{put, keep, bare, held, nothing_kept, first_of}
 use Rattle.macro_expand.proofs.SetLemmas.{stands_for, table_stands}
 use Rattle.macro_expand.proofs.NumberLemmas.{plains_real}
 use Rattle.macro_expand.proofs.WalkLemmas.{bare_real, whole_ordinary}

@@ -7,13 +7,13 @@ use Rattle.macro_expand.specs.declared.types.Marked.{Marked}
 use Rattle.macro_expand.specs.declared.types.Progress.{Progress}
 use Rattle.macro_expand.specs.declared.building.Building.{Building}
 use Rattle.macro_expand.specs.declared.advancing.Advance.{Advance}
-use Rattle.macro_expand.specs.Codes.{Names}
-use Rattle.macro_expand.specs.Numbers.{real, reals, real_args, real_building}
+use Rattle.macro_expand.specs.Ties.Codes.{Names}
+use Rattle.macro_expand.specs.Ties.Numbers.{real, reals, real_args, real_building}
 use Rattle.macro_expand.specs.Substitution.{Expander}
-use Rattle.macro_expand.specs.Building.{begun, puts, substituted}
+use Rattle.macro_expand.specs.Ties.Building.{begun, puts, substituted}
 use Rattle.macro_expand.specs.Expansion as spec
-use Rattle.macro_expand.specs.Machine as work
-use Rattle.macro_expand.specs.Steps as steps
+use Rattle.macro_expand.specs.Ties.Machine as work
+use Rattle.macro_expand.specs.Ties.Steps as steps
 use Rattle.macro_expand.proofs.NumberLemmas.{drop_real, puts_real}
 
 pub replaced_is : (f : Names → Names) (again : Expander) (p : Progress) (t : Marked) (rest behind : List Marked)

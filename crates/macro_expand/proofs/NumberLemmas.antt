@@ -11,21 +11,21 @@ use Rattle.macro_expand.specs.declared.types.Progress.{Progress}
 use Rattle.macro_expand.specs.declared.arguments.Reading.{Reading}
 use Rattle.macro_expand.specs.declared.arguments.Called.{Called}
 use Rattle.macro_expand.specs.declared.arguments.Called.TheVariants.{Closed}
-use Rattle.macro_expand.specs.Reading.{Turn, Goes, Ends}
+use Rattle.macro_expand.specs.Ties.Reading.{Turn, Goes, Ends}
 use Rattle.macro_expand.specs.declared.operands.Operand.{Operand}
 use Rattle.macro_expand.specs.declared.building.Building.{Building}
-use Rattle.macro_expand.specs.Codes.{Names}
-use Rattle.macro_expand.specs.Numbers.{real, reals, real_args, real_called, real_operand, real_building}
+use Rattle.macro_expand.specs.Ties.Codes.{Names}
+use Rattle.macro_expand.specs.Ties.Numbers.{real, reals, real_args, real_called, real_operand, real_building}
 use Rattle.macro_expand.specs.Tokens as token
 use Rattle.macro_expand.specs.Tokens.{is_mark, is_ident, is_hash, plain, spaced, last_of, with_first}
 use Rattle.macro_expand.specs.Arguments as arguments
-use Rattle.macro_expand.specs.Reading as reads
-use Rattle.macro_expand.specs.Reading.{parts, turn}
+use Rattle.macro_expand.specs.Ties.Reading as reads
+use Rattle.macro_expand.specs.Ties.Reading.{parts, turn}
 use Rattle.macro_expand.specs.Arguments.{names_of, fitted, lacks_variable, arg_of}
 use Rattle.macro_expand.specs.Spelling as spelling
 use Rattle.macro_expand.specs.Spelling.{string_of}
-use Rattle.macro_expand.specs.Building as build
-use Rattle.macro_expand.specs.Building.{operand}
+use Rattle.macro_expand.specs.Ties.Building as build
+use Rattle.macro_expand.specs.Ties.Building.{operand}
 use Rattle.macro_expand.proofs.Cases.{if_both}
 use Rattle.macro_expand.proofs.ReadingLemmas.{reading_is}
 

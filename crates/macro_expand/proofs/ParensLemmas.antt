@@ -10,7 +10,7 @@ use Rattle.macro_expand.specs.declared.arguments.Called.TheVariants.{Absent, Unc
 use Rattle.macro_expand.specs.Tokens.{is_mark}
 use Rattle.macro_expand.specs.Arguments as call
 use Rattle.macro_expand.specs.Arguments.{balanced}
-use Rattle.macro_expand.specs.Parens.{before, all_before, parens}
+use Rattle.macro_expand.specs.Ties.Parens.{before, all_before, parens}
 use Rattle.macro_expand.proofs.Cases.{if_cases}
 use Rattle.macro_expand.proofs.ReadingLemmas.{IsOpen, open_snoc, balanced_is, no_mark}
 

@@ -11,12 +11,12 @@ use Rattle.macro_table.specs.declared.definition.MacroDef.{MacroDef}
 use Rattle.macro_expand.specs.declared.arguments.Reading.{Reading}
 use Rattle.macro_expand.specs.declared.arguments.Called.{Called}
 use Rattle.macro_expand.specs.declared.arguments.Called.TheVariants.{Absent, Unclosed, Closed}
-use Rattle.macro_expand.specs.Reading.{Turn, Goes, Ends}
+use Rattle.macro_expand.specs.Ties.Reading.{Turn, Goes, Ends}
 use Rattle.macro_expand.specs.Tokens.{is_mark}
 use Rattle.macro_expand.specs.Arguments as call
 use Rattle.macro_expand.specs.Arguments.{balanced, divides}
-use Rattle.macro_expand.specs.Reading as read
-use Rattle.macro_expand.specs.Reading.{parts, turn}
+use Rattle.macro_expand.specs.Ties.Reading as read
+use Rattle.macro_expand.specs.Ties.Reading.{parts, turn}
 use Rattle.macro_expand.proofs.Cases.{if_cases}
 
 pub reads_on : (def : MacroDef) (at : ℕ) (r more : Reading) (t : Marked) (ts all : List Marked) → all ≡ t ∷ ts → Goes

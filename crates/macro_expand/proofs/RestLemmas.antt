@@ -6,8 +6,8 @@ use Rattle.std.proofs.lemmas.Option.{slice_get-map}
 use Rattle.std.specs.Prelude.{Option, slice_get}
 use Rattle.tok_data.specs.declared.tokens.OutToken.{OutToken}
 use Rattle.macro_expand.specs.declared.types.Marked.{Marked}
-use Rattle.macro_expand.specs.Parens.{before, all_before}
-use Rattle.macro_expand.specs.Rests.{laid}
+use Rattle.macro_expand.specs.Ties.Parens.{before, all_before}
+use Rattle.macro_expand.specs.Ties.Rests.{laid}
 use Rattle.macro_expand.specs.Tokens.{plain}
 use Rattle.macro_expand.proofs.ParensLemmas.{all_before_snoc}
 

@@ -1,9 +1,9 @@
 -- What is made of sets of names.
 use Rattle.std.proofs.Common.{◌≡◌, ℕ, Bool, true, false, not, ◌==◌, List, [], ◌∷◌, length, if◌then◌else◌, refl, ap, ◌∙◌}
 use Rattle.std.specs.Prelude.{Option, unwrap_or, slice_get}
-use Rattle.macro_expand.specs.Codes.{Names}
+use Rattle.macro_expand.specs.Ties.Codes.{Names}
 use Rattle.macro_expand.specs.HideSets.{hides, united, common}
-use Rattle.macro_expand.specs.Stands.{Stands}
+use Rattle.macro_expand.specs.Ties.Stands.{Stands}
 
 pub united_nothing : (more : Names) → more ≡ united [] more
 unfolding united

@@ -17,7 +17,7 @@ use Rattle.macro_expand.specs.Tokens.{is_paste, last_of}
 use Rattle.macro_expand.specs.Arguments.{called, fitted, lacks_variable}
 use Rattle.macro_expand.specs.Pasting.{pasted}
 use Rattle.macro_expand.specs.Tokens.{first_spaced}
-use Rattle.macro_expand.specs.Building as build
+use Rattle.macro_expand.specs.Ties.Building as build
 use Rattle.macro_expand.specs.Substitution.{Expander}
 use Rattle.macro_expand.specs.Expansion as spec
 use Rattle.macro_expand.specs.Expansion.{Found, Stays, Put, Replaced, Sense, Ordinary, Line, File, Macro}

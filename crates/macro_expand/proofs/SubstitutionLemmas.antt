@@ -16,13 +16,13 @@ use Rattle.macro_expand.specs.Tokens.{is_paste, begins_paste, plain}
 use Rattle.macro_expand.specs.Tokens.{first_spaced, last_of}
 use Rattle.macro_expand.specs.Progress.{noted}
 use Rattle.macro_expand.specs.Spelling.{string_of, sources}
-use Rattle.macro_expand.specs.Building as build
-use Rattle.macro_expand.specs.Building.{operand, part}
+use Rattle.macro_expand.specs.Ties.Building as build
+use Rattle.macro_expand.specs.Ties.Building.{operand, part}
 use Rattle.macro_expand.specs.Substitution as meant
 use Rattle.macro_expand.specs.Substitution.{Expander, Element, Paste, Quoted, Param, Other}
 use Rattle.macro_expand.specs.Substitution.{Output, elements, settled}
 use Rattle.macro_expand.specs.Expansion as spec
-use Rattle.macro_expand.specs.Steps as steps
+use Rattle.macro_expand.specs.Ties.Steps as steps
 use Rattle.macro_expand.proofs.ItemLemmas.{built, output, ends_empty, joins_is, puts_is}
 use Rattle.macro_expand.proofs.ElementLemmas.{operand_of, front_of, paste_next}
 

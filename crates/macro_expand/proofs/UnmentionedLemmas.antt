@@ -9,15 +9,15 @@ use Rattle.macro_expand.specs.declared.operands.Operand.{Operand}
 use Rattle.macro_expand.specs.declared.building.Building.{Building}
 use Rattle.macro_expand.specs.declared.building.Part.{Part}
 use Rattle.macro_expand.specs.declared.machine.Call.{Call}
-use Rattle.macro_expand.specs.Codes.{Names}
-use Rattle.macro_expand.specs.Numbers.{real_args}
+use Rattle.macro_expand.specs.Ties.Codes.{Names}
+use Rattle.macro_expand.specs.Ties.Numbers.{real_args}
 use Rattle.macro_expand.specs.Tokens.{is_ident, is_hash, is_paste}
 use Rattle.macro_expand.specs.Arguments.{arg_of}
-use Rattle.macro_expand.specs.Building as build
-use Rattle.macro_expand.specs.Building.{operand, part, substituted}
+use Rattle.macro_expand.specs.Ties.Building as build
+use Rattle.macro_expand.specs.Ties.Building.{operand, part, substituted}
 use Rattle.macro_expand.specs.Substitution.{Expander}
-use Rattle.macro_expand.specs.Machine as work
-use Rattle.macro_expand.specs.Machine.{Unmentioned}
+use Rattle.macro_expand.specs.Ties.Machine as work
+use Rattle.macro_expand.specs.Ties.Machine.{Unmentioned}
 use Rattle.macro_expand.proofs.Cases.{if_cases, if_both}
 use Rattle.macro_expand.proofs.NumberLemmas.{arg_of_real}
 

@@ -11,11 +11,11 @@ use Rattle.macro_expand.specs.declared.types.Outcome.{Outcome}
 use Rattle.macro_expand.specs.declared.expanding.Step.{Step}
 use Rattle.macro_expand.specs.declared.machine.Walked.{Walked}
 use Rattle.macro_expand.specs.declared.machine.Frame.{Frame}
-use Rattle.macro_expand.specs.Codes.{Names}
-use Rattle.macro_expand.specs.Numbers.{reals}
+use Rattle.macro_expand.specs.Ties.Codes.{Names}
+use Rattle.macro_expand.specs.Ties.Numbers.{reals}
 use Rattle.macro_expand.specs.Expansion as spec
-use Rattle.macro_expand.specs.Steps as steps
-use Rattle.macro_expand.specs.Machine as work
+use Rattle.macro_expand.specs.Ties.Steps as steps
+use Rattle.macro_expand.specs.Ties.Machine as work
 use Rattle.macro_expand.proofs.Bounds.{expansion_steps}
 
 -- an outcome with some tokens

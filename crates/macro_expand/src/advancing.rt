@@ -1,10 +1,10 @@
 // A replacement list up to a parameter whose argument is to be expanded (ISO C11 6.10.3.1), or to its end.
 ghost use Rattle.std.specs.Prelude.{◌≡◌, ◌<◌, length, not, false, ◌&&◌, IfOk, OnOk};
-ghost use Rattle.macro_expand.specs.Codes.{Names};
-ghost use Rattle.macro_expand.specs.Stands.{Stands, Grows};
-ghost use Rattle.macro_expand.specs.Numbers.{real_args, real_building, real_operand, real_part};
-ghost use Rattle.macro_expand.specs.Machine as spec;
-ghost use Rattle.macro_expand.specs.Building as build;
+ghost use Rattle.macro_expand.specs.Ties.Codes.{Names};
+ghost use Rattle.macro_expand.specs.Ties.Stands.{Stands, Grows};
+ghost use Rattle.macro_expand.specs.Ties.Numbers.{real_args, real_building, real_operand, real_part};
+ghost use Rattle.macro_expand.specs.Ties.Machine as spec;
+ghost use Rattle.macro_expand.specs.Ties.Building as build;
 ghost use Rattle.macro_expand.specs.Substitution.{Expander};
 
 use crate::arguments::arg_of;
@@ -101,7 +101,7 @@ fn pastes(
 }
 
 // What stands at the front of a replacement list.
-#[tactic(auto, unfolding(crate::specs::Building::part))]
+#[tactic(auto, unfolding(crate::specs::Ties::Building::part))]
 fn next_part(
     alloc: Global,
     sets: &mut Sets,

@@ -2,8 +2,8 @@
 ghost use Rattle.std.specs.Prelude.{◌≡◌, [], ◌++◌, ◌∷◌, ◌≤◌, ◌<◌};
 ghost use Rattle.std.specs.Prelude.{◌+◌, length, IfOk, OnOk, option_copied};
 ghost use Rattle.macro_expand.specs.Arguments as spec;
-ghost use Rattle.macro_expand.specs.Looks.{seen};
-ghost use Rattle.macro_expand.specs.Reading as turns;
+ghost use Rattle.macro_expand.specs.Ties.Looks.{seen};
+ghost use Rattle.macro_expand.specs.Ties.Reading as turns;
 
 use crate::hide::HideSet;
 use crate::look::Look;
@@ -103,7 +103,7 @@ fn part_arguments(alloc: Global, reading: &mut Reading) -> Result<(), AllocError
     reading.done.push(current)
 }
 
-#[tactic(auto, unfolding(crate::specs::Reading::parts))]
+#[tactic(auto, unfolding(crate::specs::Ties::Reading::parts))]
 fn parts(def: &MacroDef, reading: &Reading, token: &OutToken) -> bool
     ensures { result ≡ turns.parts def.now reading.now token.now }
 {
@@ -157,7 +157,7 @@ fn close_paren(
 }
 
 // One token more; the call, where it ends.
-#[tactic(auto, unfolding(crate::specs::Reading::turn))]
+#[tactic(auto, unfolding(crate::specs::Ties::Reading::turn))]
 fn take_turn(
     alloc: Global,
     def: &MacroDef,

@@ -1,9 +1,9 @@
 // The substitution of arguments into a replacement list (ISO C11 6.10.3.1 to 6.10.3.3), but for their expansion.
 ghost use Rattle.std.specs.Prelude.{◌≡◌, [], ◌∷◌, OnOk};
-ghost use Rattle.macro_expand.specs.Codes.{Names};
-ghost use Rattle.macro_expand.specs.Stands.{Stands, Grows};
-ghost use Rattle.macro_expand.specs.Numbers.{real, reals, real_operand, real_building};
-ghost use Rattle.macro_expand.specs.Building as spec;
+ghost use Rattle.macro_expand.specs.Ties.Codes.{Names};
+ghost use Rattle.macro_expand.specs.Ties.Stands.{Stands, Grows};
+ghost use Rattle.macro_expand.specs.Ties.Numbers.{real, reals, real_operand, real_building};
+ghost use Rattle.macro_expand.specs.Ties.Building as spec;
 ghost use Rattle.macro_expand.specs.Tokens.{last_of, first_spaced};
 
 use crate::glue::pasted;
@@ -153,7 +153,7 @@ impl Building {
     }
 
     // The right operand of `##`.
-    #[tactic(auto, unfolding(crate::specs::Building::joins))]
+    #[tactic(auto, unfolding(crate::specs::Ties::Building::joins))]
     fn joins(
         &mut self,
         alloc: Global,

@@ -1,16 +1,16 @@
 // Macro expansion (ISO C11 6.10.3).
 ghost use Rattle.std.specs.Prelude.{◌≡◌, ◌≤◌, ◌<◌, map as list_map, IfOk, OnOk, decimal};
-ghost use Rattle.macro_expand.specs.Codes.{Names};
-ghost use Rattle.macro_expand.specs.Stands.{Stands, Grows};
-ghost use Rattle.macro_expand.specs.Numbers.{real, reals};
+ghost use Rattle.macro_expand.specs.Ties.Codes.{Names};
+ghost use Rattle.macro_expand.specs.Ties.Stands.{Stands, Grows};
+ghost use Rattle.macro_expand.specs.Ties.Numbers.{real, reals};
 ghost use Rattle.std.specs.FinMap as map;
 ghost use Rattle.macro_expand.specs.Expansion as spec;
-ghost use Rattle.macro_expand.specs.Steps as steps;
+ghost use Rattle.macro_expand.specs.Ties.Steps as steps;
 ghost use Rattle.macro_expand.specs.Progress as made;
-ghost use Rattle.macro_expand.specs.Machine as work;
+ghost use Rattle.macro_expand.specs.Ties.Machine as work;
 ghost use Rattle.macro_expand.specs.Substitution.{Expander};
 ghost use Rattle.macro_expand.specs.Tokens as tokens;
-ghost use Rattle.macro_expand.specs.Keeping as keeping;
+ghost use Rattle.macro_expand.specs.Ties.Keeping as keeping;
 ghost use Rattle.macro_expand.specs.Room.{within};
 
 use crate::arguments::ArgumentList;

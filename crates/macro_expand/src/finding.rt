@@ -1,12 +1,12 @@
 // What comes of a token (ISO C11 6.10.3p9, p10).
 ghost use Rattle.std.specs.Prelude.{◌≡◌, ◌<◌, IfOk, OnOk, option_copied};
-ghost use Rattle.macro_expand.specs.Codes.{Names};
-ghost use Rattle.macro_expand.specs.Stands.{Stands, Grows};
-ghost use Rattle.macro_expand.specs.Numbers.{real, reals, real_args, real_called};
+ghost use Rattle.macro_expand.specs.Ties.Codes.{Names};
+ghost use Rattle.macro_expand.specs.Ties.Stands.{Stands, Grows};
+ghost use Rattle.macro_expand.specs.Ties.Numbers.{real, reals, real_args, real_called};
 ghost use Rattle.std.specs.FinMap as map;
 ghost use Rattle.macro_expand.specs.Expansion as spec;
-ghost use Rattle.macro_expand.specs.Looks.{seen};
-ghost use Rattle.macro_expand.specs.Steps as steps;
+ghost use Rattle.macro_expand.specs.Ties.Looks.{seen};
+ghost use Rattle.macro_expand.specs.Ties.Steps as steps;
 ghost use Rattle.macro_expand.specs.Progress as made;
 ghost use Rattle.macro_expand.specs.declared.finding.Found.TheVariants.{Stays};
 

@@ -1,8 +1,8 @@
 // What `##` makes of two tokens (ISO C11 6.10.3.3).
 ghost use Rattle.std.specs.Prelude.{◌≡◌, ◌++◌, IfOk, OnOk, option_map};
-ghost use Rattle.macro_expand.specs.Codes.{Names};
-ghost use Rattle.macro_expand.specs.Stands.{Stands, Grows};
-ghost use Rattle.macro_expand.specs.Numbers.{real};
+ghost use Rattle.macro_expand.specs.Ties.Codes.{Names};
+ghost use Rattle.macro_expand.specs.Ties.Stands.{Stands, Grows};
+ghost use Rattle.macro_expand.specs.Ties.Numbers.{real};
 ghost use Rattle.macro_expand.specs.Pasting as spec;
 
 use crate::sets::Sets;

@@ -1,6 +1,6 @@
 // Hide sets: the names that a token is no longer replaced by. A number stands for each set.
 ghost use Rattle.std.specs.Prelude.{◌≡◌, [], IsTrue, Some};
-ghost use Rattle.macro_expand.specs.Codes.{coded};
+ghost use Rattle.macro_expand.specs.Ties.Codes.{coded};
 
 use std::marker::Model;
 
@@ -12,7 +12,7 @@ pub(crate) struct HideSet {
 
 impl Model for HideSet {
     ghost use Rattle.std.specs.Prelude.{List, ℕ};
-    ghost use Rattle.macro_expand.specs.Codes.{coded};
+    ghost use Rattle.macro_expand.specs.Ties.Codes.{coded};
 
     ghost Value = { List (List ℕ) };
 

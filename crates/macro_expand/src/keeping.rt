@@ -1,6 +1,6 @@
 // The output tokens of an expansion, of which no more than so many are kept.
 ghost use Rattle.std.specs.Prelude.{◌≡◌, OnOk};
-ghost use Rattle.macro_expand.specs.Keeping as spec;
+ghost use Rattle.macro_expand.specs.Ties.Keeping as spec;
 
 use crate::growing::Growing;
 use crate::queue::Queue;
@@ -33,7 +33,7 @@ impl Kept {
     }
 
     // A token behind those that are kept.
-    #[tactic(auto, unfolding(crate::specs::Keeping::put))]
+    #[tactic(auto, unfolding(crate::specs::Ties::Keeping::put))]
     pub(crate) fn put(&mut self, room: usize, token: OutToken) -> Result<(), AllocError>
         ensures { OnOk result (self.new ≡ spec.put room token self.old) }
     {
@@ -48,7 +48,7 @@ impl Kept {
     }
 
     // A copy of a token behind those that are kept; past the room nothing is copied.
-    #[tactic(auto, unfolding(crate::specs::Keeping::put))]
+    #[tactic(auto, unfolding(crate::specs::Ties::Keeping::put))]
     pub(crate) fn put_copy(&mut self, room: usize, token: &OutToken) -> Result<(), AllocError>
         ensures { OnOk result (self.new ≡ spec.put room token.now self.old) }
     {

@@ -1,6 +1,6 @@
 // A token as it stands in a list.
 ghost use Rattle.std.specs.Prelude.{◌≡◌, IfOk};
-ghost use Rattle.macro_expand.specs.Looks.{seen};
+ghost use Rattle.macro_expand.specs.Ties.Looks.{seen};
 ghost use Rattle.macro_expand.specs.Tokens.{plain};
 
 use crate::hide::HideSet;

@@ -2,14 +2,14 @@
 ghost use Rattle.std.specs.Prelude.{◌≡◌, ℕ, List, ◌≤◌, ◌<◌, ◌+◌, ◌∷◌, length, map as list_map, IfOk, OnOk};
 ghost use Rattle.tok_data.specs.declared.sources.TokId.{TokId as Site};
 ghost use Rattle.macro_expand.specs.Tokens.{plain};
-ghost use Rattle.macro_expand.specs.Codes.{Names};
-ghost use Rattle.macro_expand.specs.Stands.{Stands, Grows};
-ghost use Rattle.macro_expand.specs.Numbers.{reals};
+ghost use Rattle.macro_expand.specs.Ties.Codes.{Names};
+ghost use Rattle.macro_expand.specs.Ties.Stands.{Stands, Grows};
+ghost use Rattle.macro_expand.specs.Ties.Numbers.{reals};
 ghost use Rattle.std.specs.FinMap as map;
 ghost use Rattle.macro_expand.specs.Expansion as spec;
-ghost use Rattle.macro_expand.specs.Steps as steps;
-ghost use Rattle.macro_expand.specs.Machine as work;
-ghost use Rattle.macro_expand.specs.Keeping as keeping;
+ghost use Rattle.macro_expand.specs.Ties.Steps as steps;
+ghost use Rattle.macro_expand.specs.Ties.Machine as work;
+ghost use Rattle.macro_expand.specs.Ties.Keeping as keeping;
 ghost use Rattle.macro_expand.specs.Substitution.{Expander};
 
 use crate::advancing::{Advance, mentions, read_list};

@@ -1,7 +1,7 @@
 // Sets of names as lists.
 ghost use Rattle.std.specs.Prelude.{◌≡◌, [], ◌∷◌, ◌++◌, not, filter, IfOk};
 ghost use Rattle.macro_expand.specs.HideSets as sets;
-ghost use Rattle.macro_expand.specs.Stands.{joined};
+ghost use Rattle.macro_expand.specs.Ties.Stands.{joined};
 
 use shared_text::Name;
 use std::alloc::{AllocError, Global};

@@ -1,7 +1,7 @@
 // What stands at the front of a replacement list, and what `#` spells (ISO C11 6.10.3.2).
 ghost use Rattle.std.specs.Prelude.{◌≡◌, ◌++◌, ◌≤◌, IfOk, OnOk, IsTrue, option_copied, string_bytes, true};
 ghost use Rattle.macro_expand.specs.Spelling as spelling;
-ghost use Rattle.macro_expand.specs.Building as spec;
+ghost use Rattle.macro_expand.specs.Ties.Building as spec;
 
 use crate::arguments::arg_of;
 use crate::tokens::{is_hash, is_literal};
@@ -190,7 +190,7 @@ fn first_arg<'a>(
 }
 
 // A token of a replacement list that stands for itself: it is no parameter, and no `#` in front of one.
-#[tactic(auto, unfolding(crate::specs::Building::operand))]
+#[tactic(auto, unfolding(crate::specs::Ties::Building::operand))]
 pub(crate) fn is_itself(
     def: &MacroDef,
     args: &[MarkedList],
@@ -213,7 +213,7 @@ pub(crate) fn is_itself(
 }
 
 // What stands at the front of a replacement list.
-#[tactic(auto, unfolding(crate::specs::Building::operand))]
+#[tactic(auto, unfolding(crate::specs::Ties::Building::operand))]
 pub(crate) fn read_operand(
     alloc: Global,
     def: &MacroDef,

@@ -1,6 +1,6 @@
 // The parentheses of a list that is read and written at its front.
 ghost use Rattle.std.specs.Prelude.{◌≡◌, [], ◌∷◌, ◌++◌, ◌<◌, ◌≤◌, ◌+◌, ◌^◌, ℕ, List, IfOk, IsTrue};
-ghost use Rattle.macro_expand.specs.Parens as spec;
+ghost use Rattle.macro_expand.specs.Ties.Parens as spec;
 
 use crate::tokens::is_mark;
 use std::alloc::{AllocError, Global};
@@ -34,7 +34,7 @@ impl Parens {
     }
 
     // With a token more at the front.
-    #[tactic(auto, unfolding(crate::specs::Parens::before))]
+    #[tactic(auto, unfolding(crate::specs::Ties::Parens::before))]
     pub(crate) fn before(self, token: &OutToken) -> Result<Parens, AllocError>
         requires { self.0 < 18446744073709551615 }
         ensures value { IfOk result (λ p. p ≡ spec.before token.now self) }
@@ -59,7 +59,7 @@ impl Parens {
     }
 
     // Without the first token.
-    #[tactic(auto, unfolding(crate::specs::Parens::before))]
+    #[tactic(auto, unfolding(crate::specs::Ties::Parens::before))]
     pub(crate) fn leave(&mut self, token: &OutToken)
         ensures { (p : ℕ × List ℕ) → self.old ≡ spec.before token.now p → self.new ≡ p }
     {

@@ -4,9 +4,9 @@ ghost use Rattle.std.specs.Prelude.{IfOk, OnOk, IfSome, IfNone, IsTrue, ◌↔�
 ghost use Rattle.macro_table.specs.declared.definition.MacroDef.{MacroDef};
 ghost use Rattle.macro_expand.specs.declared.arguments.Called.TheVariants.{Unclosed};
 ghost use Rattle.macro_expand.specs.Arguments.{called};
-ghost use Rattle.macro_expand.specs.Keeping as keeping;
-ghost use Rattle.macro_expand.specs.Looks.{seen};
-ghost use Rattle.macro_expand.specs.Parens as spec;
+ghost use Rattle.macro_expand.specs.Ties.Keeping as keeping;
+ghost use Rattle.macro_expand.specs.Ties.Looks.{seen};
+ghost use Rattle.macro_expand.specs.Ties.Parens as spec;
 ghost use Rattle.macro_expand.specs.Tokens as tokens;
 
 use crate::keeping::Kept;
@@ -32,8 +32,8 @@ pub(crate) struct Rest<'a> {
 impl<'a> Model for Rest<'a> {
     ghost use Rattle.std.specs.Prelude.{List, ◌≡◌};
     ghost use Rattle.macro_expand.specs.declared.types.Marked.{Marked};
-    ghost use Rattle.macro_expand.specs.Parens.{parens as parens_of};
-    ghost use Rattle.macro_expand.specs.Rests.{laid};
+    ghost use Rattle.macro_expand.specs.Ties.Parens.{parens as parens_of};
+    ghost use Rattle.macro_expand.specs.Ties.Rests.{laid};
 
     ghost Value = { List Marked };
 

@@ -5,9 +5,9 @@ ghost use Rattle.std.specs.Cmp.Lexicographic.{pointwise, lists_equiv, nat_list_e
 ghost use Rattle.std.specs.Hash as fed;
 ghost use Rattle.std.proofs.Common.{ap};
 ghost use Rattle.macro_expand.specs.HideSets as sets;
-ghost use Rattle.macro_expand.specs.Codes.{coded, Names as NameLists};
-ghost use Rattle.macro_expand.specs.Stands.{Stands, Grows, joined};
-ghost use Rattle.macro_expand.specs.Joins.{IsJoin};
+ghost use Rattle.macro_expand.specs.Ties.Codes.{coded, Names as NameLists};
+ghost use Rattle.macro_expand.specs.Ties.Stands.{Stands, Grows, joined};
+ghost use Rattle.macro_expand.specs.Ties.Joins.{IsJoin};
 
 use crate::hide::HideSet;
 use crate::names::{How, alone, made_of};
@@ -150,7 +150,7 @@ pub(crate) struct Sets {
 impl Model for Sets {
     ghost use Rattle.std.specs.Prelude.{List, ℕ};
     ghost use Rattle.std.specs.List.{All};
-    ghost use Rattle.macro_expand.specs.Joins.{IsJoin};
+    ghost use Rattle.macro_expand.specs.Ties.Joins.{IsJoin};
 
     ghost Value = { List (List (List ℕ)) };
 

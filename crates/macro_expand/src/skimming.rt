@@ -3,13 +3,13 @@ ghost use Rattle.std.specs.Prelude.{◌≡◌, ◌∷◌, ◌≤◌, ◌<◌, �
 ghost use Rattle.tok_data.specs.declared.sources.TokId.{TokId as Site};
 ghost use Rattle.macro_expand.specs.declared.types.Marked.{Marked};
 ghost use Rattle.macro_expand.specs.declared.types.Progress.{Progress};
-ghost use Rattle.macro_expand.specs.Codes.{Names};
-ghost use Rattle.macro_expand.specs.Stands.{Stands, Grows};
-ghost use Rattle.macro_expand.specs.Numbers.{real, reals};
+ghost use Rattle.macro_expand.specs.Ties.Codes.{Names};
+ghost use Rattle.macro_expand.specs.Ties.Stands.{Stands, Grows};
+ghost use Rattle.macro_expand.specs.Ties.Numbers.{real, reals};
 ghost use Rattle.std.specs.FinMap as map;
 ghost use Rattle.macro_expand.specs.Expansion as spec;
-ghost use Rattle.macro_expand.specs.Keeping as keeping;
-ghost use Rattle.macro_expand.specs.Steps as steps;
+ghost use Rattle.macro_expand.specs.Ties.Keeping as keeping;
+ghost use Rattle.macro_expand.specs.Ties.Steps as steps;
 
 use crate::finding::{Meaning, meaning_of};
 use crate::keeping::Kept;

@@ -1,8 +1,8 @@
 // What replaced a name, in front of the rest of the list.
 ghost use Rattle.std.specs.Prelude.{◌≡◌, ◌++◌, drop, IfOk, OnOk};
-ghost use Rattle.macro_expand.specs.Codes.{Names};
-ghost use Rattle.macro_expand.specs.Stands.{Stands, Grows};
-ghost use Rattle.macro_expand.specs.Numbers.{real, reals};
+ghost use Rattle.macro_expand.specs.Ties.Codes.{Names};
+ghost use Rattle.macro_expand.specs.Ties.Stands.{Stands, Grows};
+ghost use Rattle.macro_expand.specs.Ties.Numbers.{real, reals};
 ghost use Rattle.macro_expand.specs.Expansion as spec;
 ghost use Rattle.macro_expand.specs.Substitution as subst;
 ghost use Rattle.macro_expand.specs.Tokens as tokens;

@@ -1,5 +1,5 @@
 use Rattle.std.proofs.Common.{length}
-use Rattle.macro_expand.specs.Machine.{Unmentioned}
+use Rattle.macro_expand.specs.Ties.Machine.{Unmentioned}
 use Rattle.macro_expand.proofs.advancing.mentions.Given as goal
 
 abbrev pub invariant-tokens : goal.invariant-tokens

@@ -1,8 +1,8 @@
 use Rattle.std.proofs.Common.{rules, ◌≡◌, [], ◌∷◌, false, ap, sym, ◌∙◌}
 use Rattle.macro_expand.specs.declared.types.Marked.{Marked}
-use Rattle.macro_expand.specs.Building.{plain_operand, puts}
-use Rattle.macro_expand.specs.Machine.{part_of, operand_part}
-use Rattle.macro_expand.specs.Numbers.{real_building, real_operand}
+use Rattle.macro_expand.specs.Ties.Building.{plain_operand, puts}
+use Rattle.macro_expand.specs.Ties.Machine.{part_of, operand_part}
+use Rattle.macro_expand.specs.Ties.Numbers.{real_building, real_operand}
 use Rattle.macro_expand.specs.Tokens.{is_paste, begins_paste, plain}
 use Rattle.macro_expand.proofs.BuildingLemmas.{part_puts, plain_put}
 use Rattle.macro_expand.proofs.advancing.next_part.Goals as goal

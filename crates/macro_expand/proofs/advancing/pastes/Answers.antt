@@ -1,7 +1,7 @@
 use Rattle.std.proofs.Common.{rules, ◌≡◌, ◌∷◌, ap, ◌∙◌}
 use Rattle.macro_expand.specs.declared.building.Building.{Building}
-use Rattle.macro_expand.specs.Numbers.{reals, real_args, real_building}
-use Rattle.macro_expand.specs.Building.{with_noted}
+use Rattle.macro_expand.specs.Ties.Numbers.{reals, real_args, real_building}
+use Rattle.macro_expand.specs.Ties.Building.{with_noted}
 use Rattle.macro_expand.specs.Tokens.{first_spaced}
 use Rattle.macro_expand.proofs.Spending.{joins_keeps}
 use Rattle.macro_expand.proofs.SetLemmas.{stands_for, table_stands}

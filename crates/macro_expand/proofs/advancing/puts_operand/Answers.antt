@@ -1,6 +1,6 @@
 use Rattle.std.proofs.Common.{rules, ◌≡◌, Bool, false, ◌&&◌, not, ap, ◌∙◌}
 use Rattle.macro_expand.specs.declared.building.Building.{Building}
-use Rattle.macro_expand.specs.Building.{puts, space_of}
+use Rattle.macro_expand.specs.Ties.Building.{puts, space_of}
 use Rattle.macro_expand.proofs.BuildingLemmas.{operand_put}
 use Rattle.macro_expand.proofs.advancing.puts_operand.Goals as goal
 

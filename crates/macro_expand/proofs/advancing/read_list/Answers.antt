@@ -1,9 +1,9 @@
 use Rattle.std.proofs.Common.{rules, ◌≡◌, List, [], ◌∷◌, length, ap, sym, ◌∙◌, arith}
 use Rattle.std.proofs.lemmas.List.{nil_from_length}
 use Rattle.tok_data.specs.declared.tokens.OutToken.{OutToken}
-use Rattle.macro_expand.specs.Machine.{part_of, next_left}
-use Rattle.macro_expand.specs.Numbers.{reals, real_args, real_building}
-use Rattle.macro_expand.specs.Building.{puts_outcome}
+use Rattle.macro_expand.specs.Ties.Machine.{part_of, next_left}
+use Rattle.macro_expand.specs.Ties.Numbers.{reals, real_args, real_building}
+use Rattle.macro_expand.specs.Ties.Building.{puts_outcome}
 use Rattle.macro_expand.proofs.BuildingLemmas.{parts_on, parts_end}
 use Rattle.macro_expand.proofs.advancing.read_list.Goals as goal
 

@@ -1,9 +1,9 @@
 -- What is built and what is left make what the list makes.
 use Rattle.std.proofs.Common.{◌≡◌, ◌≤◌, length}
-use Rattle.macro_expand.specs.Codes.{Names}
-use Rattle.macro_expand.specs.Stands.{Stands, Grows}
-use Rattle.macro_expand.specs.Numbers.{real_args, real_building}
-use Rattle.macro_expand.specs.Building.{substituted}
+use Rattle.macro_expand.specs.Ties.Codes.{Names}
+use Rattle.macro_expand.specs.Ties.Stands.{Stands, Grows}
+use Rattle.macro_expand.specs.Ties.Numbers.{real_args, real_building}
+use Rattle.macro_expand.specs.Ties.Building.{substituted}
 use Rattle.macro_expand.specs.Substitution.{Expander}
 use Rattle.macro_expand.proofs.advancing.read_list.Given as goal
 

@@ -2,8 +2,8 @@ use Rattle.std.proofs.Common.{rules, ◌∙◌, ◌+◌, ◌≡◌, List, [], dr
 use Rattle.std.proofs.lemmas.Option.{slice_get_within}
 use Rattle.std.specs.Prelude.{None, option_map}
 use Rattle.macro_expand.specs.declared.types.Marked.{Marked}
-use Rattle.macro_expand.specs.Looks.{seen}
-use Rattle.macro_expand.specs.Reading.{reads, turned_to}
+use Rattle.macro_expand.specs.Ties.Looks.{seen}
+use Rattle.macro_expand.specs.Ties.Reading.{reads, turned_to}
 use Rattle.macro_expand.proofs.ListLemmas.{drop_at, drop_none}
 use Rattle.macro_expand.proofs.ReadingLemmas.{reads_on, ends_there, reading_is}
 use Rattle.macro_expand.proofs.arguments.read_call.Goals as goal

@@ -1,6 +1,6 @@
 use Rattle.std.proofs.Common.{◌≡◌, ◌≤◌, ◌-◌, drop, length}
 use Rattle.macro_expand.specs.Arguments.{called}
-use Rattle.macro_expand.specs.Reading.{reads}
+use Rattle.macro_expand.specs.Ties.Reading.{reads}
 use Rattle.macro_expand.proofs.arguments.read_call.Given as goal
 
 abbrev pub invariant-tokens : goal.invariant-tokens

@@ -1,5 +1,5 @@
 use Rattle.std.proofs.Common.{ap, sym, ◌∙◌}
-use Rattle.macro_expand.specs.Steps.{found_of}
+use Rattle.macro_expand.specs.Ties.Steps.{found_of}
 use Rattle.macro_expand.proofs.MachineLemmas.{replaced_is}
 use Rattle.macro_expand.proofs.expanding.macro_step.Goals as goal
 

@@ -1,7 +1,7 @@
 use Rattle.std.proofs.Common.{ap, ◌∙◌}
 use Rattle.macro_expand.specs.Expansion.{Stays}
-use Rattle.macro_expand.specs.Numbers.{real}
-use Rattle.macro_expand.specs.Steps.{found_of}
+use Rattle.macro_expand.specs.Ties.Numbers.{real}
+use Rattle.macro_expand.specs.Ties.Steps.{found_of}
 use Rattle.macro_expand.proofs.FindingLemmas.{closed_fits, closed_fails}
 use Rattle.macro_expand.proofs.finding.closed_found.Goals as goal
 

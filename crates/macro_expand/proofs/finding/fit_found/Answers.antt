@@ -1,5 +1,5 @@
 use Rattle.std.proofs.Common.{rules, ◌≡◌, ◌==◌, false}
-use Rattle.macro_expand.specs.Numbers.{real, real_args}
+use Rattle.macro_expand.specs.Ties.Numbers.{real, real_args}
 use Rattle.macro_expand.proofs.FindingLemmas.{fit_replaced}
 use Rattle.macro_expand.proofs.finding.fit_found.Goals as goal
 

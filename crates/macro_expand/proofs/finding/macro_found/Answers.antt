@@ -1,5 +1,5 @@
-use Rattle.macro_expand.specs.Numbers.{real}
-use Rattle.macro_expand.specs.Steps.{found_of}
+use Rattle.macro_expand.specs.Ties.Numbers.{real}
+use Rattle.macro_expand.specs.Ties.Steps.{found_of}
 use Rattle.macro_expand.proofs.FindingLemmas.{macro_calls}
 use Rattle.macro_expand.proofs.finding.macro_found.Goals as goal
 

@@ -1,7 +1,7 @@
 use Rattle.std.proofs.Common.{rules, ◌≡◌, ◌==◌, false, ap}
 use Rattle.std.specs.Prelude.{Some}
 use Rattle.macro_expand.specs.Progress as made
-use Rattle.macro_expand.specs.Numbers.{real, real_args}
+use Rattle.macro_expand.specs.Ties.Numbers.{real, real_args}
 use Rattle.macro_expand.proofs.FindingLemmas.{object_replaced}
 use Rattle.macro_expand.proofs.finding.object_found.Goals as goal
 

@@ -1,6 +1,6 @@
 use Rattle.std.proofs.Common.{ap, ◌∙◌}
 use Rattle.macro_expand.specs.declared.building.Building.{Building}
-use Rattle.macro_expand.specs.Machine.{resume, ended}
+use Rattle.macro_expand.specs.Ties.Machine.{resume, ended}
 use Rattle.macro_expand.proofs.MachineLemmas.{begun_is}
 use Rattle.macro_expand.proofs.machine.begin.Goals as goal
 

@@ -6,7 +6,7 @@ use Rattle.macro_expand.specs.declared.machine.Stop.TheVariants as stop
 use Rattle.macro_expand.specs.declared.machine.Frame.{Frame}
 use Rattle.macro_expand.specs.Substitution.{Expander}
 use Rattle.macro_expand.specs.Expansion as spec
-use Rattle.macro_expand.specs.Machine as work
+use Rattle.macro_expand.specs.Ties.Machine as work
 use Rattle.macro_expand.proofs.WalkLemmas.{level_ends}
 use Rattle.macro_expand.proofs.machine.climb.Goals as goal
 

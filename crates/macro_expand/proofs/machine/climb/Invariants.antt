@@ -1,11 +1,11 @@
 -- The list and the replacements that wait make what they made.
 use Rattle.std.proofs.Common.{◌≡◌, ◌≤◌}
 use Rattle.std.specs.FinMap as map
-use Rattle.macro_expand.specs.Codes.{Names}
-use Rattle.macro_expand.specs.Stands.{Stands, Grows}
+use Rattle.macro_expand.specs.Ties.Codes.{Names}
+use Rattle.macro_expand.specs.Ties.Stands.{Stands, Grows}
 use Rattle.macro_expand.specs.Expansion as spec
-use Rattle.macro_expand.specs.Steps as steps
-use Rattle.macro_expand.specs.Machine as work
+use Rattle.macro_expand.specs.Ties.Steps as steps
+use Rattle.macro_expand.specs.Ties.Machine as work
 use Rattle.macro_expand.proofs.machine.climb.Given as goal
 
 abbrev pub invariant-levels : goal.invariant-levels

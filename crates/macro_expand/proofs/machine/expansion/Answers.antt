@@ -6,9 +6,9 @@ use Rattle.std.specs.FinMap as map
 use Rattle.macro_expand.specs.declared.machine.Frame.{Frame}
 use Rattle.macro_expand.specs.Substitution.{Expander}
 use Rattle.macro_expand.specs.Expansion as spec
-use Rattle.macro_expand.specs.Keeping.{held}
-use Rattle.macro_expand.specs.Steps as steps
-use Rattle.macro_expand.specs.Machine as work
+use Rattle.macro_expand.specs.Ties.Keeping.{held}
+use Rattle.macro_expand.specs.Ties.Steps as steps
+use Rattle.macro_expand.specs.Ties.Machine as work
 use Rattle.macro_expand.proofs.KeepingLemmas.{kept_last}
 use Rattle.macro_expand.proofs.WalkLemmas.{whole_done}
 use Rattle.macro_expand.proofs.machine.expansion.Goals as goal

@@ -1,13 +1,13 @@
 -- Each turn makes a replacement, or ends.
 use Rattle.std.proofs.Common.{◌≡◌, ◌≤◌, ◌+◌, ◌*◌, length, min, map as list_map}
 use Rattle.std.specs.FinMap as map
-use Rattle.macro_expand.specs.Codes.{Names}
-use Rattle.macro_expand.specs.Stands.{Stands, Grows}
-use Rattle.macro_expand.specs.Numbers.{reals}
+use Rattle.macro_expand.specs.Ties.Codes.{Names}
+use Rattle.macro_expand.specs.Ties.Stands.{Stands, Grows}
+use Rattle.macro_expand.specs.Ties.Numbers.{reals}
 use Rattle.macro_expand.specs.Tokens.{plain}
 use Rattle.macro_expand.specs.Expansion as spec
-use Rattle.macro_expand.specs.Keeping.{held, nothing_kept}
-use Rattle.macro_expand.specs.Machine as work
+use Rattle.macro_expand.specs.Ties.Keeping.{held, nothing_kept}
+use Rattle.macro_expand.specs.Ties.Machine as work
 use Rattle.macro_expand.proofs.machine.expansion.Given as goal
 
 abbrev pub invariant-names : goal.invariant-names

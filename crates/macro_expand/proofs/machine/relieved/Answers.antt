@@ -1,6 +1,6 @@
 use Rattle.std.proofs.Common.{List, subst}
 use Rattle.macro_expand.specs.declared.types.Marked.{Marked}
-use Rattle.macro_expand.specs.Machine.{Unmentioned}
+use Rattle.macro_expand.specs.Ties.Machine.{Unmentioned}
 use Rattle.macro_expand.proofs.UnmentionedLemmas.{none_enough}
 use Rattle.macro_expand.proofs.machine.relieved.Goals as goal
 

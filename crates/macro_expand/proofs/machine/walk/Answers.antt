@@ -7,9 +7,9 @@ use Rattle.macro_expand.specs.declared.expanding.Taken.{Taken}
 use Rattle.macro_expand.specs.declared.types.Marked.{Marked}
 use Rattle.macro_expand.specs.Substitution.{Expander}
 use Rattle.macro_expand.specs.Expansion as spec
-use Rattle.macro_expand.specs.Steps as steps
-use Rattle.macro_expand.specs.Machine as work
-use Rattle.macro_expand.specs.Numbers.{real, reals, real_args}
+use Rattle.macro_expand.specs.Ties.Steps as steps
+use Rattle.macro_expand.specs.Ties.Machine as work
+use Rattle.macro_expand.specs.Ties.Numbers.{real, reals, real_args}
 use Rattle.macro_expand.proofs.WalkLemmas.{stepped_by, whole_kept, whole_ordinary, whole_put, whole_turns, kept_nearer}
 use Rattle.macro_expand.proofs.machine.walk.Goals as goal
 

@@ -1,9 +1,9 @@
 -- What is done and what is left make what the list makes.
 use Rattle.std.proofs.Common.{◌≡◌, ◌≤◌, length}
 use Rattle.std.specs.FinMap as map
-use Rattle.macro_expand.specs.Codes.{Names}
-use Rattle.macro_expand.specs.Stands.{Stands, Grows}
-use Rattle.macro_expand.specs.Steps as steps
+use Rattle.macro_expand.specs.Ties.Codes.{Names}
+use Rattle.macro_expand.specs.Ties.Stands.{Stands, Grows}
+use Rattle.macro_expand.specs.Ties.Steps as steps
 use Rattle.macro_expand.proofs.machine.walk.Given as goal
 
 abbrev pub invariant-tokens : goal.invariant-tokens

@@ -1,5 +1,5 @@
 use Rattle.std.proofs.Common.{arith, ap, sym, ◌∙◌}
-use Rattle.macro_expand.specs.Parens.{all_before}
+use Rattle.macro_expand.specs.Ties.Parens.{all_before}
 use Rattle.macro_expand.proofs.ParensLemmas.{all_before_snoc}
 use Rattle.macro_expand.proofs.rest.parens_in.Goals as goal
 

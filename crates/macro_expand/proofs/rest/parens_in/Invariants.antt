@@ -1,5 +1,5 @@
 use Rattle.std.proofs.Common.{◌≡◌, ◌≤◌, ◌+◌, length}
-use Rattle.macro_expand.specs.Parens.{all_before, parens}
+use Rattle.macro_expand.specs.Ties.Parens.{all_before, parens}
 use Rattle.macro_expand.proofs.rest.parens_in.Given as goal
 
 abbrev pub invariant-tokens : goal.invariant-tokens

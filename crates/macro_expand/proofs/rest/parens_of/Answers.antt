@@ -1,5 +1,5 @@
 use Rattle.std.proofs.Common.{arith, ap, sym, ◌∙◌, map}
-use Rattle.macro_expand.specs.Parens.{all_before}
+use Rattle.macro_expand.specs.Ties.Parens.{all_before}
 use Rattle.macro_expand.specs.Tokens.{plain}
 use Rattle.macro_expand.proofs.RestLemmas.{plain_snoc}
 use Rattle.macro_expand.proofs.rest.parens_of.Goals as goal

@@ -1,5 +1,5 @@
 use Rattle.std.proofs.Common.{◌≡◌, ◌≤◌, ◌+◌, length, map}
-use Rattle.macro_expand.specs.Parens.{all_before, parens}
+use Rattle.macro_expand.specs.Ties.Parens.{all_before, parens}
 use Rattle.macro_expand.specs.Tokens.{plain}
 use Rattle.macro_expand.proofs.rest.parens_of.Given as goal
 

@@ -3,11 +3,11 @@ use Rattle.std.proofs.Common.{◌≡◌, ◌≤◌, ℕ, List, length}
 use Rattle.std.specs.FinMap as map
 use Rattle.tok_data.specs.declared.sources.TokId.{TokId}
 use Rattle.macro_expand.specs.declared.types.Progress.{Progress}
-use Rattle.macro_expand.specs.Codes.{Names}
-use Rattle.macro_expand.specs.Stands.{Stands, Grows}
-use Rattle.macro_expand.specs.Numbers.{reals}
+use Rattle.macro_expand.specs.Ties.Codes.{Names}
+use Rattle.macro_expand.specs.Ties.Stands.{Stands, Grows}
+use Rattle.macro_expand.specs.Ties.Numbers.{reals}
 use Rattle.macro_expand.specs.Expansion.{expansion}
-use Rattle.macro_expand.specs.Keeping.{held}
+use Rattle.macro_expand.specs.Ties.Keeping.{held}
 use Rattle.macro_expand.proofs.skimming.skim.Given as goal
 
 abbrev pub invariant-tokens : goal.invariant-tokens

@@ -1,7 +1,7 @@
 use Rattle.std.proofs.Common.{ap, sym, ◌∙◌}
 use Rattle.std.specs.Prelude.{option_map}
-use Rattle.macro_expand.specs.Looks.{seen}
-use Rattle.macro_expand.specs.Steps.{meant}
+use Rattle.macro_expand.specs.Ties.Looks.{seen}
+use Rattle.macro_expand.specs.Ties.Steps.{meant}
 use Rattle.macro_expand.proofs.ListLemmas.{drop_at}
 use Rattle.macro_expand.proofs.skimming.stays_first.Goals as goal
 

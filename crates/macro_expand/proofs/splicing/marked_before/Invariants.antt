@@ -1,7 +1,7 @@
 use Rattle.std.proofs.Common.{◌≡◌, ◌++◌, vec_len}
-use Rattle.macro_expand.specs.Codes.{Names}
-use Rattle.macro_expand.specs.Stands.{Stands, Grows}
-use Rattle.macro_expand.specs.Numbers.{reals}
+use Rattle.macro_expand.specs.Ties.Codes.{Names}
+use Rattle.macro_expand.specs.Ties.Stands.{Stands, Grows}
+use Rattle.macro_expand.specs.Ties.Numbers.{reals}
 use Rattle.macro_expand.specs.Substitution.{all_marked}
 use Rattle.macro_expand.proofs.splicing.marked_before.Given as goal
 

@@ -1,5 +1,5 @@
 use Rattle.std.proofs.Common.{◌≡◌, deque_len}
-use Rattle.macro_expand.specs.Keeping as spec
+use Rattle.macro_expand.specs.Ties.Keeping as spec
 use Rattle.macro_expand.proofs.keeping.Kept.keep.Given as goal
 
 abbrev pub invariant-tokens : goal.invariant-tokens

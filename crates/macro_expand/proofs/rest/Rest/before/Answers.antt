@@ -1,5 +1,5 @@
 use Rattle.std.proofs.Common.{rules, arith, ap, ◌<◌, ◌^◌, length}
-use Rattle.macro_expand.specs.Rests.{laid}
+use Rattle.macro_expand.specs.Ties.Rests.{laid}
 use Rattle.macro_expand.proofs.ParensLemmas.{parens_at_most}
 use Rattle.macro_expand.proofs.RestLemmas.{laid_length}
 use Rattle.macro_expand.proofs.rest.Rest.before.Goals as goal

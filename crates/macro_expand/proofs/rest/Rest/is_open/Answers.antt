@@ -1,7 +1,7 @@
 use Rattle.std.proofs.Common.{ap, sym, ◌∙◌, drop}
 use Rattle.std.specs.Prelude.{option_map}
-use Rattle.macro_expand.specs.Looks.{seen}
-use Rattle.macro_expand.specs.Parens.{parens}
+use Rattle.macro_expand.specs.Ties.Looks.{seen}
+use Rattle.macro_expand.specs.Ties.Parens.{parens}
 use Rattle.macro_expand.proofs.ListLemmas.{drop_at}
 use Rattle.macro_expand.proofs.ParensLemmas.{call_is_open}
 use Rattle.macro_expand.proofs.rest.Rest.is_open.Goals as goal

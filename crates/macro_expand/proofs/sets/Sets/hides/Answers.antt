@@ -1,7 +1,7 @@
 use Rattle.std.proofs.Common.{List, sym, ap, subst, ◌∙◌}
-use Rattle.macro_expand.specs.Codes.{Names}
+use Rattle.macro_expand.specs.Ties.Codes.{Names}
 use Rattle.macro_expand.specs.HideSets.{hides, common}
-use Rattle.macro_expand.specs.Stands.{Stands}
+use Rattle.macro_expand.specs.Ties.Stands.{Stands}
 use Rattle.macro_expand.proofs.SetLemmas.{hides_nothing, hidden_is, stands_empty}
 use Rattle.macro_expand.proofs.sets.Sets.hides.Goals as goal
 

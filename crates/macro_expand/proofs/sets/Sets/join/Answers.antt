@@ -1,6 +1,6 @@
 use Rattle.std.proofs.Common.{List, ap, subst, ◌∙◌}
-use Rattle.macro_expand.specs.Codes.{Names}
-use Rattle.macro_expand.specs.Stands.{Stands}
+use Rattle.macro_expand.specs.Ties.Codes.{Names}
+use Rattle.macro_expand.specs.Ties.Stands.{Stands}
 use Rattle.macro_expand.proofs.JoinLemmas.{joined_is}
 use Rattle.macro_expand.proofs.sets.Sets.join.Goals as goal
 

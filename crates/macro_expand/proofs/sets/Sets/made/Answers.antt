@@ -1,6 +1,6 @@
 use Rattle.std.proofs.Common.{List, sym, ap, subst, ◌∙◌}
-use Rattle.macro_expand.specs.Codes.{Names, coded}
-use Rattle.macro_expand.specs.Stands.{Stands, joined}
+use Rattle.macro_expand.specs.Ties.Codes.{Names, coded}
+use Rattle.macro_expand.specs.Ties.Stands.{Stands, joined}
 use Rattle.macro_expand.proofs.sets.Sets.made.Goals as goal
 
 pub returns : goal.returns

@@ -1,8 +1,8 @@
 use Rattle.std.proofs.Common.{List, sym, subst}
 use Rattle.std.specs.List.{All}
-use Rattle.macro_expand.specs.Codes.{Names}
-use Rattle.macro_expand.specs.Joins.{IsJoin}
-use Rattle.macro_expand.specs.Stands.{Stands}
+use Rattle.macro_expand.specs.Ties.Codes.{Names}
+use Rattle.macro_expand.specs.Ties.Joins.{IsJoin}
+use Rattle.macro_expand.specs.Ties.Stands.{Stands}
 use Rattle.macro_expand.specs.contracts.sets.JoinPartialEq.TheImpl.{eq-value}
 use Rattle.macro_expand.specs.declared.sets.Join.{Join}
 use Rattle.macro_expand.proofs.JoinLemmas.{same_join, All-put}

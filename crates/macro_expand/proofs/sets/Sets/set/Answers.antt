@@ -1,6 +1,6 @@
 use Rattle.std.proofs.Common.{List, subst}
-use Rattle.macro_expand.specs.Codes.{Names}
-use Rattle.macro_expand.specs.Stands.{Stands}
+use Rattle.macro_expand.specs.Ties.Codes.{Names}
+use Rattle.macro_expand.specs.Ties.Stands.{Stands}
 use Rattle.macro_expand.proofs.sets.Sets.set.Goals as goal
 
 pub invariant_of-self : goal.invariant_of-self

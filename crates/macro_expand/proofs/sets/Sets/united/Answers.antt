@@ -1,5 +1,5 @@
 use Rattle.std.proofs.Common.{sym, ap, ◌∙◌}
-use Rattle.macro_expand.specs.Codes.{Names}
+use Rattle.macro_expand.specs.Ties.Codes.{Names}
 use Rattle.macro_expand.specs.HideSets.{united}
 use Rattle.macro_expand.proofs.SetLemmas.{united_nothing, stands_empty}
 use Rattle.macro_expand.proofs.sets.Sets.united.Goals as goal

@@ -1,5 +1,5 @@
 use Rattle.std.proofs.Common.{◌++◌, ap, ◌∙◌}
-use Rattle.macro_expand.specs.Codes.{Names}
+use Rattle.macro_expand.specs.Ties.Codes.{Names}
 use Rattle.macro_expand.proofs.sets.Sets.with.Goals as goal
 
 pub returns-clause-grows : goal.returns-clause-grows

@@ -20,14 +20,14 @@ use Rattle.macro_expand.specs.declared.machine.Machine.{Machine}
 use Rattle.macro_expand.specs.declared.machine.Stop.{Stop}
 use Rattle.macro_expand.specs.declared.machine.Stop.TheVariants as stop
 use Rattle.macro_expand.specs.Arguments.{arg_of}
-use Rattle.macro_expand.specs.Codes.{Names}
-use Rattle.macro_expand.specs.Numbers.{real, reals, real_args, real_building}
+use Rattle.macro_expand.specs.Ties.Codes.{Names}
+use Rattle.macro_expand.specs.Ties.Numbers.{real, reals, real_args, real_building}
 use Rattle.macro_expand.specs.declared.operands.Operand.{Operand}
 use Rattle.macro_expand.specs.Substitution.{Expander}
-use Rattle.macro_expand.specs.Building.{puts_operand, puts, puts_outcome, substituted}
+use Rattle.macro_expand.specs.Ties.Building.{puts_operand, puts, puts_outcome, substituted}
 use Rattle.macro_expand.specs.Expansion.{with_front}
-use Rattle.macro_expand.specs.Steps as steps
-use Rattle.macro_expand.specs.Steps.{again_with, after, real_step, IsNearer}
+use Rattle.macro_expand.specs.Ties.Steps as steps
+use Rattle.macro_expand.specs.Ties.Steps.{again_with, after, real_step, IsNearer}
 
 -- an operand that isn't joined to the one before it
 abbrev pub operand_part : Expander → Building → Operand → Bool → Part

@@ -2,7 +2,7 @@
 use Rattle.std.specs.Prelude.{◌≡◌, ℕ, List, [], ◌∷◌, ◌++◌, Some, slice_get}
 use Rattle.macro_expand.specs.declared.names.How.{How}
 use Rattle.macro_expand.specs.declared.names.How.TheVariants.{Added, United, Common}
-use Rattle.macro_expand.specs.Codes.{Names}
+use Rattle.macro_expand.specs.Ties.Codes.{Names}
 use Rattle.macro_expand.specs.HideSets.{united, common}
 
 -- f says what each number stands for, with these sets under the numbers from 0

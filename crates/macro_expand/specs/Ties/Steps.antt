@@ -1,6 +1,6 @@
 -- How a list is expanded step by step.
-use Rattle.macro_expand.specs.Codes.{Names}
-use Rattle.macro_expand.specs.Numbers.{real, reals, real_args}
+use Rattle.macro_expand.specs.Ties.Codes.{Names}
+use Rattle.macro_expand.specs.Ties.Numbers.{real, reals, real_args}
 use Rattle.std.specs.Prelude.{option_map, ◌≡◌, ℕ, ◌<◌, ◌≤◌, Bool, List, [], ◌∷◌, drop, Option, Some, None, MatchOption}
 use Rattle.std.specs.Prelude.{if◌then◌else◌}
 use Rattle.tok_data.specs.declared.sources.TokId.{TokId}
@@ -18,7 +18,7 @@ use Rattle.macro_expand.specs.declared.finding.Found.TheVariants as macro_read
 use Rattle.macro_expand.specs.Substitution.{Expander}
 use Rattle.macro_expand.specs.Expansion.{Definitions, Sense, Ordinary, Line, File, Macro, Found, Stays, Put, Replaced}
 use Rattle.macro_expand.specs.Expansion.{meaning, spliced, with_front, expansion}
-use Rattle.macro_expand.specs.Building.{begun, substituted}
+use Rattle.macro_expand.specs.Ties.Building.{begun, substituted}
 
 abbrev pub meant : Meaning → Sense
 meant read.Ordinary = Ordinary

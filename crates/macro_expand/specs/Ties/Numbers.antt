@@ -7,7 +7,7 @@ use Rattle.macro_expand.specs.declared.arguments.Called.TheVariants.{Absent, Unc
 use Rattle.macro_expand.specs.declared.operands.Operand.{Operand}
 use Rattle.macro_expand.specs.declared.building.Building.{Building}
 use Rattle.macro_expand.specs.declared.building.Part.{Part}
-use Rattle.macro_expand.specs.Codes.{Names}
+use Rattle.macro_expand.specs.Ties.Codes.{Names}
 
 -- a token with the set that its number stands for
 abbrev pub real : (Names → Names) → Marked → Marked
