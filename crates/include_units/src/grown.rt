@@ -1,5 +1,5 @@
 // A list that grows at its end.
-ghost use Rattle.std.specs.Prelude.{◌≡◌, [], ◌++◌, ◌∷◌, OnOk, length};
+ghost use Rattle.std.specs.Prelude.{◌≡◌, [], ◌++◌, ◌∷◌, IfOk, OnOk, length};
 
 use std::alloc::{AllocError, Global};
 use std::marker::Model;
@@ -25,6 +25,14 @@ impl<T: Drop> Grown<T> {
         Grown {
             items: Vec::new(alloc),
         }
+    }
+
+    /// With room for so many elements.
+    pub(crate) fn with_capacity(alloc: Global, capacity: usize) -> Result<Grown<T>, AllocError>
+        ensures { IfOk result (λ g. g ≡ []) }
+    {
+        let items = Vec::with_capacity(alloc, capacity)?;
+        Ok(Grown { items })
     }
 
     pub(crate) fn push(&mut self, item: T) -> Result<(), AllocError>

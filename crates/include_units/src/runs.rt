@@ -53,7 +53,7 @@ fn lines_by(
 ) -> Result<Vec<(TokId, u32)>, AllocError>
     ensures { IfOk result (λ lines. lines.items ≡ spec.lines_by places.now tokens.now) }
 {
-    let mut lines = Vec::new(alloc);
+    let mut lines = Vec::with_capacity(alloc, tokens.len())?;
     let mut rest = tokens;
     while let Some((token, behind)) = rest.split_first() {
         rest = behind;
