@@ -8,8 +8,10 @@ mod meanings;
 mod scopes;
 mod sharing;
 mod table;
+mod units;
 
 pub use bindings::Binding;
 pub use entities::{Anchor, Entity, EntityKind, Life, Linkage, Occ, Role, ScopeKind};
 pub use meanings::{BodyMeaning, HeadMeaning, How, Stated};
 pub use scopes::Scopes;
+pub use units::{Export, Exports, Symbol, SymbolKind, UnitMeaning};
