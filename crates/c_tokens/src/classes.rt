@@ -82,6 +82,7 @@ fn is_number_part(c: u8) -> bool
     is_word_part(c) || c == b'.'
 }
 
+#[inline(always)]
 #[tactic(auto, unfolding(crate::specs::Classes::next_state))]
 fn next_state(state: State, c: u8) -> Option<State>
     ensures { result ≡ Classes.next_state state c }
@@ -172,7 +173,8 @@ fn next_state(state: State, c: u8) -> Option<State>
     }
 }
 
-/// The longest run of characters from a place and a state on.
+/// The longest run of characters from a place and a state on. Each caller has a loop of its own, for its state.
+#[inline(always)]
 pub fn run(text: &[u8], at: usize, from: State) -> Reach
     requires { at ≤ length text.now }
     ensures count { result.count ≡ Classes.run (ahead text.now at) from }
