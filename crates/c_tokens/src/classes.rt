@@ -1,5 +1,5 @@
 // The lexical elements of ISO C11 6.4, by states and tables.
-ghost use Rattle.std.specs.Prelude.{◌≡◌, ℕ, ◌+◌, ◌<◌, ◌≤◌, length};
+ghost use Rattle.std.specs.Prelude.{◌≡◌, ℕ, ◌+◌, ◌<◌, ◌≤◌, length, IsTrue};
 ghost use Rattle.c_tokens.specs.Classes;
 ghost use Rattle.c_tokens.specs.Logical;
 ghost use Rattle.c_tokens.specs.Reading.{IsAfter, ahead};
@@ -263,6 +263,26 @@ fn is_quadruple(a: u8, b: u8, c: u8, d: u8) -> bool
     ensures { result ≡ Classes.is_quadruple a b c d }
 {
     a == b'%' && b == b':' && c == b'%' && d == b':'
+}
+
+/// Whether a character is a punctuator, and no longer one begins with it.
+#[tactic(auto, unfolding(crate::specs::Classes::longest_of_four, crate::specs::Classes::is_pair))]
+pub fn is_lone(a: u8) -> bool
+    ensures { IsTrue result → (b c d : ℕ) → Classes.longest_of_four a b c d ≡ 1 }
+{
+    match a {
+        b'(' => true,
+        b')' => true,
+        b'[' => true,
+        b']' => true,
+        b'{' => true,
+        b'}' => true,
+        b';' => true,
+        b',' => true,
+        b'~' => true,
+        b'?' => true,
+        _ => false,
+    }
 }
 
 /// The length of the longest punctuator that four characters begin with, and 0 where there is none.

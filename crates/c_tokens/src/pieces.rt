@@ -4,7 +4,7 @@ ghost use Rattle.c_tokens.specs.Pieces;
 ghost use Rattle.c_tokens.specs.Reading.{ahead, IsAfter, IsLook, IsOpening, IsFront};
 
 use crate::classes::{
-    Reach, State, is_blank, is_digit, is_line_end, is_nondigit, longest_of_four, run,
+    Reach, State, is_blank, is_digit, is_line_end, is_lone, is_nondigit, longest_of_four, run,
 };
 use crate::logical::next_character;
 use tok_data::PpKind;
@@ -161,10 +161,17 @@ fn punctuator_or_stray(text: &[u8], at: usize) -> Front
     ensures { IsFront text.now at (Pieces.punctuator_or_stray (ahead text.now at)) result }
 {
     let first = look_ahead(text, at);
+    let kind = Class::Token(PpKind::Punct);
+    if is_lone(first.code) {
+        return Front {
+            class: kind,
+            count: 1,
+            end: first.end,
+        };
+    }
     let second = look_ahead(text, first.end);
     let third = look_ahead(text, second.end);
     let fourth = look_ahead(text, third.end);
-    let kind = Class::Token(PpKind::Punct);
     match longest_of_four(first.code, second.code, third.code, fourth.code) {
         4 => Front {
             class: kind,
