@@ -2,9 +2,11 @@
 use Rattle.std.proofs.Common.{◌≡◌, ◌≢◌, inl, inr, ℕ, ◌+◌, ◌<◌, ◌==◌, false, List, [], ◌∷◌, length, drop, slice_index, refl, ap, sym, ◌∙◌, arith}
 use Rattle.std.proofs.lemmas.Bool.Decides.{eqb_tells}
 use Rattle.std.proofs.lemmas.List.{get_or-drop, length-drop}
+use Rattle.c_tokens.specs.declared.logical.Read.{Read}
 use Rattle.c_tokens.specs.declared.logical.Unit.TheVariants.{Plain}
 use Rattle.c_tokens.specs.Logical.{first_unit, backslash_width, begins_trigraph, continues}
-use Rattle.c_tokens.specs.Reading.{rest, IsAlone, IsNext}
+use Rattle.c_tokens.specs.Reading.{rest, ahead, IsAlone, IsLook, IsNext}
+use Rattle.c_tokens.proofs.AfterLemmas.{after_begins, after_turns, ahead_next}
 use Rattle.c_tokens.proofs.Boundaries.{before_lead}
 use Rattle.c_tokens.proofs.ReadingLemmas.{plain_step, plain_code}
 
@@ -41,4 +43,16 @@ alone_next text at alone =
       within = omega (arith, alone.within);
       own_boundary = λ _ first. first;
       boundary = λ _ _. before_lead text (at + 1) (omega (arith, alone.within)) (λ _. alone.ends);
+    }
+
+pub alone_look : (text : List ℕ) (at : ℕ) → IsAlone text at → IsLook text at (record { code = slice_index text at; end = at + 1 })
+alone_look text at alone =
+    let r : Read = record { unit = Plain 1; code = slice_index text at; own = at; end = at + 1 } in
+    let next : IsNext text at r = alone_next text at alone in
+    let codes : ahead text at ≡ slice_index text at ∷ ahead text (at + 1) = ahead_next text at r next in
+    record {
+      code = ap (λ cs. slice_index cs 0) (sym codes);
+      left = ap (drop 1) (sym codes);
+      one = λ _. after_turns text at 0 at r (after_begins text at (omega (arith, alone.within))) next;
+      within = next.within;
     }

@@ -150,10 +150,10 @@ fn first_unit(text: &[u8]) -> Unit
     plain(text)
 }
 
-// Whether the byte at a place is a character as it stands: it begins no removed line end and no trigraph sequence, and
-// the byte behind it continues nothing.
+/// Whether the byte at a place is a character as it stands: it begins no removed line end and no trigraph sequence, and
+/// the byte behind it continues nothing.
 #[inline(always)]
-fn stands_alone(text: &[u8], at: usize) -> bool
+pub fn stands_alone(text: &[u8], at: usize) -> bool
     requires { at ≤ length text.now }
     ensures { IsTrue result → IsAlone text.now at }
 {
@@ -187,8 +187,8 @@ pub fn next_character(text: &[u8], at: usize) -> Option<Read>
     next_marked(text, at)
 }
 
-// The same, unit by unit.
-fn next_marked(text: &[u8], at: usize) -> Option<Read>
+/// The same, unit by unit.
+pub fn next_marked(text: &[u8], at: usize) -> Option<Read>
     requires { at ≤ length text.now }
     ensures { MatchOption result (rest text.now at ≡ []) (IsNext text.now at) }
 {

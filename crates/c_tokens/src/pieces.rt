@@ -6,7 +6,7 @@ ghost use Rattle.c_tokens.specs.Reading.{ahead, IsAfter, IsLook, IsOpening, IsFr
 use crate::classes::{
     Reach, State, is_blank, is_digit, is_line_end, is_lone, is_nondigit, longest_of_four, run,
 };
-use crate::logical::next_character;
+use crate::logical::{next_marked, stands_alone};
 use tok_data::PpKind;
 
 /// The class of a piece.
@@ -53,11 +53,26 @@ struct Opening {
     end: usize,
 }
 
+#[inline(always)]
 pub fn look_ahead(text: &[u8], at: usize) -> Next
     requires { at ≤ length text.now }
     ensures { IsLook text.now at result }
 {
-    match next_character(text, at) {
+    if stands_alone(text, at) {
+        return Next {
+            code: text[at],
+            end: at + 1,
+        };
+    }
+    look_marked(text, at)
+}
+
+// The same, unit by unit.
+fn look_marked(text: &[u8], at: usize) -> Next
+    requires { at ≤ length text.now }
+    ensures { IsLook text.now at result }
+{
+    match next_marked(text, at) {
         Some(read) => Next {
             code: read.code,
             end: read.end,
