@@ -201,7 +201,7 @@ fn add_fault(found: &mut Found, text: &[u8], piece: Piece) -> Result<(), AllocEr
     Ok(())
 }
 
-// Adds the token of a piece, and gives its spelling.
+// Adds the token of a piece, and gives the context behind it.
 fn add_token(
     alloc: Global,
     found: &mut Found,
@@ -209,19 +209,19 @@ fn add_token(
     text: &str,
     piece: Piece,
     kind: PpKind,
-) -> Result<Name, AllocError>
+) -> Result<Context, AllocError>
     requires piece { IsPiece text.now piece }
     requires small { length text.now < 2 ^ 32 }
     requires numbered { vec_len found.old.tokens < 2 ^ 32 }
     requires boundary { IsCharBoundary text.now piece.at }
-    ensures spelling { IfOk result (λ word. word ≡ Pieces.spelling (read_piece text.now piece).characters) }
+    ensures context { IfOk result (λ context. context ≡ Pieces.after_token piece.context (Pieces.spelling (read_piece text.now piece).characters)) }
     ensures tokens { OnOk result (found.new.tokens.items ≡ found.old.tokens.items ++ token_by (Some kind) (read_piece text.now piece)) }
     ensures places { OnOk result (found.new.places.items ≡ found.old.places.items ++ place_by (Some kind) (read_piece text.now piece)) }
     ensures place_order { OnOk result (Grows text.now piece.at piece.front.end found.old.places.items found.new.places.items) }
     ensures faults { found.new.faults ≡ found.old.faults }
 {
-    let name = name_of(alloc, names, text, piece)?;
-    let spelling = name.share()?;
+    let spelling = name_of(alloc, names, text, piece)?;
+    let context = after_token(piece.context, spelling.as_str());
     found.tokens.push(PpToken {
         kind,
         spelling,
@@ -231,7 +231,7 @@ fn add_token(
     found
         .places
         .push((piece.own as u32, piece.front.end as u32))?;
-    Ok(name)
+    Ok(context)
 }
 
 // Adds what a piece gives, and answers the context behind it.
@@ -255,10 +255,7 @@ fn add_piece(
 {
     add_fault(found, text.as_bytes(), piece)?;
     match piece.front.class {
-        Class::Token(kind) => {
-            let name = add_token(alloc, found, names, text, piece, kind)?;
-            Ok(after_token(piece.context, name.as_str()))
-        }
+        Class::Token(kind) => add_token(alloc, found, names, text, piece, kind),
         Class::OpenLiteral(kind) => {
             add_token(alloc, found, names, text, piece, kind)?;
             Ok(Context::Later)
