@@ -7,4 +7,7 @@ pub mod Contents
 pub mod Weights
 pub mod EntryLemmas
 pub mod Usable
+pub mod NumberLemmas
+pub mod ListLemmas
+pub mod Taken
 pub mod Joined

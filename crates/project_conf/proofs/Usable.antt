@@ -68,7 +68,7 @@ size_if false d n h = omega arith
 cut : (n : ℕ) (xs : List ℕ) → length (take n xs) + length (drop (n + 1) xs) ≤ length xs
 cut n xs = omega (arith, length-take n xs, length-drop (n + 1) xs)
 
-split_size : (b : Bool) (n : ℕ) (text : List ℕ) → length (take n text) + length (if b then drop (n + 1) text else codes "1") ≤ 1 + length text
+pub split_size : (b : Bool) (n : ℕ) (text : List ℕ) → length (take n text) + length (if b then drop (n + 1) text else codes "1") ≤ 1 + length text
 split_size true n text = omega (arith, cut n text)
 split_size false n text = omega (arith, length-take n text)
 

@@ -1,9 +1,11 @@
 pub mod Defines
 pub mod Options
-pub mod Words
 pub mod Parting
 pub mod Writing
 pub mod Settings
+pub mod Lists
+pub mod CommandLine
+pub mod Words
 pub mod Database
 pub mod Weights
 pub mod Firsts

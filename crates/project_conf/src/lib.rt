@@ -7,6 +7,7 @@ mod conf;
 mod database;
 mod entries;
 mod laws;
+mod lists;
 mod options;
 mod parting;
 mod settings;
