@@ -120,22 +120,6 @@ fn push_paths(out: &mut Vec<Path>, paths: &[Path]) -> Result<(), AllocError>
     Ok(())
 }
 
-fn copy(define: &Define) -> Result<Define, AllocError>
-    ensures { IfOk result (λ copy. copy ≡ define.now) }
-{
-    match define {
-        Define::Set(name, text) => {
-            let name = name.share()?;
-            let text = text.share()?;
-            Ok(Define::Set(name, text))
-        }
-        Define::Unset(name) => {
-            let name = name.share()?;
-            Ok(Define::Unset(name))
-        }
-    }
-}
-
 // Behind some definitions, those of a list, shared.
 fn push_defines(out: &mut Vec<Define>, defines: &[Define]) -> Result<(), AllocError>
     ensures { OnOk result (out.new.items ≡ out.old.items ++ defines.now) }
@@ -143,7 +127,7 @@ fn push_defines(out: &mut Vec<Define>, defines: &[Define]) -> Result<(), AllocEr
     let mut rest = defines;
     while let Some((define, behind)) = rest.split_first() {
         rest = behind;
-        out.push(copy(define)?)?;
+        out.push(define.share()?)?;
     }
     Ok(())
 }

@@ -1,10 +1,10 @@
 // What the words of the command line say.
-ghost use Rattle.std.specs.Prelude.{◌≡◌, string_bytes};
+ghost use Rattle.std.specs.Prelude.{◌≡◌, IfOk, string_bytes};
 ghost use Rattle.project_conf.specs.Options.{no_options};
 
 use shared_list::Listing;
 use shared_text::Name;
-use std::alloc::Global;
+use std::alloc::{AllocError, Global};
 use std::marker::Model;
 
 /// A folder to search for included files, as the words give it: absolute, or relative to the root. Contracts see its bytes.
@@ -46,6 +46,25 @@ pub enum Define {
     Set(Name, Name),
     /// The name has no definition.
     Unset(Name),
+}
+
+impl Define {
+    /// The same definition, of which name and text are shared.
+    pub fn share(&self) -> Result<Define, AllocError>
+        ensures { IfOk result (λ copy. copy ≡ self.now) }
+    {
+        match self {
+            Define::Set(name, text) => {
+                let name = name.share()?;
+                let text = text.share()?;
+                Ok(Define::Set(name, text))
+            }
+            Define::Unset(name) => {
+                let name = name.share()?;
+                Ok(Define::Unset(name))
+            }
+        }
+    }
 }
 
 /// Definitions, in order: each is made over what those before it leave.
