@@ -246,7 +246,7 @@ fn serves_the_handshake(rt: HostRuntime) -> Result<(), Fail> {
 
 #[test]
 fn takes_no_words(rt: HostRuntime) -> Result<(), Fail> {
-    let words = [String::from_str(rt.alloc(), "--")?];
+    let words = [String::from_str(rt.alloc(), "--help")?];
     let found = played::<Brand>(rt.alloc(), Blank::new(1), words.as_slice(), WHOLE)?;
     assert!(rt; found.is_some());
     if let Some(found) = found {
