@@ -53,28 +53,12 @@ fn copied_paths(alloc: Global, paths: &[Path]) -> Result<IncludePaths, AllocErro
     Ok(IncludePaths::from_vec(out))
 }
 
-fn copied_define(define: &Define) -> Result<Define, AllocError>
-    ensures { IfOk result (λ copy. copy ≡ define.now) }
-{
-    match define {
-        Define::Set(name, text) => {
-            let name = name.share()?;
-            let text = text.share()?;
-            Ok(Define::Set(name, text))
-        }
-        Define::Unset(name) => {
-            let name = name.share()?;
-            Ok(Define::Unset(name))
-        }
-    }
-}
-
 fn copied_defines(alloc: Global, defines: &[Define]) -> Result<Defines, AllocError>
     ensures { IfOk result (λ copy. copy ≡ defines.now) }
 {
     let mut out = Vec::new(alloc);
     for define in defines {
-        let copy = copied_define(define)?;
+        let copy = define.share()?;
         out.push(copy)?;
     }
     Ok(Defines::from_vec(out))
