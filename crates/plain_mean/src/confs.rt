@@ -12,22 +12,6 @@ use project_conf::{
 use std::alloc::{AllocError, Global};
 use uri_paths::{Path, within};
 
-fn copied_define(define: &Define) -> Result<Define, AllocError>
-    ensures { IfOk result (λ copy. copy ≡ define.now) }
-{
-    match define {
-        Define::Set(name, text) => {
-            let name = name.share()?;
-            let text = text.share()?;
-            Ok(Define::Set(name, text))
-        }
-        Define::Unset(name) => {
-            let name = name.share()?;
-            Ok(Define::Unset(name))
-        }
-    }
-}
-
 // The same definitions, shared.
 fn copied_defines(alloc: Global, defines: &[Define]) -> Result<Defines, AllocError>
     ensures { IfOk result (λ copy. copy ≡ defines.now) }
@@ -36,7 +20,7 @@ fn copied_defines(alloc: Global, defines: &[Define]) -> Result<Defines, AllocErr
     let mut rest = defines;
     'defines: while let Some((define, behind)) = rest.split_first() {
         rest = behind;
-        out.push(copied_define(define)?)?;
+        out.push(define.share()?)?;
     }
     Ok(Defines::from_vec(out))
 }
