@@ -1,6 +1,7 @@
 pub mod Fronts
 pub mod WordLemmas
 pub mod Written
+pub mod RunLemmas
 pub mod Ways
 pub mod SettingLemmas
 pub mod Contents

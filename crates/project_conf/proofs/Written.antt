@@ -20,7 +20,7 @@ encoded_both s t = flat_map-append encode_utf8 s t
 
 -- ---- between quotes
 
-kept_single : (c : ℕ) → c == single_quote ≡ false → step Single c ≡ Keeps Single
+pub kept_single : (c : ℕ) → c == single_quote ≡ false → step Single c ≡ Keeps Single
 unfolding step
 kept_single c h = rw h refl
 
@@ -38,7 +38,7 @@ kept_parts true b h = absurd (true≢false h)
 kept_parts false true h = absurd (true≢false h)
 kept_parts false false h = refl
 
-kept_double : (c : ℕ) → is_taken c ≡ false → step Double c ≡ Keeps Double
+pub kept_double : (c : ℕ) → is_taken c ≡ false → step Double c ≡ Keeps Double
 unfolding step
 kept_double c h = kept_parts (c == double_quote) (c == backslash) h
 
@@ -78,7 +78,7 @@ plain_parts false false true e h = absurd (true≢false h)
 plain_parts false false false true h = absurd (true≢false h)
 plain_parts false false false false h = refl
 
-kept_plain : (c : ℕ) → is_special c ≡ false → step Plain c ≡ Keeps Plain
+pub kept_plain : (c : ℕ) → is_special c ≡ false → step Plain c ≡ Keeps Plain
 unfolding step
 kept_plain c h = plain_parts (c == space) (c == single_quote) (c == double_quote) (c == backslash) h
 

@@ -2,6 +2,7 @@ pub mod Defines
 pub mod Options
 pub mod Parting
 pub mod Writing
+pub mod Runs
 pub mod Settings
 pub mod Lists
 pub mod CommandLine

@@ -1,11 +1,13 @@
 // The words of a command, in turn.
 ghost use Rattle.std.specs.Prelude.{◌≡◌, ◌<◌, ◌≤◌, ◌∷◌, [], ◌++◌, length, unwrap_or, IfOk, IfSome, OnOk, MatchOption};
+ghost use Rattle.std.specs.List.{prefix_len};
 ghost use Rattle.std.specs.Str.{chars};
 ghost use Rattle.std.specs.String.{string_bytes};
 ghost use Rattle.project_conf.specs.Parting.{parted, at_end, all_words, all_behind, words_of};
+ghost use Rattle.project_conf.specs.Runs.{stands};
 ghost use Rattle.project_conf.specs.declared.parting.Mode.TheVariants.{Plain};
 
-use crate::parting::{Act, Mode, step};
+use crate::parting::{Act, Mode, stands, step};
 use std::alloc::{AllocError, Global};
 
 // The first character of a text, and what follows it.
@@ -35,6 +37,26 @@ fn behind_spaces(text: &str) -> Option<&str>
     None
 }
 
+// How many bytes at the front of a text belong to characters that stand for themselves.
+fn run_size(mode: Mode, text: &str) -> usize
+    ensures { result ≡ prefix_len (stands mode) text.now }
+{
+    text.as_bytes()
+        .iter()
+        .take_while(|b| stands(mode, **b))
+        .count()
+}
+
+// The characters at the front of a text that stand for themselves go behind a word; what follows them.
+fn take_run<'a>(word: &mut String, mode: Mode, text: &'a str) -> Result<&'a str, AllocError>
+    ensures words { IfOk result (λ behind. all_behind (string_bytes word.new) (parted mode (chars behind.now)) ≡ all_behind (string_bytes word.old) (parted mode (chars text.now))) }
+    ensures within { IfOk result (λ behind. length behind.now ≤ length text.now) }
+{
+    let (run, behind) = text.split_at(run_size(mode, text));
+    word.push_str(run)?;
+    Ok(behind)
+}
+
 // A backslash at the end of a command stands for itself.
 fn push_end(word: &mut String, mode: Mode) -> Result<(), AllocError>
     ensures { OnOk result (string_bytes word.new ≡ string_bytes word.old ++ unwrap_or (at_end mode).word []) }
@@ -57,10 +79,11 @@ fn word_from<'a>(word: &mut String, text: &'a str) -> Result<&'a str, AllocError
     word.clear();
     let mut mode = Mode::Plain;
     let mut rest = text;
-    loop {
-        let Some((c, behind)) = split_first_char(rest) else {
+    'word: loop {
+        let after = take_run(word, mode, rest)?;
+        let Some((c, behind)) = split_first_char(after) else {
             push_end(word, mode)?;
-            return Ok(rest);
+            return Ok(after);
         };
         match step(mode, c) {
             Act::Parts => return Ok(behind),

@@ -1,6 +1,7 @@
 // The characters of a command, one by one.
 ghost use Rattle.std.specs.Prelude.{◌≡◌};
 ghost use Rattle.project_conf.specs.Parting.{step};
+ghost use Rattle.project_conf.specs.Runs.{stands};
 
 /// Where in a command a character stands.
 #[derive(Clone, Copy, Debug, PartialEq, Eq)]
@@ -56,5 +57,18 @@ pub(crate) fn step(mode: Mode, c: char) -> Act
             '"' | '\\' => Act::Keeps(Mode::Double),
             _ => Act::KeepsBoth(Mode::Double),
         },
+    }
+}
+
+/// Whether a byte is of a character that stands for itself, and leaves the next one where it stands.
+#[tactic(auto, unfolding(crate::specs::Runs::stands))]
+pub(crate) fn stands(mode: Mode, b: u8) -> bool
+    ensures { result ≡ stands mode b }
+{
+    match mode {
+        Mode::Plain => !(b == b' ' || b == b'\'' || b == b'"' || b == b'\\'),
+        Mode::Single => !(b == b'\''),
+        Mode::Double => !(b == b'"' || b == b'\\'),
+        Mode::Escaped | Mode::DoubleEscaped => false,
     }
 }

@@ -7,10 +7,10 @@ use Rattle.project_conf.specs.Parting.{parted, all_behind}
 use Rattle.project_conf.specs.declared.parting.Mode.TheVariants.{Plain}
 use Rattle.project_conf.proofs.command_words.word_from.Given as goal
 
-abbrev pub invariant-loop-c : goal.invariant-loop-c
-invariant-loop-c l =
+abbrev pub invariant-word : goal.invariant-word
+invariant-word l =
     shadow (Utf8 l.rest) × (all_behind (string_bytes l.word) (parted l.mode (chars l.rest)) ≡ all_behind [] (parted Plain (chars l.text)))
     × (length l.rest ≤ length l.text)
 
-abbrev pub decreases-loop-c : goal.decreases-loop-c
-decreases-loop-c l = length l.rest
+abbrev pub decreases-word : goal.decreases-word
+decreases-word l = length l.rest
