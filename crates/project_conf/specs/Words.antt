@@ -39,7 +39,7 @@ run_of n = if nat_le 1 n && nat_le n 512 then Some (Some n) else None
 -- the number of units of a generated run, where one is asked for
 abbrev pub run_given : Option (List ℕ) → Option (Option ℕ)
 run_given None = Some None
-run_given (Some text) = None
+run_given (Some text) = option_and_then run_of (number_in text)
 
 -- ---- all of them
 

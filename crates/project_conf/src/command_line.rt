@@ -138,7 +138,7 @@ fn run_given(text: Option<&str>) -> Result<Option<u32>, WordError>
         return Err(WordError::Usage);
     };
     if 1 <= number && number <= 512 {
-        return Err(WordError::Usage);
+        return Ok(Some(number));
     }
     Err(WordError::Usage)
 }
