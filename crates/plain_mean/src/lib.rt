@@ -17,7 +17,7 @@ mod units;
 pub use confs::{conf_of, database_fault, database_path};
 pub use laws::shown_follows;
 pub use lexings::Lexings;
-pub use lists::{ShownLists, shown_lists};
+pub use lists::{ShownLists, shown_lists, unit_count};
 pub use meaning::mean;
 pub use messages::is_warning;
 pub use reading::Reading;

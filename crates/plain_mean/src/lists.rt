@@ -1,5 +1,5 @@
 // What all files show, over all units of the texts.
-ghost use Rattle.std.specs.Prelude.{◌≡◌, ℕ, ◌+◌, ◌||◌, false, List, [], ◌∷◌, ◌++◌, length, flat_map, bytes_eq, IfOk, OnOk, if◌then◌else◌};
+ghost use Rattle.std.specs.Prelude.{◌≡◌, ℕ, ◌+◌, ◌≤◌, ◌||◌, false, List, [], ◌∷◌, ◌++◌, length, flat_map, bytes_eq, IfOk, OnOk, if◌then◌else◌};
 ghost use Rattle.std.specs.List.{filter, list_any};
 ghost use Rattle.doc_texts.specs.Texts.{text_at};
 ghost use Rattle.plain_mean.specs.Meanings.{meaning};
@@ -156,7 +156,8 @@ fn chosen(
 
 #[tactic(auto, unfolding(crate::specs::Shown::units))]
 fn units(alloc: Global, docs: &Docs, reading: &Reading<'_>) -> Result<Vec<Path>, AllocError>
-    ensures { IfOk result (λ list. list.items ≡ units docs.now reading.now) }
+    ensures units { IfOk result (λ list. list.items ≡ units docs.now reading.now) }
+    ensures few { IfOk result (λ list. length list.items ≤ 1024) }
 {
     let paths = docs.paths()?;
     let mut units = chosen(alloc, docs, reading, paths.as_slice())?;
@@ -264,6 +265,16 @@ fn listed(
         lists.insert(path.share()?, list)?;
     }
     Ok(lists)
+}
+
+/// How many units the texts have, at most 1,024, of which none is worked out. It costs the texts' paths and the database's entries.
+pub fn unit_count(alloc: Global, docs: &Docs, conf: &Conf) -> Result<u32, AllocError>
+    requires { IsUsable conf.now }
+    ensures { IfOk result (λ count. count ≡ length (units docs.now conf.now)) }
+{
+    let reading = Reading::of(alloc, conf)?;
+    let units = units(alloc, docs, &reading)?;
+    Ok(units.len() as u32)
 }
 
 /// What each file of the texts shows, each unit worked out once, which is one step each. Names of definitions are identifiers; those of

@@ -10,7 +10,7 @@ use Rattle.plain_mean.proofs.lists.shown_lists.Goals as goal
 pub returns-clause-shown : goal.returns-clause-shown
 returns-clause-shown g c =
     let same = c.in_ok-found.ensures.same ∙ c.new-lexings.ensures in
-    let chosen = c.as_slice.ensures.value ∙ c.in_ok-units.ensures ∙ (λ i. units (sym same i) (c.in_ok-reading.ensures i)) in
+    let chosen = c.as_slice.ensures.value ∙ c.in_ok-units.ensures.units ∙ (λ i. units (sym same i) (c.in_ok-reading.ensures i)) in
     subst (λ t. AreShown t c.args.conf.now c.in_ok-lists.lists) same (record {
       right = λ q. all_right c.found_in.new.lexings c.args.conf.now q (list_any (bytes_eq q) c.as_slice-2.result.now) (has_read c.in_ok-found.found.reads q) (faults_at c.in_ok-found.found.faults q) (shown_in c.in_ok-lists.lists q)
           (c.in_ok-lists.ensures.listed q)
