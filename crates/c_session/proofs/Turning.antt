@@ -30,6 +30,17 @@ and_not false = refl
 pub never_hinged : (database : Option (List UnitConf)) (path : List ℕ) → database ≡ None → false ≡ is_hinged database path
 never_hinged database path none = and_not (is_source path) ∙ ap (λ d. is_hinged d path) (sym none)
 
+hinged_by_source : (entry source : Bool) → (source && not entry) ≡ ((entry || true && source) && not (entry || false && source))
+hinged_by_source true true = refl
+hinged_by_source true false = refl
+hinged_by_source false true = refl
+hinged_by_source false false = refl
+
+pub hinged_source : (database : Option (List UnitConf)) (units : List UnitConf) (path : List ℕ) (entry source : Bool) → database ≡ Some units → entry ≡ is_some (entry_of path units) →
+    source ≡ is_source path → (source && not entry) ≡ is_hinged database path
+hinged_source database units path entry source some found ends =
+    ap (λ b. b && not entry) ends ∙ ap (λ b. is_source path && not b) found ∙ hinged_by_source (is_some (entry_of path units)) (is_source path) ∙ ap (λ d. is_hinged d path) (sym some)
+
 unhinged_by : (entry source b c : Bool) → ((entry || true && source) && not (entry || false && source)) ≡ false → (entry || b && source) ≡ (entry || c && source)
 unhinged_by true source b c h = refl
 unhinged_by false true b c h = absurd (true≢false h)

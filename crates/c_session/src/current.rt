@@ -1,5 +1,5 @@
 // What the server keeps between two contents, and its reaction to a message.
-ghost use Rattle.std.specs.Prelude.{◌≡◌, ◌≢◌, ◌+◌, ◌++◌, ◌<◌, ◌^◌, ℕ, false, List, [], length, None, Some, Ok, IfOk, IfErr, OnOk, option_map, map, codes};
+ghost use Rattle.std.specs.Prelude.{◌≡◌, ◌≢◌, ◌+◌, ◌++◌, ◌<◌, ◌^◌, ℕ, false, List, [], length, None, Some, Ok, IfOk, IfErr, OnOk, is_some, option_map, map, codes};
 ghost use Rattle.doc_texts.specs.Prior.{Prior};
 ghost use Rattle.doc_texts.specs.Texts.{Texts};
 ghost use Rattle.serde_json.specs.View.{view};
@@ -17,6 +17,7 @@ ghost use Rattle.plain_mean.specs.Lists.{AreShown, shown_in};
 ghost use Rattle.plain_mean.specs.Shown.{units};
 ghost use Rattle.plain_mean.specs.Within.{AreWithin};
 ghost use Rattle.project_conf.specs.Defines.{AreUsable};
+ghost use Rattle.project_conf.specs.Entries.{entry_of};
 ghost use Rattle.plain_mean.specs.Confs.{IsUsable};
 ghost use Rattle.c_session.specs.Replies.{log, error};
 ghost use Rattle.c_session.specs.Ties.SeenParams.{seen_file_change};
@@ -43,7 +44,7 @@ use doc_texts::{Docs, PriorTexts};
 use io_edges::Store;
 use json_view::Id;
 use plain_mean::{ShownLists, shown_follows, shown_lists};
-use project_conf::{Conf, Entries, Options, is_unit};
+use project_conf::{Conf, Options, UnitConf};
 use serde_json::Value;
 use shared_list::Listing;
 use std::alloc::{AllocError, Global};
@@ -105,16 +106,28 @@ fn shifted_by(opens: bool, path: &Path) -> Option<&Path>
     None
 }
 
-/// Whether a path is a unit just as long as its document is open.
-#[tactic(auto, using(crate::proofs::Turning::never_hinged))]
-fn is_hinged(alloc: Global, conf: &Conf, path: &Path) -> Result<bool, AllocError>
-    ensures { IfOk result (λ b. b ≡ is_hinged conf.now.database path.now) }
+/// Whether a database has an entry of a file.
+#[tactic(auto, unfolding(project_conf::specs::Entries::entry_of))]
+fn has_entry(units: &[UnitConf], file: &Path) -> bool
+    ensures { result ≡ is_some (entry_of file.now units.now) }
 {
-    let Some(units) = &conf.database else {
-        return Ok(false);
-    };
-    let entries = Entries::of(alloc, units.as_slice())?;
-    Ok(is_unit(Some(&entries), true, path) && !is_unit(Some(&entries), false, path))
+    units
+        .iter()
+        .find(|unit| unit.file.as_str() == file.as_str())
+        .is_some()
+}
+
+/// Whether a path is a unit just as long as its document is open: a C source to which the database has no entry.
+#[tactic(auto, using(crate::proofs::Turning::never_hinged, crate::proofs::Turning::hinged_source))]
+fn is_hinged(conf: &Conf, path: &Path) -> bool
+    ensures { result ≡ is_hinged conf.now.database path.now }
+{
+    match &conf.database {
+        Some(units) => {
+            path.as_str().as_bytes().ends_with(b".c") && !has_entry(units.as_slice(), path)
+        }
+        None => false,
+    }
 }
 
 impl Current {
@@ -319,7 +332,7 @@ impl Current {
             return Ok(false);
         };
         let conf = self.conf_now()?;
-        is_hinged(self.alloc, &conf, path)
+        Ok(is_hinged(&conf, path))
     }
 
     /// Whether what files show has to be worked out: some text differs, or the document that was opened or closed is a unit by that, or
