@@ -1,4 +1,5 @@
 pub mod Asking
+pub mod Counting
 pub mod Elements
 pub mod Floats
 pub mod Loads

@@ -1,4 +1,5 @@
 pub mod Asking
+pub mod Counts
 pub mod Files
 pub mod Handled
 pub mod Loading

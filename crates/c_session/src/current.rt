@@ -4,6 +4,7 @@ ghost use Rattle.doc_texts.specs.Prior.{Prior};
 ghost use Rattle.doc_texts.specs.Texts.{Texts};
 ghost use Rattle.serde_json.specs.View.{view};
 ghost use Rattle.c_session.specs.Asking.{Gives};
+ghost use Rattle.c_session.specs.Counts.{counts_of};
 ghost use Rattle.c_session.specs.Handled.{Reached, IsWork};
 ghost use Rattle.c_session.specs.Ties.Interrupted.{Refused};
 ghost use Rattle.c_session.specs.React.{tells, edits, opened_by, changed_by, closed_by, closes, watches, starts, beginning_by, begins, did_open, did_change, running_request, running_notification, fresh_request, on_request, on_notification, on_other, on_message, rejects, invalid_params};
@@ -28,6 +29,7 @@ ghost use Rattle.c_session.specs.State.{fresh, with_texts};
 ghost use Rattle.c_session.specs.declared.phase.Phase.TheVariants.{Fresh};
 ghost use Rattle.c_session.specs.declared.reasons.Refusal.TheVariants.{NoMemory};
 
+use crate::counts::{Counts, fault_count};
 use crate::documents::{change_document, close_document, open_document};
 use crate::error::SessionError;
 use crate::loading::read_back;
@@ -43,7 +45,7 @@ use crate::words::Words;
 use doc_texts::{Docs, PriorTexts};
 use io_edges::Store;
 use json_view::Id;
-use plain_mean::{ShownLists, shown_follows, shown_lists};
+use plain_mean::{ShownLists, shown_follows, shown_lists, unit_count};
 use project_conf::{Conf, Options, UnitConf};
 use serde_json::Value;
 use shared_list::Listing;
@@ -279,6 +281,21 @@ impl Current {
     {
         self.shown = self.shown_now(steps)?;
         Ok(())
+    }
+
+    /// How many units there are, and how many faults all files show.
+    #[tactic(auto, using(crate::proofs::Counting::counts_are))]
+    pub fn counts(&self) -> Result<Counts, AllocError>
+        requires { IsKept self.now }
+        ensures { IfOk result (λ counts. counts ≡ counts_of (current_state self.now)) }
+    {
+        let conf = self.conf_now()?;
+        let units = unit_count(self.alloc, &self.docs, &conf)?;
+        let paths = self.docs.paths()?;
+        Ok(Counts {
+            units,
+            faults: fault_count(&self.shown, paths.as_slice()),
+        })
     }
 
     /// A response, and behind it log messages and the diagnostics of the files that have news, and of the one that was opened

@@ -1,6 +1,7 @@
 // The session with one client of the language server: the reaction to each message, over the current texts.
 #![tactic(auto)]
 
+mod counts;
 mod current;
 mod diagnostics;
 mod documents;
@@ -20,6 +21,7 @@ mod starting;
 mod watching;
 mod words;
 
+pub use counts::Counts;
 pub use current::{Reply, ReplyBytes};
 pub use error::SessionError;
 pub use laws::{

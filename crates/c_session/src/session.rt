@@ -1,5 +1,6 @@
 // The session with one client, and how it handles a content.
 ghost use Rattle.std.specs.Prelude.{◌≡◌, ◌+◌, ◌<◌, ◌^◌, true, IfOk, IfErr, OnOk};
+ghost use Rattle.c_session.specs.Counts.{counts_of};
 ghost use Rattle.c_session.specs.Handled.{Handled, IsWork};
 ghost use Rattle.c_session.specs.Ties.Interrupted.{Refused};
 ghost use Rattle.c_session.specs.Message.{message};
@@ -9,6 +10,7 @@ ghost use Rattle.c_session.specs.Ties.Sessions.{state_of, handled_by, is_whole, 
 ghost use Rattle.c_session.specs.State.{fresh};
 ghost use Rattle.project_conf.specs.Defines.{AreUsable};
 
+use crate::counts::Counts;
 use crate::current::{Current, Reply};
 use crate::error::SessionError;
 use crate::message::{message_of, read_content};
@@ -129,5 +131,23 @@ impl Session {
             }
             Err(error) => Err(error),
         }
+    }
+
+    /// What the texts come to: how many units there are, and how many faults all files show. It changes no text. As long as each call gave
+    /// what it promises (`is_whole`) no unit is worked out. It costs the texts' paths, what they show and the database's text. After an
+    /// error the session isn't used again.
+    pub fn counts<L: Ledger>(&mut self, steps: &mut Steps<L>) -> Result<Counts, AllocError>
+        ensures counts { IfOk result (λ counts. counts ≡ counts_of (state_of self.old)) }
+        ensures same { OnOk result (state_of self.new ≡ state_of self.old) }
+        ensures count { handled_by self.new ≡ handled_by self.old }
+        ensures whole { OnOk result (is_whole self.new ≡ true) }
+        ensures steps { OnOk result (is_whole self.old ≡ true → steps.new ≡ steps.old) }
+    {
+        let whole = self.whole;
+        self.whole = false;
+        ready(&mut self.current, whole, steps)?;
+        let counts = self.current.counts()?;
+        self.whole = true;
+        Ok(counts)
     }
 }
