@@ -74,7 +74,7 @@ pointing p = (p.star, p.qualifiers.items)
 
 unfoldable pub bound_step : Bound-F Tree spec.Designator Initial spec.Piece Behind spec.Association spec.Bound spec.Deriving Grouping spec.Parameters Front Specifying spec.Braces Front Declaring Specifyings Naming → spec.Bound
 bound_step (layer.Unsized ns) = Unsized_of ns.items
-bound_step (layer.AnySize n) = Any_size_of n
+bound_step (layer.AnySize ns n) = Any_size_of ns.items n
 bound_step (layer.Sized ns t) = Sized_of ns.items t.value
 bound_step (layer.StaticSized n ns t) = Static_sized_of n ns.items t.value
 bound_step (layer.SizedStatic ns n t) = Sized_static_of ns.items n t.value

@@ -121,11 +121,11 @@ mutual
     No_more : Row
     Parameter_then : ℕ → Naming → Row → Row
 
-  -- what stands in the brackets of an array: qualifiers; `*`; a size with qualifiers in front of it; one with `static` and
+  -- what stands in the brackets of an array: qualifiers; `*` with qualifiers in front of it; a size with qualifiers in front of it; one with `static` and
   -- qualifiers in front of it, or with qualifiers and `static`
   pub data Bound : Type 0 where
     Unsized_of : List ℕ → Bound
-    Any_size_of : ℕ → Bound
+    Any_size_of : List ℕ → ℕ → Bound
     Sized_of : List ℕ → Tree → Bound
     Static_sized_of : ℕ → List ℕ → Tree → Bound
     Sized_static_of : List ℕ → ℕ → Tree → Bound
@@ -168,6 +168,23 @@ operand p = Operand_of p.0 p.1
 
 abbrev pub left : Tree × ℕ → Front
 left p = Left_of p.0 p.1
+
+abbrev pub are_some : List ℕ → Bool
+are_some [] = false
+are_some (n ∷ ns) = true
+
+-- `*` with qualifiers in front of it
+abbrev pub is_starred : Bound → Bool
+is_starred (Unsized_of ns) = false
+is_starred (Any_size_of ns n) = are_some ns
+is_starred (Sized_of ns t) = false
+is_starred (Static_sized_of n ns t) = false
+is_starred (Sized_static_of ns n t) = false
+
+-- it stands behind a name alone (6.7.6.2, 6.7.7)
+abbrev pub needs_name : Deriving → Bool
+needs_name (Array_of o x c) = is_starred x
+needs_name (Function_of o ps c) = false
 
 -- the first is an operator
 abbrev pub operates : Front → Bool

@@ -85,8 +85,8 @@ pub enum Parameters {
 pub enum Bound {
     /// Qualifiers, if there are any, and no size.
     Unsized(Vec<u32>),
-    /// `*` in place of a size.
-    AnySize(u32),
+    /// Qualifiers, if there are any, and `*` in place of a size.
+    AnySize(Vec<u32>, u32),
     /// Qualifiers, if there are any, and the size.
     Sized(Vec<u32>, Box<Expr>),
     /// `static`, qualifiers if there are any, and the size.
@@ -216,6 +216,17 @@ impl Deriving {
     {
         Deriving::Function(opening, parameters, closing)
     }
+
+    /// Whether it stands behind a name alone: an array with qualifiers and `*` in its brackets does (6.7.6.2), as an abstract
+    /// declarator has `*` without qualifiers (6.7.7).
+    pub fn needs_name(&self) -> bool
+        ensures { result ≡ spec.needs_name (deriving_of self.now) }
+    {
+        match self {
+            Deriving::Array(_, bound, _) => bound.is_starred(),
+            Deriving::Function(_, _, _) => false,
+        }
+    }
 }
 
 impl Parameters {
@@ -263,10 +274,23 @@ impl Bound {
     }
 
     /// `*` in place of a size.
-    pub fn any_size(at: u32) -> Bound
-        ensures { bound_of result ≡ spec.Any_size_of at }
+    pub fn any_size(qualifiers: Vec<u32>, star: u32) -> Bound
+        ensures { bound_of result ≡ spec.Any_size_of qualifiers.items star }
     {
-        Bound::AnySize(at)
+        Bound::AnySize(qualifiers, star)
+    }
+
+    // Whether it is `*` with a qualifier in front of it.
+    fn is_starred(&self) -> bool
+        ensures { result ≡ spec.is_starred (bound_of self.now) }
+    {
+        match self {
+            Bound::Unsized(_) => false,
+            Bound::AnySize(qualifiers, _) => are_some(qualifiers.as_slice()),
+            Bound::Sized(_, _) => false,
+            Bound::StaticSized(_, _, _) => false,
+            Bound::SizedStatic(_, _, _) => false,
+        }
     }
 
     /// A size.
@@ -350,6 +374,15 @@ impl Prefix {
             Prefix::Cast(_, _, _) => false,
         }
     }
+}
+
+fn are_some(words: &[u32]) -> bool
+    ensures { result ≡ spec.are_some words.now }
+{
+    let Some(_) = words.first() else {
+        return false;
+    };
+    true
 }
 
 // Whether the first is an operator.
