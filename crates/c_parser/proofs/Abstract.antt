@@ -1,14 +1,14 @@
 -- Declarators, with a name where one may stand, as the code reads their parts one behind another.
-use Rattle.std.proofs.Common.{◌≡◌, refl, ap, sym, ◌∙◌, subst, ℕ, zero, suc, ◌+◌, ◌<◌, ◌≤◌, List, [], ◌∷◌, ◌++◌, length, arith, Bool, true, false, true≢false, ◌&&◌}
+use Rattle.std.proofs.Common.{◌≡◌, refl, ap, sym, ◌∙◌, subst, ℕ, zero, suc, ◌+◌, ◌<◌, ◌≤◌, List, [], ◌∷◌, ◌++◌, length, arith, Bool, true, false, true≢false, ◌&&◌, inl, inr}
 use Rattle.std.proofs.lemmas.List.{map-append}
 use Rattle.tree_data.specs.declared.types.Deriving as code
 use Rattle.tree_data.specs.Seen.{deriving_of, derivings_of}
-use Rattle.tree_data.specs.Trees.{Tree, Declaring, Declaring_of, Grouping, No_group, Named_of, Group_of, Parameters, Deriving, Array_of, Function_of, Derivings, No_derivings, Deriving_then, derivings, Bound, Unsized_of, Any_size_of, Sized_of, Static_sized_of, Sized_static_of}
+use Rattle.tree_data.specs.Trees.{Tree, Declaring, Declaring_of, Grouping, No_group, Named_of, Group_of, Parameters, Deriving, Array_of, Function_of, Derivings, No_derivings, Deriving_then, derivings, Bound, Unsized_of, Any_size_of, Sized_of, Static_sized_of, Sized_static_of, needs_name}
 use Rattle.c_parser.specs.declared.answers.Stop.{Stop}
 use Rattle.c_parser.specs.declared.answers.Stop.TheVariants as stop
 use Rattle.c_parser.specs.declared.kinds.Kind.{Kind}
 use Rattle.c_parser.specs.declared.kinds.Kind.TheVariants.{Identifier, OpenParen, CloseParen, OpenBracket, CloseBracket, Star, Static}
-use Rattle.c_parser.specs.Declarators.{AreThere, IsWritten}
+use Rattle.c_parser.specs.Declarators.{AreThere, IsWritten, names_one, need_name}
 use Rattle.c_parser.specs.Kinds.{kind_at, ends_type, is_deriving, any_size_at, is_star, is_closing_bracket, is_identifier, names_at, opens_parameters}
 use Rattle.c_parser.specs.Reading.{HoldQualifiers, HoldPointers, HoldsDeclaring, HoldsGrouping, HoldsDeriving, HoldDerivings, HoldsBound, HoldParameters, Reads, Found, IsWant}
 use Rattle.c_parser.specs.TypeNames.{FoundQualifiers, FoundPointers, FoundDeclaring, FoundGrouping, FoundDeriving, FoundDerivings, FoundBound, FoundParameters}
@@ -18,7 +18,7 @@ use Rattle.c_parser.proofs.Parsing.{Fails}
 use Rattle.c_parser.proofs.TypeReading.{everywhere, Bounding, first_static, first_others, Behind, nothing, a_star, a_size, a_static, bound_view, bound_only, no_start, no_star, no_qualifier, grouping_begins, parameters_next, written_begins, no_name_next, deriving_only}
 use Rattle.c_parser.proofs.Types.{between, pointers_only, qualifiers_only}
 use Rattle.c_parser.proofs.Views.{starts}
-use Rattle.c_parser.proofs.Words.{left_of, right_of, test_inside, name_may_stand, name_stands}
+use Rattle.c_parser.proofs.Words.{either, or_left, or_right, left_of, right_of, test_inside, name_may_stand, name_stands}
 
 -- what a call has for all that stand there, where it read something and where it stopped
 abbrev pub OnlyDeclaring : List Kind → Bool → ℕ → Declaring → ℕ → Type 0
@@ -37,11 +37,12 @@ FailsGrouping ks y a e =
     (g : Grouping) → (m : ℕ) → (ds : Derivings) → (c : ℕ) → HoldsGrouping ks y g a m → HoldDerivings ks ds m c
     → ends_type (kind_at ks c) ≡ true → IsWant e
 
-abbrev pub OnlyDerivings : List Kind → ℕ → Derivings → ℕ → Type 0
-OnlyDerivings ks a ds c = (ds' : Derivings) → (c' : ℕ) → HoldDerivings ks ds' a c' → ends_type (kind_at ks c') ≡ true → (ds ≡ ds') × (c ≡ c')
+abbrev pub OnlyDerivings : List Kind → Bool → ℕ → Derivings → ℕ → Type 0
+OnlyDerivings ks z a ds c =
+    (ds' : Derivings) → (c' : ℕ) → HoldDerivings ks ds' a c' → (need_name ds' ≡ true → z ≡ true) → ends_type (kind_at ks c') ≡ true → (ds ≡ ds') × (c ≡ c')
 
-abbrev pub FailsDerivings : List Kind → ℕ → Stop → Type 0
-FailsDerivings ks a e = (ds : Derivings) → (c : ℕ) → HoldDerivings ks ds a c → ends_type (kind_at ks c) ≡ true → IsWant e
+abbrev pub FailsDerivings : List Kind → Bool → ℕ → Stop → Type 0
+FailsDerivings ks z a e = (ds : Derivings) → (c : ℕ) → HoldDerivings ks ds a c → (need_name ds ≡ true → z ≡ true) → ends_type (kind_at ks c) ≡ true → IsWant e
 
 abbrev pub OnlyDeriving : List Kind → ℕ → Deriving → ℕ → Type 0
 OnlyDeriving ks a d c = (d' : Deriving) → (c' : ℕ) → HoldsDeriving ks d' a c' → (d ≡ d') × (c ≡ c')
@@ -77,26 +78,28 @@ group_missing ks y a ps m x e fails (Declaring_of ps' g ds) c h f =
     fails g h.1 ds c (subst (λ k. HoldsGrouping ks y g k h.1) (sym same.1) h.3) h.4 f
 
 pub derivings_missing : (ks : List Kind) → (y : Bool) → (a : ℕ) → (ps : List (ℕ × List ℕ)) → (m : ℕ) → FoundPointers ks a ps m → (g : Grouping) → (n : ℕ)
-    → OnlyGrouping ks y m g n → (e : Stop) → FailsDerivings ks n e → FailsDeclaring ks y a e
-derivings_missing ks y a ps m x g n only e fails (Declaring_of ps' g' ds) c h f =
+    → OnlyGrouping ks y m g n → (z : Bool) → z ≡ names_one g → (e : Stop) → FailsDerivings ks z n e → FailsDeclaring ks y a e
+derivings_missing ks y a ps m x g n only z is e fails (Declaring_of ps' g' ds) c h f =
     let same = pointers_same ks y a ps m x ps' h.0 h.2 g' ds h.1 c h.3 h.4 f in
     let more = only g' h.1 ds c (subst (λ k. HoldsGrouping ks y g' k h.1) (sym same.1) h.3) h.4 f in
-    fails ds c (subst (λ y. HoldDerivings ks ds y c) (sym more.1) h.4) f
+    fails ds c (subst (λ y. HoldDerivings ks ds y c) (sym more.1) h.4) (λ q. is ∙ ap names_one more.0 ∙ h.5 q) f
 
 pub declaring_found : (ks : List Kind) → (y : Bool) → (a : ℕ) → (ps : List (ℕ × List ℕ)) → (m : ℕ) → FoundPointers ks a ps m → (g : Grouping) → (n : ℕ)
-    → FoundGrouping ks y m g n → (ds : Derivings) → (b : ℕ) → FoundDerivings ks n ds b → FoundDeclaring ks y a (Declaring_of ps g ds) b
-declaring_found ks y a ps m x g n u ds b z =
+    → FoundGrouping ks y m g n → (w : Bool) → w ≡ names_one g → (ds : Derivings) → (b : ℕ) → FoundDerivings ks w n ds b
+    → FoundDeclaring ks y a (Declaring_of ps g ds) b
+declaring_found ks y a ps m x g n u w is ds b z =
     let one : a ≤ m = x.forth in
     let two : m ≤ n = u.forth in
     let three : n ≤ b = z.forth in
-    record { reads = (m, n, x.reads, u.reads, z.reads); forth = omega arith; inside = z.inside }
+    record { reads = (m, n, x.reads, u.reads, z.reads, λ q. sym is ∙ z.fits q); forth = omega arith; inside = z.inside }
 
 pub declaring_same : (ks : List Kind) → (y : Bool) → (a : ℕ) → (ps : List (ℕ × List ℕ)) → (m : ℕ) → FoundPointers ks a ps m → (g : Grouping) → (n : ℕ)
-    → OnlyGrouping ks y m g n → (ds : Derivings) → (b : ℕ) → OnlyDerivings ks n ds b → OnlyDeclaring ks y a (Declaring_of ps g ds) b
-declaring_same ks y a ps m x g n u ds b z (Declaring_of ps' g' ds') c h f =
+    → OnlyGrouping ks y m g n → (w : Bool) → w ≡ names_one g → (ds : Derivings) → (b : ℕ) → OnlyDerivings ks w n ds b
+    → OnlyDeclaring ks y a (Declaring_of ps g ds) b
+declaring_same ks y a ps m x g n u w is ds b z (Declaring_of ps' g' ds') c h f =
     let one = pointers_same ks y a ps m x ps' h.0 h.2 g' ds' h.1 c h.3 h.4 f in
     let two = u g' h.1 ds' c (subst (λ k. HoldsGrouping ks y g' k h.1) (sym one.1) h.3) h.4 f in
-    let three = z ds' c (subst (λ k. HoldDerivings ks ds' k c) (sym two.1) h.4) f in (
+    let three = z ds' c (subst (λ k. HoldDerivings ks ds' k c) (sym two.1) h.4) (λ q. is ∙ ap names_one two.0 ∙ h.5 q) f in (
       ap (λ k. Declaring_of k g ds) one.0 ∙ ap (λ k. Declaring_of ps' k ds) two.0 ∙ ap (λ k. Declaring_of ps' g' k) three.0,
       three.1,
     )
@@ -221,16 +224,18 @@ pub record DerivingsLeft (ks : List Kind) (done : List Deriving) (at : ℕ) (ds 
   pub is : ds ≡ derivings done left
   pub holds : HoldDerivings ks left at m
 
-pub record Derived (ks : List Kind) (start : ℕ) (done : List Deriving) (at : ℕ) : Type 0 where
+pub record Derived (ks : List Kind) (z : Bool) (start : ℕ) (done : List Deriving) (at : ℕ) : Type 0 where
   pub grows : (ds : Derivings) → (b : ℕ) → HoldDerivings ks ds at b → HoldDerivings ks (derivings done ds) start b
   pub only : (ds : Derivings) → (b : ℕ) → HoldDerivings ks ds start b → ends_type (kind_at ks b) ≡ true → DerivingsLeft ks done at ds b
+  pub fits : (ds : Derivings) → (need_name ds ≡ true → z ≡ true) → need_name (derivings done ds) ≡ true → z ≡ true
   pub forth : start ≤ at
   pub inside : at ≤ length ks
 
-pub derived_start : (ks : List Kind) → (at : ℕ) → at ≤ length ks → Derived ks at [] at
-derived_start ks at i = record {
+pub derived_start : (ks : List Kind) → (z : Bool) → (at : ℕ) → at ≤ length ks → Derived ks z at [] at
+derived_start ks z at i = record {
   grows = λ ds b h. h;
   only = λ ds b h e. record { left = ds; is = refl; holds = h };
+  fits = λ ds f. f;
   forth = omega arith;
   inside = i;
 }
@@ -257,9 +262,17 @@ left_turns ks done at i d k only ds (Deriving_then d' left) m is h e =
       holds = subst (λ x. HoldDerivings ks left x m) (sym one.1) h.2;
     }
 
-derived_turn : (ks : List Kind) → (start : ℕ) → (done : List Deriving) → (at : ℕ) → (d : Deriving) → (m : ℕ) → Derived ks start done at
-    → is_deriving (kind_at ks at) ≡ true → FoundDeriving ks at d m → OnlyDeriving ks at d m → Derived ks start (done ++ d ∷ []) m
-derived_turn ks start done at d m loop i found only =
+need_then : (z : Bool) → (d : Deriving) → (ds : Derivings) → (needs_name d ≡ true → z ≡ true) → (need_name ds ≡ true → z ≡ true)
+    → need_name (Deriving_then d ds) ≡ true → z ≡ true
+need_then z d ds one more e = elim (either (needs_name d) (need_name ds) e) [
+  | inl p ↦ one p
+  | inr q ↦ more q
+]
+
+derived_turn : (ks : List Kind) → (z : Bool) → (start : ℕ) → (done : List Deriving) → (at : ℕ) → (d : Deriving) → (m : ℕ) → Derived ks z start done at
+    → is_deriving (kind_at ks at) ≡ true → FoundDeriving ks at d m → OnlyDeriving ks at d m → (needs_name d ≡ true → z ≡ true)
+    → Derived ks z start (done ++ d ∷ []) m
+derived_turn ks z start done at d m loop i found only told =
     let one : start ≤ at = loop.forth in
     let two : at < m = found.forth in
     record {
@@ -271,32 +284,43 @@ derived_turn ks start done at d m loop i found only =
       only = λ ds b h e.
           let a = loop.only ds b h e in
           left_turns ks done at i d m only ds a.left b a.is a.holds e;
+      fits = λ ds f.
+          subst
+          (λ xs. need_name xs ≡ true → z ≡ true)
+          (sym (derivings_snoc done d ds))
+          (loop.fits (Deriving_then d ds) (need_then z d ds told f));
       forth = omega arith;
       inside = found.inside;
     }
 
-pub derivings_push : (ks : List Kind) → (start : ℕ) → (items more : List code.Deriving) → (at : ℕ) → (d : code.Deriving) → (m : ℕ)
-    → Derived ks start (derivings_of items) at → is_deriving (kind_at ks at) ≡ true → FoundDeriving ks at (deriving_of d) m
-    → OnlyDeriving ks at (deriving_of d) m → more ≡ items ++ d ∷ [] → Derived ks start (derivings_of more) m
-derivings_push ks start items more at d m loop i found only grown =
+pub derivings_push : (ks : List Kind) → (z : Bool) → (start : ℕ) → (items more : List code.Deriving) → (at : ℕ) → (d : code.Deriving) → (m : ℕ)
+    → Derived ks z start (derivings_of items) at → is_deriving (kind_at ks at) ≡ true → FoundDeriving ks at (deriving_of d) m
+    → OnlyDeriving ks at (deriving_of d) m → (needs_name (deriving_of d) ≡ true → z ≡ true) → more ≡ items ++ d ∷ []
+    → Derived ks z start (derivings_of more) m
+derivings_push ks z start items more at d m loop i found only told grown =
     subst
-    (λ xs. Derived ks start xs m)
+    (λ xs. Derived ks z start xs m)
     (sym (ap derivings_of grown ∙ map-append deriving_of items (d ∷ [])))
-    (derived_turn ks start (derivings_of items) at (deriving_of d) m loop i found only)
+    (derived_turn ks z start (derivings_of items) at (deriving_of d) m loop i found only told)
 
-pub derivings_found : (ks : List Kind) → (start : ℕ) → (done : List Deriving) → (at : ℕ) → Derived ks start done at
-    → FoundDerivings ks start (derivings done No_derivings) at
-derivings_found ks start done at loop =
-    record { reads = loop.grows No_derivings at refl; forth = loop.forth; inside = loop.inside }
+pub derivings_found : (ks : List Kind) → (z : Bool) → (start : ℕ) → (done : List Deriving) → (at : ℕ) → Derived ks z start done at
+    → FoundDerivings ks z start (derivings done No_derivings) at
+derivings_found ks z start done at loop =
+    record {
+      reads = loop.grows No_derivings at refl;
+      fits = loop.fits No_derivings (λ e. absurd (true≢false (sym e)));
+      forth = loop.forth;
+      inside = loop.inside;
+    }
 
 none_left : (ks : List Kind) → (done : List Deriving) → (at : ℕ) → is_deriving (kind_at ks at) ≡ false → (ds left : Derivings) → (m : ℕ)
     → ds ≡ derivings done left → HoldDerivings ks left at m → (derivings done No_derivings ≡ ds) × (at ≡ m)
 none_left ks done at n ds No_derivings m is h = (sym is, sym h)
 none_left ks done at n ds (Deriving_then d left) m is h = absurd (true≢false (sym (begins_deriving ks d at h.0 h.1) ∙ n))
 
-pub derivings_same : (ks : List Kind) → (start : ℕ) → (done : List Deriving) → (at : ℕ) → Derived ks start done at → is_deriving (kind_at ks at) ≡ false
-    → OnlyDerivings ks start (derivings done No_derivings) at
-derivings_same ks start done at loop n ds m h e =
+pub derivings_same : (ks : List Kind) → (z : Bool) → (start : ℕ) → (done : List Deriving) → (at : ℕ) → Derived ks z start done at
+    → is_deriving (kind_at ks at) ≡ false → OnlyDerivings ks z start (derivings done No_derivings) at
+derivings_same ks z start done at loop n ds m h f e =
     let a = loop.only ds m h e in
     none_left ks done at n ds a.left m a.is a.holds
 
@@ -305,11 +329,34 @@ stop_left : (ks : List Kind) → (at : ℕ) → is_deriving (kind_at ks at) ≡ 
 stop_left ks at i e fails No_derivings m h f = ends_derives_not (kind_at ks at) i (ap (λ x. ends_type (kind_at ks x)) (sym h) ∙ f)
 stop_left ks at i e fails (Deriving_then d left) m h f = fails d h.0 h.1
 
-pub derivings_fail : (ks : List Kind) → (start : ℕ) → (done : List Deriving) → (at : ℕ) → Derived ks start done at → is_deriving (kind_at ks at) ≡ true
-    → (e : Stop) → FailsDeriving ks at e → FailsDerivings ks start e
-derivings_fail ks start done at loop i e fails ds m h f =
+pub derivings_fail : (ks : List Kind) → (z : Bool) → (start : ℕ) → (done : List Deriving) → (at : ℕ) → Derived ks z start done at
+    → is_deriving (kind_at ks at) ≡ true → (e : Stop) → FailsDeriving ks at e → FailsDerivings ks z start e
+derivings_fail ks z start done at loop i e fails ds m h g f =
     let a = loop.only ds m h f in
     stop_left ks at i e fails a.left m a.holds f
+
+-- one that stands behind a name alone, behind none
+need_through : (done : List Deriving) → (ds : Derivings) → need_name ds ≡ true → need_name (derivings done ds) ≡ true
+need_through [] ds h = h
+need_through (d ∷ done) ds h = or_right (needs_name d) (need_name (derivings done ds)) (need_through done ds h)
+
+unnamed_left : (ks : List Kind) → (z : Bool) → (done : List Deriving) → (at : ℕ) → is_deriving (kind_at ks at) ≡ true → (d : Deriving) → (k : ℕ)
+    → OnlyDeriving ks at d k → needs_name d ≡ true → (z ≡ true → ⊥) → (ds left : Derivings) → (m : ℕ) → ds ≡ derivings done left
+    → HoldDerivings ks left at m → (need_name ds ≡ true → z ≡ true) → ends_type (kind_at ks m) ≡ true → ⊥
+unnamed_left ks z done at i d k only needs none ds No_derivings m is h g e =
+    ends_derives_not (kind_at ks at) i (ap (λ x. ends_type (kind_at ks x)) (sym h) ∙ e)
+unnamed_left ks z done at i d k only needs none ds (Deriving_then d' left) m is h g e =
+    let one = only d' h.0 h.1 in
+    let here : needs_name d' ≡ true = ap needs_name (sym one.0) ∙ needs in
+    let all = need_through done (Deriving_then d' left) (or_left (needs_name d') (need_name left) here) in
+    none (g (ap need_name is ∙ all))
+
+pub derivings_unnamed : (ks : List Kind) → (z : Bool) → (start : ℕ) → (done : List Deriving) → (at : ℕ) → Derived ks z start done at
+    → is_deriving (kind_at ks at) ≡ true → (d : Deriving) → (k : ℕ) → OnlyDeriving ks at d k → needs_name d ≡ true → (z ≡ true → ⊥) → (n : ℕ)
+    → FailsDerivings ks z start (stop.Syntax n)
+derivings_unnamed ks z start done at loop i d k only needs none n ds m h g f =
+    let a = loop.only ds m h f in
+    unnamed_left ks z done at i d k only needs none ds a.left m a.is a.holds g f
 
 -- what stands in the brackets
 star_is : (k : Kind) → is_star k ≡ true → k ≡ Star
@@ -342,13 +389,17 @@ star_inside [] a h = absurd (true≢false (sym h))
 star_inside (k ∷ ks) zero h = omega arith
 star_inside (k ∷ ks) (suc a) h = omega (arith, star_inside ks a h)
 
-pub any_found : (ks : List Kind) → (a : ℕ) → any_size_at ks a ≡ true → FoundBound ks a (Any_size_of a) (a + 1)
-any_found ks a h =
-    let here : a < length ks = star_inside ks a (ap is_star (any_star ks a h)) in
-    record { reads = (refl, any_star ks a h, refl); forth = omega arith; inside = omega arith }
+pub any_found : (ks : List Kind) → (a : ℕ) → (ns : List ℕ) → (k : ℕ) → FoundQualifiers ks a ns k → any_size_at ks k ≡ true
+    → FoundBound ks a (Any_size_of ns k) (k + 1)
+any_found ks a ns k x h =
+    let here : k < length ks = star_inside ks k (ap is_star (any_star ks k h)) in
+    let one : a ≤ k = x.forth in
+    record { reads = (x.reads, any_star ks k h, refl); forth = omega arith; inside = omega arith }
 
-pub any_same : (ks : List Kind) → (a : ℕ) → any_size_at ks a ≡ true → OnlyBound ks a (Any_size_of a) (a + 1)
-any_same ks a h = bound_only ks (Any_size_of a) a (a + 1) (everywhere ks a) (refl, any_star ks a h, refl) (any_closes ks a h)
+pub any_same : (ks : List Kind) → (a : ℕ) → (ns : List ℕ) → (k : ℕ) → FoundQualifiers ks a ns k → any_size_at ks k ≡ true
+    → OnlyBound ks a (Any_size_of ns k) (k + 1)
+any_same ks a ns k x h =
+    bound_only ks (Any_size_of ns k) a (k + 1) (everywhere ks a) (x.reads, any_star ks k h, refl) (any_closes ks k h)
 
 -- with `static` first
 pub static_found : (ks : List Kind) → (a : ℕ) → kind_at ks a ≡ Static → (ns : List ℕ) → (k : ℕ) → FoundQualifiers ks (a + 1) ns k → (t : Tree) → (c : ℕ)
@@ -415,7 +466,7 @@ last_static_by : (ks : List Kind) → (a : ℕ) → (ns : List ℕ) → (k : ℕ
     → (x' : Bound) → (c' : ℕ) → kind_at ks c' ≡ CloseBracket → Behind ks a k c' ns x' → (Sized_static_of ns k t ≡ x') × (c ≡ c')
 last_static_by ks a ns k s t c only x' c' e (nothing i f) =
     clash (kind_at ks k) Static CloseBracket s (ap (λ y. kind_at ks y) (sym f) ∙ e) (λ y. omega (arith, y))
-last_static_by ks a ns k s t c only x' c' e (a_star i n m s' f) = clash (kind_at ks k) Static Star s s' (λ y. omega (arith, y))
+last_static_by ks a ns k s t c only x' c' e (a_star i s' f) = clash (kind_at ks k) Static Star s s' (λ y. omega (arith, y))
 last_static_by ks a ns k s t c only x' c' e (a_size t' i r) = no_start ks k Static (starts ks t' k c' r.1) s refl
 last_static_by ks a ns k s t c only x' c' e (a_static t' i n s' r) =
     let same = only t' c' r (stops_at ks 2 c' CloseBracket e (omega arith)) in
@@ -430,7 +481,7 @@ last_static_none : (ks : List Kind) → (a : ℕ) → (ns : List ℕ) → (k : �
     → (x' : Bound) → (c' : ℕ) → kind_at ks c' ≡ CloseBracket → Behind ks a k c' ns x' → IsWant e
 last_static_none ks a ns k s e fails x' c' l (nothing i f) =
     clash (kind_at ks k) Static CloseBracket s (ap (λ y. kind_at ks y) (sym f) ∙ l) (λ y. omega (arith, y))
-last_static_none ks a ns k s e fails x' c' l (a_star i n m s' f) = clash (kind_at ks k) Static Star s s' (λ y. omega (arith, y))
+last_static_none ks a ns k s e fails x' c' l (a_star i s' f) = clash (kind_at ks k) Static Star s s' (λ y. omega (arith, y))
 last_static_none ks a ns k s e fails x' c' l (a_size t' i r) = no_start ks k Static (starts ks t' k c' r.1) s refl
 last_static_none ks a ns k s e fails x' c' l (a_static t' i n s' r) = fails t' c' r (stops_at ks 2 c' CloseBracket l (omega arith))
 
@@ -449,26 +500,16 @@ sized_found ks a ns k x t c y =
 -- no `]`, `*` with `]` behind it, or `static` stands behind the qualifiers
 pub record IsSize (ks : List Kind) (a k : ℕ) : Type 0 where
   pub sized : kind_at ks k ≡ CloseBracket → ⊥
-  pub told : any_size_at ks a ≡ false
+  pub told : any_size_at ks k ≡ false
   pub plain : kind_at ks k ≡ Static → ⊥
 
-starred : {A : Type 0} → (ks : List Kind) → (a k c : ℕ) → any_size_at ks a ≡ false → k ≡ a → kind_at ks k ≡ Star → c ≡ k + 1
-    → kind_at ks c ≡ CloseBracket → A
-starred ks a k c n m s f e =
-    absurd
-    (true≢false
-    (sym
-    (any_both
-    ks
-    a
-    (ap (λ y. kind_at ks y) (sym m) ∙ s)
-    (ap (λ y. kind_at ks y) (sym (f ∙ ap (λ y. y + 1) m)) ∙ e))
-    ∙ n))
+starred : {A : Type 0} → (ks : List Kind) → (k c : ℕ) → any_size_at ks k ≡ false → kind_at ks k ≡ Star → c ≡ k + 1 → kind_at ks c ≡ CloseBracket → A
+starred ks k c n s f e = absurd (true≢false (sym (any_both ks k s (ap (λ y. kind_at ks y) (sym f) ∙ e)) ∙ n))
 
 sized_by : (ks : List Kind) → (a : ℕ) → (ns : List ℕ) → (k : ℕ) → IsSize ks a k → (t : Tree) → (c : ℕ) → Only ks 2 k t c
     → (x' : Bound) → (c' : ℕ) → kind_at ks c' ≡ CloseBracket → Behind ks a k c' ns x' → (Sized_of ns t ≡ x') × (c ≡ c')
 sized_by ks a ns k z t c only x' c' e (nothing i f) = absurd (z.sized (ap (λ y. kind_at ks y) (sym f) ∙ e))
-sized_by ks a ns k z t c only x' c' e (a_star i n m s f) = starred ks a k c' z.told m s f e
+sized_by ks a ns k z t c only x' c' e (a_star i s f) = starred ks k c' z.told s f e
 sized_by ks a ns k z t c only x' c' e (a_size t' i r) =
     let same = only t' c' r (stops_at ks 2 c' CloseBracket e (omega arith)) in
     (ap (λ y. Sized_of ns y) same.0 ∙ sym i, same.1)
@@ -482,7 +523,7 @@ sized_same ks a u ns k x z t c only x' c' h e =
 sized_none : (ks : List Kind) → (a : ℕ) → (ns : List ℕ) → (k : ℕ) → IsSize ks a k → (e : Stop) → Fails ks 2 k e
     → (x' : Bound) → (c' : ℕ) → kind_at ks c' ≡ CloseBracket → Behind ks a k c' ns x' → IsWant e
 sized_none ks a ns k z e fails x' c' l (nothing i f) = absurd (z.sized (ap (λ y. kind_at ks y) (sym f) ∙ l))
-sized_none ks a ns k z e fails x' c' l (a_star i n m s f) = starred ks a k c' z.told m s f l
+sized_none ks a ns k z e fails x' c' l (a_star i s f) = starred ks k c' z.told s f l
 sized_none ks a ns k z e fails x' c' l (a_size t' i r) = fails t' c' r (stops_at ks 2 c' CloseBracket l (omega arith))
 sized_none ks a ns k z e fails x' c' l (a_static t' i n s r) = absurd (z.plain s)
 

@@ -171,7 +171,7 @@ mutual
 
   formed_declaring : (ks : List Kind) → (y : Bool) → (d : Declaring) → (a b : ℕ) → HoldsDeclaring ks y d a b → IsDeclaring ks y d
   formed_declaring ks y (Declaring_of ps g ds) a b h =
-      (pointers_formed ks ps a h.0 h.2, formed_grouping ks y g h.0 h.1 h.3, formed_derivings ks ds h.1 b h.4)
+      (pointers_formed ks ps a h.0 h.2, formed_grouping ks y g h.0 h.1 h.3, formed_derivings ks ds h.1 b h.4, h.5)
 
   formed_grouping : (ks : List Kind) → (y : Bool) → (g : Grouping) → (a b : ℕ) → HoldsGrouping ks y g a b → IsGrouping ks y g
   formed_grouping ks y No_group a b h = tt
@@ -206,7 +206,7 @@ mutual
   formed_bound ks (Static_sized_of n ns t) a b h =
       (ap (λ x. kind_at ks x) h.1 ∙ h.2, qualifiers_formed ks ns (a + 1) h.0 h.3, h.4, formed ks t h.0 b h.5)
   formed_bound ks (Sized_static_of ns n t) a b h = (h.0, qualifiers_formed ks ns a n h.1, h.2, h.3, formed ks t (n + 1) b h.4)
-  formed_bound ks (Any_size_of n) a b h = ap (λ x. kind_at ks x) h.0 ∙ h.1
+  formed_bound ks (Any_size_of ns n) a b h = (qualifiers_formed ks ns a n h.0, h.1)
 
 -- what holds spells the numbers between
 texts_span : (ks : List Kind) → (ns : List ℕ) → (a b : ℕ) → HoldTexts ks ns a b → Spans ns a b
@@ -570,7 +570,7 @@ mutual
       (h.1, spans_join ns (spell t) (a + 1) h.0 b (qualifiers_spanned ks ns (a + 1) h.0 h.3) (spanned ks t h.0 b h.5))
   spanned_bound ks (Sized_static_of ns n t) a b h =
       spans_join ns (n ∷ spell t) a n b (qualifiers_spanned ks ns a n h.1) (refl, spanned ks t (n + 1) b h.4)
-  spanned_bound ks (Any_size_of n) a b h = (h.0, h.2)
+  spanned_bound ks (Any_size_of ns n) a b h = spans_join ns (n ∷ []) a n b (qualifiers_spanned ks ns a n h.0) (refl, h.2)
 
 -- what is formed holds where the numbers that it spells are
 texts_hold : (ks : List Kind) → (n : ℕ) → (ns : List ℕ) → (a b : ℕ) → n + 1 ≡ a → GoOn ks n ns → Spans ns a b → HoldTexts ks ns a b
@@ -886,6 +886,7 @@ mutual
         pointers_held ks ps a r.at f.0 r.front,
         held_grouping ks y g r.at q.at f.1 q.front,
         held_derivings ks ds q.at b f.2 q.back,
+        f.3,
       )
 
   held_grouping : (ks : List Kind) → (y : Bool) → (g : Grouping) → (a b : ℕ) → IsGrouping ks y g → Spans (spell_grouping g) a b
@@ -976,7 +977,12 @@ mutual
         f.3,
         subst (λ x. Holds ks t (x + 1) b) (sym r.back.0) (held ks t (r.at + 1) b f.4 r.back.1),
       )
-  held_bound ks (Any_size_of n) a b f s = (s.0, ap (λ x. kind_at ks x) (sym s.0) ∙ f, s.1)
+  held_bound ks (Any_size_of ns n) a b f s =
+      let r = spans_split ns (n ∷ []) a b s in (
+        subst (λ x. HoldQualifiers ks ns a x) (sym r.back.0) (qualifiers_held ks ns a r.at f.0 r.front),
+        f.1,
+        r.back.1 ∙ ap (λ x. x + 1) (sym r.back.0),
+      )
 
 pub expression_reads : (ks : List Kind) → (t : Tree) → IsExpression ks t → Reads ks 1 t 0 (length ks)
 expression_reads ks t e =

@@ -58,7 +58,7 @@ kind_qualifies_not ks a k e n q = true≢false (sym (qualifies_starts ks a q) �
 -- what stands behind the qualifiers, up to the `]`
 pub data Behind (ks : List Kind) (a k c : ℕ) (ns : List ℕ) (x : Bound) : Type 0 where
   nothing : x ≡ Unsized_of ns → c ≡ k → Behind ks a k c ns x
-  a_star : x ≡ Any_size_of a → ns ≡ [] → k ≡ a → kind_at ks k ≡ Star → c ≡ k + 1 → Behind ks a k c ns x
+  a_star : x ≡ Any_size_of ns k → kind_at ks k ≡ Star → c ≡ k + 1 → Behind ks a k c ns x
   a_size : (t : Tree) → x ≡ Sized_of ns t → Reads ks 2 t k c → Behind ks a k c ns x
   a_static : (t : Tree) → x ≡ Sized_static_of ns k t → AreThere ns → kind_at ks k ≡ Static → Reads ks 2 t (k + 1) c → Behind ks a k c ns x
 
@@ -85,14 +85,14 @@ bound_view ks (Unsized_of ns) a c h e =
     (kind_qualifies_not ks c CloseBracket e refl)
     (begins_static_not ks ns a c h (λ x. clash (kind_at ks c) CloseBracket Static e x (λ y. omega (arith, y))))
     (nothing refl refl)
-bound_view ks (Any_size_of n) a c h e =
+bound_view ks (Any_size_of ns n) a c h e =
     first_others
-    []
-    a
-    refl
-    (kind_qualifies_not ks a Star h.1 refl)
-    (λ x. clash (kind_at ks a) Star Static h.1 x (λ y. omega (arith, y)))
-    (a_star (ap Any_size_of h.0) refl refl h.1 h.2)
+    ns
+    n
+    h.0
+    (kind_qualifies_not ks n Star h.1 refl)
+    (begins_static_not ks ns a n h.0 (λ x. clash (kind_at ks n) Star Static h.1 x (λ y. omega (arith, y))))
+    (a_star refl h.1 h.2)
 bound_view ks (Sized_of ns t) a c h e =
     let s = starts ks t h.0 c h.3 in
     first_others
@@ -139,22 +139,22 @@ size_only ks t a c w r e t' c' r' e' =
 rest_only : (ks : List Kind) → (a k c : ℕ) → (ns : List ℕ) → (x : Bound) → From ks k → Behind ks a k c ns x → kind_at ks c ≡ CloseBracket
     → (c' : ℕ) → (x' : Bound) → Behind ks a k c' ns x' → kind_at ks c' ≡ CloseBracket → (x ≡ x') × (c ≡ c')
 rest_only ks a k c ns x w (nothing i f) e c' x' (nothing i' f') e' = (i ∙ sym i', f ∙ sym f')
-rest_only ks a k c ns x w (nothing i f) e c' x' (a_star i' n' m' s' f') e' =
+rest_only ks a k c ns x w (nothing i f) e c' x' (a_star i' s' f') e' =
     clash (kind_at ks k) CloseBracket Star (ap (λ y. kind_at ks y) (sym f) ∙ e) s' (λ y. omega (arith, y))
 rest_only ks a k c ns x w (nothing i f) e c' x' (a_size t' i' r') e' =
     no_start ks k CloseBracket (starts ks t' k c' r'.1) (ap (λ y. kind_at ks y) (sym f) ∙ e) refl
 rest_only ks a k c ns x w (nothing i f) e c' x' (a_static t' i' n' s' r') e' =
     clash (kind_at ks k) CloseBracket Static (ap (λ y. kind_at ks y) (sym f) ∙ e) s' (λ y. omega (arith, y))
-rest_only ks a k c ns x w (a_star i n m s f) e c' x' (nothing i' f') e' =
+rest_only ks a k c ns x w (a_star i s f) e c' x' (nothing i' f') e' =
     clash (kind_at ks k) Star CloseBracket s (ap (λ y. kind_at ks y) (sym f') ∙ e') (λ y. omega (arith, y))
-rest_only ks a k c ns x w (a_star i n m s f) e c' x' (a_star i' n' m' s' f') e' = (i ∙ sym i', f ∙ sym f')
-rest_only ks a k c ns x w (a_star i n m s f) e c' x' (a_size t' i' r') e' =
+rest_only ks a k c ns x w (a_star i s f) e c' x' (a_star i' s' f') e' = (i ∙ sym i', f ∙ sym f')
+rest_only ks a k c ns x w (a_star i s f) e c' x' (a_size t' i' r') e' =
     no_start ks (k + 1) CloseBracket (star_starts ks t' k c' r'.1 s) (ap (λ y. kind_at ks y) (sym f) ∙ e) refl
-rest_only ks a k c ns x w (a_star i n m s f) e c' x' (a_static t' i' n' s' r') e' =
+rest_only ks a k c ns x w (a_star i s f) e c' x' (a_static t' i' n' s' r') e' =
     clash (kind_at ks k) Star Static s s' (λ y. omega (arith, y))
 rest_only ks a k c ns x w (a_size t i r) e c' x' (nothing i' f') e' =
     no_start ks k CloseBracket (starts ks t k c r.1) (ap (λ y. kind_at ks y) (sym f') ∙ e') refl
-rest_only ks a k c ns x w (a_size t i r) e c' x' (a_star i' n' m' s' f') e' =
+rest_only ks a k c ns x w (a_size t i r) e c' x' (a_star i' s' f') e' =
     no_start ks (k + 1) CloseBracket (star_starts ks t k c r.1 s') (ap (λ y. kind_at ks y) (sym f') ∙ e') refl
 rest_only ks a k c ns x w (a_size t i r) e c' x' (a_size t' i' r') e' =
     let same = size_only ks t k c w r e t' c' r' e' in
@@ -162,7 +162,7 @@ rest_only ks a k c ns x w (a_size t i r) e c' x' (a_size t' i' r') e' =
 rest_only ks a k c ns x w (a_size t i r) e c' x' (a_static t' i' n' s' r') e' = no_start ks k Static (starts ks t k c r.1) s' refl
 rest_only ks a k c ns x w (a_static t i n s r) e c' x' (nothing i' f') e' =
     clash (kind_at ks k) Static CloseBracket s (ap (λ y. kind_at ks y) (sym f') ∙ e') (λ y. omega (arith, y))
-rest_only ks a k c ns x w (a_static t i n s r) e c' x' (a_star i' n' m' s' f') e' =
+rest_only ks a k c ns x w (a_static t i n s r) e c' x' (a_star i' s' f') e' =
     clash (kind_at ks k) Static Star s s' (λ y. omega (arith, y))
 rest_only ks a k c ns x w (a_static t i n s r) e c' x' (a_size t' i' r') e' = no_start ks k Static (starts ks t' k c' r'.1) s refl
 rest_only ks a k c ns x w (a_static t i n s r) e c' x' (a_static t' i' n' s' r') e' =

@@ -219,13 +219,18 @@ pub amiss_storage : (ks : List Kind) → (a : ℕ) → (n : Bool) → stored_ami
 unfolding stored_amiss
 amiss_storage ks a n h = right_of (not n) (is_storage (kind_at ks a)) h
 
-not_false : (n : Bool) → not n ≡ true → n ≡ true → ⊥
-not_false true h e = true≢false (sym h)
-not_false false h e = true≢false (sym e)
+pub not_named : (n : Bool) → not n ≡ true → n ≡ true → ⊥
+not_named true h e = true≢false (sym h)
+not_named false h e = true≢false (sym e)
+
+pub named_or : (p n : Bool) → (p && not n) ≡ false → p ≡ true → n ≡ true
+named_or p true h e = refl
+named_or true false h e = sym h
+named_or false false h e = e
 
 pub amiss_unnamed : (ks : List Kind) → (a : ℕ) → (n : Bool) → stored_amiss ks a n ≡ true → n ≡ true → ⊥
 unfolding stored_amiss
-amiss_unnamed ks a n h e = not_false n (left_of (not n) (is_storage (kind_at ks a)) h) e
+amiss_unnamed ks a n h e = not_named n (left_of (not n) (is_storage (kind_at ks a)) h) e
 
 allowed_by : (n s : Bool) → (not n && s) ≡ false → s ≡ true → n ≡ true
 allowed_by true s h e = refl

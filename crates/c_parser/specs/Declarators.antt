@@ -1,6 +1,6 @@
 -- Parts of declarators that hold no expression (ISO C11 6.7.6, 6.7.7): qualifiers and pointers.
-use Rattle.std.specs.Prelude.{◌≡◌, ℕ, List, [], ◌∷◌, ◌++◌, true}
-use Rattle.tree_data.specs.Trees.{Declaring, Declaring_of, No_group, Named_of, Group_of, No_derivings, Deriving_then}
+use Rattle.std.specs.Prelude.{◌≡◌, ℕ, List, [], ◌∷◌, ◌++◌, Bool, true, false, ◌||◌}
+use Rattle.tree_data.specs.Trees.{Declaring, Declaring_of, Grouping, No_group, Named_of, Group_of, Derivings, No_derivings, Deriving_then, needs_name}
 use Rattle.c_parser.specs.declared.kinds.Kind.{Kind}
 use Rattle.c_parser.specs.declared.kinds.Kind.TheVariants.{Star}
 use Rattle.c_parser.specs.Kinds.{kind_at, qualifies_at}
@@ -23,6 +23,26 @@ ArePointers kinds (p ∷ ps) = (kind_at kinds p.0 ≡ Star) × AreQualifiers kin
 abbrev pub AreThere : List ℕ → Type 0
 AreThere [] = ⊥
 AreThere (n ∷ ns) = Unit {0}
+
+-- a name is declared
+abbrev mutual
+  pub names : Declaring → Bool
+  names (Declaring_of ps g ds) = names_one g
+
+  pub names_one : Grouping → Bool
+  names_one No_group = false
+  names_one (Named_of n) = true
+  names_one (Group_of o d c) = names d
+
+-- some of these stand behind a name alone
+abbrev pub need_name : Derivings → Bool
+need_name No_derivings = false
+need_name (Deriving_then d ds) = needs_name d || need_name ds
+
+-- 6.7.6 direct-declarator : direct-declarator [ type-qualifier-list opt * ]
+-- 6.7.7 direct-abstract-declarator : direct-abstract-declarator opt [ * ]
+abbrev pub MayDerive : Grouping → Derivings → Type 0
+MayDerive g ds = need_name ds ≡ true → names_one g ≡ true
 
 -- something stands in the declarator
 abbrev pub IsWritten : Declaring → Type 0

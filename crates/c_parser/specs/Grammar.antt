@@ -8,7 +8,7 @@ use Rattle.c_parser.specs.declared.kinds.Kind.{Kind}
 use Rattle.c_parser.specs.declared.kinds.Kind.TheVariants.{Identifier, Constant, Text, OpenParen, CloseParen, OpenBracket, CloseBracket, OpenBrace, CloseBrace, Step, Question, Colon, Comma, Generic, OffsetOf, Default, Ellipsis, TypeName, Tag, Star, Atomic, Static}
 use Rattle.c_parser.specs.Brackets.{too_deep}
 use Rattle.c_parser.specs.Kinds.{kind_at, level_at, is_prefix, casts_at, is_size, is_word, is_equals, is_dot, is_member, is_type_word, is_storage, specifies_at}
-use Rattle.c_parser.specs.Declarators.{spell_pointers, AreQualifiers, AreThere, ArePointers, IsWritten}
+use Rattle.c_parser.specs.Declarators.{spell_pointers, AreQualifiers, AreThere, ArePointers, IsWritten, MayDerive}
 use Rattle.c_parser.specs.Levels.{expression, assignment_expression, conditional_expression, logical_OR_expression, unary_expression, postfix_expression, primary_expression, IsBinary, behinds_level, rank}
 
 -- of a comma that may be left out
@@ -126,7 +126,7 @@ abbrev mutual
 
   pub spell_bound : Bound → List ℕ
   spell_bound (Unsized_of ns) = ns
-  spell_bound (Any_size_of n) = n ∷ []
+  spell_bound (Any_size_of ns n) = ns ++ n ∷ []
   spell_bound (Sized_of ns t) = ns ++ spell t
   spell_bound (Static_sized_of n ns t) = n ∷ (ns ++ spell t)
   spell_bound (Sized_static_of ns n t) = ns ++ (n ∷ spell t)
@@ -421,7 +421,7 @@ abbrev mutual
 
   -- 6.7.7 abstract-declarator : pointer | pointer opt direct-abstract-declarator, each part left out or there
   pub IsDeclaring : List Kind → Bool → Declaring → Type 0
-  IsDeclaring kinds named (Declaring_of ps g ds) = ArePointers kinds ps × IsGrouping kinds named g × AreDerived kinds ds
+  IsDeclaring kinds named (Declaring_of ps g ds) = ArePointers kinds ps × IsGrouping kinds named g × AreDerived kinds ds × MayDerive g ds
 
   -- 6.7.7 direct-abstract-declarator : ( abstract-declarator ), in which something stands
   pub IsGrouping : List Kind → Bool → Grouping → Type 0
@@ -470,8 +470,8 @@ abbrev mutual
       × AreQualifiers kinds ns
       × (kind_at kinds n ≡ Static)
       × (assignment_expression ≤ rank kinds t) × IsFormed kinds t
-  -- [ * ], so far also where 6.7.6 has qualifiers in front of the `*`, behind a name
-  IsBound kinds (Any_size_of n) = kind_at kinds n ≡ Star
+  -- [ * ], and behind a name 6.7.6 [ type-qualifier-list opt * ]: `MayDerive` has the qualifiers there alone
+  IsBound kinds (Any_size_of ns n) = AreQualifiers kinds ns × (kind_at kinds n ≡ Star)
 
 -- 6.7.7 type-name
 abbrev pub IsType : List Kind → Naming → Type 0

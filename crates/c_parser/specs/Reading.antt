@@ -10,7 +10,7 @@ use Rattle.c_parser.specs.declared.kinds.Kind.TheVariants.{Identifier, Constant,
 use Rattle.c_parser.specs.Brackets.{too_deep}
 use Rattle.c_parser.specs.Grammar.{IsMore, IsAny, IsBefore, AreSteps, goes_on, has_type, AreSome, MayStand}
 use Rattle.c_parser.specs.Kinds.{kind_at, level_at, is_prefix, casts_at, is_size, is_word, is_equals, is_dot, is_member, specifies_at, qualifies_at}
-use Rattle.c_parser.specs.Declarators.{AreThere, IsWritten}
+use Rattle.c_parser.specs.Declarators.{AreThere, IsWritten, MayDerive}
 use Rattle.c_parser.specs.Levels.{IsBinary, behinds_level, rank}
 
 abbrev pub HoldTexts : List Kind → List ℕ → ℕ → ℕ → Type 0
@@ -184,7 +184,7 @@ abbrev mutual
 
   pub HoldsDeclaring : List Kind → Bool → Declaring → ℕ → ℕ → Type 0
   HoldsDeclaring ks named (Declaring_of ps g ds) a b =
-      (m : ℕ) × (n : ℕ) × HoldPointers ks ps a m × HoldsGrouping ks named g m n × HoldDerivings ks ds n b
+      (m : ℕ) × (n : ℕ) × HoldPointers ks ps a m × HoldsGrouping ks named g m n × HoldDerivings ks ds n b × MayDerive g ds
 
   pub HoldsGrouping : List Kind → Bool → Grouping → ℕ → ℕ → Type 0
   HoldsGrouping ks named No_group a b = b ≡ a
@@ -222,7 +222,7 @@ abbrev mutual
       (m : ℕ) × (n ≡ a) × (kind_at ks a ≡ Static) × HoldQualifiers ks ns (a + 1) m × (2 ≤ rank ks t) × Holds ks t m b
   HoldsBound ks (Sized_static_of ns n t) a b =
       AreThere ns × HoldQualifiers ks ns a n × (kind_at ks n ≡ Static) × (2 ≤ rank ks t) × Holds ks t (n + 1) b
-  HoldsBound ks (Any_size_of n) a b = (n ≡ a) × (kind_at ks a ≡ Star) × (b ≡ a + 1)
+  HoldsBound ks (Any_size_of ns n) a b = HoldQualifiers ks ns a n × (kind_at ks n ≡ Star) × (b ≡ n + 1)
 
 -- the name of a type stands from a to b
 abbrev pub HoldsType : List Kind → Naming → ℕ → ℕ → Type 0

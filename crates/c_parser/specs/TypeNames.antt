@@ -6,6 +6,7 @@ use Rattle.tree_data.specs.Trees.{Specifying, Specifyings, Declaring, Grouping, 
 use Rattle.c_parser.specs.declared.answers.Stop.{Stop}
 use Rattle.c_parser.specs.declared.kinds.Kind.{Kind}
 use Rattle.c_parser.specs.declared.kinds.Kind.TheVariants.{Star, CloseParen, Comma, Ellipsis}
+use Rattle.c_parser.specs.Declarators.{need_name}
 use Rattle.c_parser.specs.Grammar.{has_type, MayStand}
 use Rattle.c_parser.specs.Kinds.{kind_at, ends_specifiers, qualifies_at}
 use Rattle.c_parser.specs.Reading.{HoldQualifiers, HoldPointers, HoldSpecifying, HoldSpecifyings, HoldsDeclaring, HoldsGrouping, HoldsDeriving, HoldDerivings, HoldsBound, HoldParameters, HoldRow, IsWant}
@@ -66,8 +67,10 @@ pub record FoundDeriving (kinds : List Kind) (a : ℕ) (d : Deriving) (b : ℕ) 
   pub forth : a < b
   pub inside : b ≤ length kinds
 
-pub record FoundDerivings (kinds : List Kind) (a : ℕ) (ds : Derivings) (b : ℕ) : Type 0 where
+-- behind a name, or behind none
+pub record FoundDerivings (kinds : List Kind) (declares : Bool) (a : ℕ) (ds : Derivings) (b : ℕ) : Type 0 where
   pub reads : HoldDerivings kinds ds a b
+  pub fits : need_name ds ≡ true → declares ≡ true
   pub forth : a ≤ b
   pub inside : b ≤ length kinds
 

@@ -1,9 +1,10 @@
 // Declarators, with a name where one may stand (ISO C11 6.7.6, 6.7.7): pointers, a declarator in parentheses, arrays and functions.
-ghost use Rattle.std.specs.Prelude.{◌≡◌, true, false, ℕ, ◌+◌, ◌<◌, ◌≤◌, length, IfOk, IfErr};
+ghost use Rattle.std.specs.Prelude.{◌≡◌, true, false, ◌&&◌, not, ℕ, ◌+◌, ◌<◌, ◌≤◌, length, IfOk, IfErr};
 ghost use Rattle.tree_data.specs.Seen.{pointers_of, declarator_of, group_of, deriving_of, derivings_of, bound_of, parameters_of, parameter_row_of};
 ghost use Rattle.tree_data.specs.Trees as tree;
-ghost use Rattle.tree_data.specs.Trees.{Declaring, Grouping, Derivings, No_derivings};
+ghost use Rattle.tree_data.specs.Trees.{Declaring, Grouping, Derivings, No_derivings, needs_name};
 ghost use Rattle.c_parser.specs.declared.kinds.Kind.TheVariants.{OpenParen, CloseParen, OpenBracket, CloseBracket, Static};
+ghost use Rattle.c_parser.specs.Declarators.{names, names_one, need_name};
 ghost use Rattle.c_parser.specs.Kinds as spec;
 ghost use Rattle.c_parser.specs.Reading.{HoldsDeclaring, HoldsGrouping, HoldsDeriving, HoldDerivings, HoldsBound, HoldParameters, HoldRow, MustGive};
 ghost use Rattle.c_parser.specs.TypeNames.{FoundQualifiers, FoundPointers, FoundDeclaring, FoundGrouping, FoundDeriving, FoundDerivings, FoundBound, FoundParameters, FoundRow, RowEnd};
@@ -63,27 +64,28 @@ fn pointers(alloc: Global, kinds: &[Kind], at: u32) -> Result<(Vec<Pointer>, u32
     }
 }
 
-// A name where one may stand, a declarator in parentheses, or nothing. A `(` behind which `)` or what a type's name begins with
-// stands opens the parameters of a function (6.7.6.3p11).
+// A name where one may stand, a declarator in parentheses, or nothing, and whether a name stands in it. A `(` behind which `)`
+// or what a parameter begins with stands opens the parameters of a function (6.7.6.3p11).
 #[cycle(parser)]
-fn group(alloc: Global, kinds: &[Kind], at: u32, named: bool) -> Result<(Group, u32), Stop>
+fn group(alloc: Global, kinds: &[Kind], at: u32, named: bool) -> Result<(Group, bool, u32), Stop>
     requires size { length kinds.now ≤ 2000000 }
     requires inside { at ≤ length kinds.now }
-    ensures found { IfOk result (λ r. FoundGrouping kinds.now named at (group_of r.0) r.1) }
+    ensures found { IfOk result (λ r. FoundGrouping kinds.now named at (group_of r.0) r.2) }
+    ensures told { IfOk result (λ r. r.1 ≡ names_one (group_of r.0)) }
     ensures only { (g : Grouping) → (m : ℕ) → (ds : Derivings) → (end : ℕ) → HoldsGrouping kinds.now named g at m
         → HoldDerivings kinds.now ds m end → spec.ends_type (spec.kind_at kinds.now end) ≡ true
-        → MustGive result (λ r. (group_of r.0 ≡ g) × (r.1 ≡ m)) }
+        → MustGive result (λ r. (group_of r.0 ≡ g) × (r.2 ≡ m)) }
 {
     if names_at(kinds, at, named) {
-        return Ok((Group::named(at), at + 1));
+        return Ok((Group::named(at), true, at + 1));
     }
     let Kind::OpenParen = kind_at(kinds, at) else {
-        return Ok((Group::none(), at));
+        return Ok((Group::none(), false, at));
     };
     if kind_at(kinds, at + 1).opens_parameters() {
-        return Ok((Group::none(), at));
+        return Ok((Group::none(), false, at));
     }
-    let (inner, closing) = match declarator(alloc, kinds, at + 1, named) {
+    let (inner, declares, closing) = match declarator(alloc, kinds, at + 1, named) {
         Ok(found) => found,
         Err(stop) => return Err(stop),
     };
@@ -91,7 +93,7 @@ fn group(alloc: Global, kinds: &[Kind], at: u32, named: bool) -> Result<(Group, 
         return Err(Stop::Syntax(closing));
     };
     match Group::of(alloc, at, inner, closing) {
-        Ok(group) => Ok((group, closing + 1)),
+        Ok(group) => Ok((group, declares, closing + 1)),
         Err(_) => Err(Stop::NoMemory),
     }
 }
@@ -120,7 +122,8 @@ fn static_bound(alloc: Global, kinds: &[Kind], at: u32) -> Result<(Bound, u32), 
     }
 }
 
-// What stands behind the qualifiers of an array: a size, `static` and a size, `*`, or nothing.
+// What stands behind the qualifiers of an array: a size, `static` and a size, `*`, or nothing. Whether `*` may stand behind
+// qualifiers is told where the array is taken.
 #[cycle(parser)]
 fn bound_behind(
     alloc: Global,
@@ -132,13 +135,15 @@ fn bound_behind(
     requires size { length kinds.now ≤ 2000000 }
     requires found { FoundQualifiers kinds.now at qualifiers.items behind }
     requires unstatic { spec.kind_at kinds.now at ≡ Static → ⊥ }
-    requires told { spec.any_size_at kinds.now at ≡ false }
     ensures found { IfOk result (λ r. FoundBound kinds.now at (bound_of r.0) r.1) }
     ensures only { (x : tree.Bound) → (end : ℕ) → HoldsBound kinds.now x at end → spec.kind_at kinds.now end ≡ CloseBracket
         → MustGive result (λ r. (bound_of r.0 ≡ x) × (r.1 ≡ end)) }
 {
     if let Kind::CloseBracket = kind_at(kinds, behind) {
         return Ok((Bound::unsized_by(qualifiers), behind));
+    }
+    if any_size_at(kinds, behind) {
+        return Ok((Bound::any_size(qualifiers, behind), behind + 1));
     }
     if let Kind::Static = kind_at(kinds, behind) {
         let (size, end) = match level(alloc, kinds, ASSIGNMENT, behind + 1) {
@@ -169,9 +174,6 @@ fn bound(alloc: Global, kinds: &[Kind], at: u32) -> Result<(Bound, u32), Stop>
     ensures only { (x : tree.Bound) → (end : ℕ) → HoldsBound kinds.now x at end → spec.kind_at kinds.now end ≡ CloseBracket
         → MustGive result (λ r. (bound_of r.0 ≡ x) × (r.1 ≡ end)) }
 {
-    if any_size_at(kinds, at) {
-        return Ok((Bound::any_size(at), at + 1));
-    }
     if let Kind::Static = kind_at(kinds, at) {
         return static_bound(alloc, kinds, at);
     }
@@ -303,13 +305,25 @@ fn array_or_function(alloc: Global, kinds: &[Kind], at: u32) -> Result<(Deriving
     }
 }
 
-// The arrays and functions that stand here.
+// Whether it stands behind a name alone, where there is none.
+fn lacks_name(one: &Deriving, declares: bool) -> bool
+    ensures { result ≡ (needs_name (deriving_of one.now) && not declares) }
+{
+    one.needs_name() && !declares
+}
+
+// The arrays and functions that stand here, behind a name or behind none.
 #[cycle(parser)]
-fn derivings(alloc: Global, kinds: &[Kind], at: u32) -> Result<(Vec<Deriving>, u32), Stop>
+fn derivings(
+    alloc: Global,
+    kinds: &[Kind],
+    at: u32,
+    declares: bool,
+) -> Result<(Vec<Deriving>, u32), Stop>
     requires size { length kinds.now ≤ 2000000 }
     requires inside { at ≤ length kinds.now }
-    ensures found { IfOk result (λ r. FoundDerivings kinds.now at (tree.derivings (derivings_of r.0.items) No_derivings) r.1) }
-    ensures only { (ds : Derivings) → (end : ℕ) → HoldDerivings kinds.now ds at end
+    ensures found { IfOk result (λ r. FoundDerivings kinds.now declares at (tree.derivings (derivings_of r.0.items) No_derivings) r.1) }
+    ensures only { (ds : Derivings) → (end : ℕ) → HoldDerivings kinds.now ds at end → (need_name ds ≡ true → declares ≡ true)
         → spec.ends_type (spec.kind_at kinds.now end) ≡ true
         → MustGive result (λ r. (tree.derivings (derivings_of r.0.items) No_derivings ≡ ds) × (r.1 ≡ end)) }
 {
@@ -323,6 +337,9 @@ fn derivings(alloc: Global, kinds: &[Kind], at: u32) -> Result<(Vec<Deriving>, u
             Ok(found) => found,
             Err(stop) => return Err(stop),
         };
+        if lacks_name(&one, declares) {
+            return Err(Stop::Syntax(next.saturating_sub(1)));
+        }
         let Ok(()) = derivings.push(one) else {
             return Err(Stop::NoMemory);
         };
@@ -330,31 +347,32 @@ fn derivings(alloc: Global, kinds: &[Kind], at: u32) -> Result<(Vec<Deriving>, u
     }
 }
 
-// A declarator, abstract or nothing, or one with a name where one may stand.
+// A declarator, abstract or nothing, or one with a name where one may stand, and whether one stands in it.
 #[cycle(parser)]
 pub(crate) fn declarator(
     alloc: Global,
     kinds: &[Kind],
     at: u32,
     named: bool,
-) -> Result<(Declarator, u32), Stop>
+) -> Result<(Declarator, bool, u32), Stop>
     requires size { length kinds.now ≤ 2000000 }
     requires inside { at ≤ length kinds.now }
-    ensures found { IfOk result (λ r. FoundDeclaring kinds.now named at (declarator_of r.0) r.1) }
+    ensures found { IfOk result (λ r. FoundDeclaring kinds.now named at (declarator_of r.0) r.2) }
+    ensures told { IfOk result (λ r. r.1 ≡ names (declarator_of r.0)) }
     ensures only { (d : Declaring) → (end : ℕ) → HoldsDeclaring kinds.now named d at end
         → spec.ends_type (spec.kind_at kinds.now end) ≡ true
-        → MustGive result (λ r. (declarator_of r.0 ≡ d) × (r.1 ≡ end)) }
+        → MustGive result (λ r. (declarator_of r.0 ≡ d) × (r.2 ≡ end)) }
 {
     let (pointers, behind) = match pointers(alloc, kinds, at) {
         Ok(found) => found,
         Err(stop) => return Err(stop),
     };
-    let (group, next) = match group(alloc, kinds, behind, named) {
+    let (group, declares, next) = match group(alloc, kinds, behind, named) {
         Ok(found) => found,
         Err(stop) => return Err(stop),
     };
-    match derivings(alloc, kinds, next) {
-        Ok((derivings, end)) => Ok((Declarator::new(pointers, group, derivings), end)),
+    match derivings(alloc, kinds, next, declares) {
+        Ok((derivings, end)) => Ok((Declarator::new(pointers, group, derivings), declares, end)),
         Err(stop) => Err(stop),
     }
 }

@@ -143,7 +143,7 @@ pub(crate) fn specified(
         return Err(Stop::Syntax(behind));
     }
     match declarator(alloc, kinds, behind, named) {
-        Ok((declarator, end)) => Ok((TypeName::new(Specs::new(specifiers), declarator), end)),
+        Ok((declarator, _, end)) => Ok((TypeName::new(Specs::new(specifiers), declarator), end)),
         Err(stop) => Err(stop),
     }
 }

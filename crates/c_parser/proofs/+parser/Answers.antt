@@ -1,12 +1,13 @@
 use Rattle.c_parser.proofs.ParameterLists.{parameter_row_found, parameter_row_same, parameter_row_fails, parameter_row_push, none_same, first_missing, rest_missing, fixed_same, variadic_same, fixed_found, variadic_found}
-use Rattle.c_parser.proofs.Abstract.{no_group, group_fails, group_left_open, group_found, group_same, static_fails, static_found, static_same, unsized_found, unsized_same, last_static_fails, last_static_found, last_static_same, sized_fails, sized_found, sized_same, any_found, any_same, array_fails, array_left_open, array_found, found_deriving_only, nothing_derives, derivings_found, derivings_same, derivings_fail, derivings_push, group_missing, derivings_missing, declaring_found, declaring_same, name_found, name_same, function_found, function_fails, function_left_open}
+use Rattle.c_parser.proofs.Abstract.{no_group, group_fails, group_left_open, group_found, group_same, static_fails, static_found, static_same, unsized_found, unsized_same, last_static_fails, last_static_found, last_static_same, sized_fails, sized_found, sized_same, any_found, any_same, array_fails, array_left_open, array_found, found_deriving_only, nothing_derives, derivings_found, derivings_same, derivings_fail, derivings_unnamed, derivings_push, group_missing, derivings_missing, declaring_found, declaring_same, name_found, name_same, function_found, function_fails, function_left_open}
 use Rattle.c_parser.proofs.SpecifierLists.{atomic_found, atomic_specified, atomic_fails, specifiers_end, specifiers_only, specifiers_fail, specifiers_refused, specifiers_push, specifiers_missing, none_specifying, some_specifying, declarator_missing, naming_found, name_only}
-use Rattle.c_parser.proofs.Words.{opens_inside, opens_next, name_stands, name_stands_not}
+use Rattle.c_parser.proofs.Words.{left_of, right_of, not_named, named_or, opens_inside, opens_next, name_stands, name_stands_not}
+use Rattle.c_parser.specs.Declarators.{names, names_one}
 use Rattle.c_parser.specs.TypeNames.{FoundGrouping, FoundBound, FoundDeriving, FoundDeclaring, FoundParameters}
-use Rattle.tree_data.specs.Trees.{Atomic_of, Type_of}
-use Rattle.tree_data.specs.Seen.{declarator_of}
+use Rattle.tree_data.specs.Trees.{Atomic_of, Type_of, needs_name}
+use Rattle.tree_data.specs.Seen.{declarator_of, deriving_of}
 use Rattle.c_parser.specs.declared.before.Begun.TheVariants.{Literal}
-use Rattle.std.proofs.Common.{ap, sym, ◌∙◌, subst, arith, ◌+◌, ◌≤◌, ◌<◌, ◌≡◌, refl, length, ◌==◌}
+use Rattle.std.proofs.Common.{ap, sym, ◌∙◌, subst, arith, ◌+◌, ◌≤◌, ◌<◌, ◌≡◌, refl, length, ◌==◌, not}
 use Rattle.c_parser.specs.Beginnings.{start_of}
 use Rattle.c_parser.specs.Kinds.{level_of, is_word, is_designating, is_prefix, is_deriving, opens_parameters}
 use Rattle.c_parser.specs.Reading.{Reads, Found, FoundBehind, FoundBraces, FoundInitial, FoundDesignator, FoundAssociation, FoundFront, FoundNaming}
@@ -999,6 +1000,7 @@ declarators::group-returns-then-names_at t c =
           (λ x. FoundGrouping c.args.kinds.now c.args.named c.args.at x (c.args.at + 1))
           (sym c.named.ensures)
           (name_found _ _ _ named);
+      told = ap names_one (sym c.named.ensures);
       only = λ g m ds end h i e. let same = only g m ds end h i e in (c.named.ensures ∙ same.0, same.1);
     }
 
@@ -1017,6 +1019,7 @@ declarators::group-returns-in_default t c =
           (λ x. FoundGrouping c.args.kinds.now c.args.named c.args.at x c.args.at)
           (sym c.none.ensures)
           (record { reads = refl; forth = omega arith; inside = c.requires.inside });
+      told = ap names_one (sym c.none.ensures);
       only = λ g m ds end h i e. let same = only g m ds end h i e in (c.none.ensures ∙ same.0, same.1);
     }
 
@@ -1030,12 +1033,14 @@ declarators::group-returns-then-opens_parameters t c =
           (λ x. FoundGrouping c.args.kinds.now c.args.named c.args.at x c.args.at)
           (sym c.none-then-opens_parameters.ensures)
           (record { reads = refl; forth = omega arith; inside = c.requires.inside });
+      told = ap names_one (sym c.none-then-opens_parameters.ensures);
       only = λ g m ds end h i e. let same = only g m ds end h i e in (c.none-then-opens_parameters.ensures ∙ same.0, same.1);
     }
 
 pub declarators::group-returns-in-Err : goal.declarators::group-returns-in-Err
 declarators::group-returns-in-Err t c = record {
   found = tt;
+  told = tt;
   only =
       group_fails
       _
@@ -1050,6 +1055,7 @@ declarators::group-returns-in-Err t c = record {
 pub declarators::group-returns-in_default-kind_at : goal.declarators::group-returns-in_default-kind_at
 declarators::group-returns-in_default-kind_at t c = record {
   found = tt;
+  told = tt;
   only =
       group_left_open
       _
@@ -1072,7 +1078,7 @@ declarators::group-returns-in-Ok-of t c =
     record {
       found =
           subst
-          (λ x. FoundGrouping c.args.kinds.now c.args.named c.args.at x (c.in-Ok.found.1 + 1))
+          (λ x. FoundGrouping c.args.kinds.now c.args.named c.args.at x (c.in-Ok.found.2 + 1))
           (sym c.in-Ok-of.ensures)
           (group_found
           _
@@ -1085,6 +1091,7 @@ declarators::group-returns-in-Ok-of t c =
           c.in-Ok.ensures.found
           (sym c.in-CloseParen.ensures.kind)
           c.in-CloseParen.ensures.inside);
+      told = c.in-Ok.ensures.told ∙ ap names_one (sym c.in-Ok-of.ensures);
       only = λ g m ds end h i e. let same = only g m ds end h i e in (c.in-Ok-of.ensures ∙ same.0, same.1);
     }
 
@@ -1151,7 +1158,7 @@ declarators::bound_behind-returns-in-Err-level t c = record {
       c.requires.found
       (record {
         sized = λ k. c.in_default.not-CloseBracket (c.kind_at.ensures.kind ∙ k);
-        told = c.requires.told;
+        told = sym c.any_size_at.ensures ∙ c.if-any_size_at.false;
         plain = λ k. c.in_default-kind_at.not-Static (c.kind_at-2.ensures.kind ∙ k);
       })
       _
@@ -1170,7 +1177,7 @@ declarators::bound_behind-returns-in-Ok-sized t c =
     c.requires.found
     (record {
       sized = λ k. c.in_default.not-CloseBracket (c.kind_at.ensures.kind ∙ k);
-      told = c.requires.told;
+      told = sym c.any_size_at.ensures ∙ c.if-any_size_at.false;
       plain = λ k. c.in_default-kind_at.not-Static (c.kind_at-2.ensures.kind ∙ k);
     })
     _
@@ -1185,16 +1192,16 @@ declarators::bound_behind-returns-in-Ok-sized t c =
       only = λ x end h e. let same = only x end h e in (c.in-Ok-sized.ensures ∙ same.0, same.1);
     }
 
-pub declarators::bound-returns-then-any_size_at : goal.declarators::bound-returns-then-any_size_at
-declarators::bound-returns-then-any_size_at t c =
+pub declarators::bound_behind-returns-then-any_size_at : goal.declarators::bound_behind-returns-then-any_size_at
+declarators::bound_behind-returns-then-any_size_at t c =
     let told = sym c.any_size_at.ensures ∙ c.if-any_size_at.true in
-    let only = any_same _ _ told in
+    let only = any_same _ _ _ _ c.requires.found told in
     record {
       found =
           subst
-          (λ x. FoundBound c.args.kinds.now c.args.at x (c.args.at + 1))
+          (λ x. FoundBound c.args.kinds.now c.args.at x (c.args.behind + 1))
           (sym c.any_size.ensures)
-          (any_found _ _ told);
+          (any_found _ _ _ _ c.requires.found told);
       only = λ x end h e. let same = only x end h e in (c.any_size.ensures ∙ same.0, same.1);
     }
 
@@ -1250,9 +1257,10 @@ declarators::array_or_function-returns-in_default t c = record {
 
 pub declarators::derivings-returns-then-not-is_deriving : goal.declarators::derivings-returns-then-not-is_deriving
 declarators::derivings-returns-then-not-is_deriving t c = record {
-  found = derivings_found _ _ _ _ c.derivings.invariant;
+  found = derivings_found _ _ _ _ _ c.derivings.invariant;
   only =
       derivings_same
+      _
       _
       _
       _
@@ -1270,11 +1278,34 @@ declarators::derivings-returns-in-Err t c = record {
       _
       _
       _
+      _
       c.derivings.invariant
       (ap is_deriving (sym c.kind_at.ensures.kind) ∙ sym c.is_deriving.ensures ∙ c.if-not-is_deriving.false)
       _
       c.in-Err.ensures.only;
 }
+
+pub declarators::derivings-returns-then-lacks_name : goal.declarators::derivings-returns-then-lacks_name
+declarators::derivings-returns-then-lacks_name t c =
+    let lacks = sym c.lacks_name.ensures ∙ c.if-lacks_name.true in
+    record {
+      found = tt;
+      only =
+          derivings_unnamed
+          _
+          _
+          _
+          _
+          _
+          c.derivings.invariant
+          (ap is_deriving (sym c.kind_at.ensures.kind) ∙ sym c.is_deriving.ensures ∙ c.if-not-is_deriving.false)
+          _
+          _
+          c.in-Ok.ensures.only
+          (left_of (needs_name (deriving_of c.in-Ok.found.0)) (not c.args.declares) lacks)
+          (not_named c.args.declares (right_of (needs_name (deriving_of c.in-Ok.found.0)) (not c.args.declares) lacks))
+          c.args.at;
+    }
 
 pub declarators::derivings-derivings-preserved : goal.declarators::derivings-derivings-preserved
 declarators::derivings-derivings-preserved t c =
@@ -1286,21 +1317,25 @@ declarators::derivings-derivings-preserved t c =
     _
     _
     _
+    _
     c.derivings.invariant
     (ap is_deriving (sym c.kind_at.ensures.kind) ∙ sym c.is_deriving.ensures ∙ c.if-not-is_deriving.false)
     c.in-Ok.ensures.found
     c.in-Ok.ensures.only
+    (named_or (needs_name (deriving_of c.in-Ok.found.0)) c.args.declares (sym c.lacks_name.ensures ∙ c.if-lacks_name.false))
     c.in-Ok-push.ensures.items
 
 pub declarators::declarator-returns-in-Err-group : goal.declarators::declarator-returns-in-Err-group
 declarators::declarator-returns-in-Err-group t c = record {
   found = tt;
+  told = tt;
   only = group_missing _ _ _ _ _ c.in-Ok.ensures.found _ c.in-Err-group.ensures.only;
 }
 
 pub declarators::declarator-returns-in-Err-derivings : goal.declarators::declarator-returns-in-Err-derivings
 declarators::declarator-returns-in-Err-derivings t c = record {
   found = tt;
+  told = tt;
   only =
       derivings_missing
       _
@@ -1312,6 +1347,8 @@ declarators::declarator-returns-in-Err-derivings t c = record {
       _
       _
       c.in-Ok-group.ensures.only
+      _
+      c.in-Ok-group.ensures.told
       _
       c.in-Err-derivings.ensures.only;
 }
@@ -1329,6 +1366,8 @@ declarators::declarator-returns-in-Ok-derivings t c =
     _
     _
     c.in-Ok-group.ensures.only
+    _
+    c.in-Ok-group.ensures.told
     _
     _
     c.in-Ok-derivings.ensures.only in
@@ -1348,8 +1387,11 @@ declarators::declarator-returns-in-Ok-derivings t c =
           _
           c.in-Ok-group.ensures.found
           _
+          c.in-Ok-group.ensures.told
+          _
           _
           c.in-Ok-derivings.ensures.found);
+      told = c.in-Ok-group.ensures.told ∙ ap names (sym c.new.ensures);
       only = λ d end h e. let same = only d end h e in (c.new.ensures ∙ same.0, same.1);
     }
 

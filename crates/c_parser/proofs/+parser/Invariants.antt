@@ -184,7 +184,7 @@ abbrev pub decreases-type_names::specifiers-specifiers : goal.decreases-type_nam
 decreases-type_names::specifiers-specifiers l = length l.kinds - l.end
 
 abbrev pub invariant-declarators::derivings-derivings : goal.invariant-declarators::derivings-derivings
-invariant-declarators::derivings-derivings l = Derived l.kinds l.fn.at (derivings_of l.derivings.items) l.end
+invariant-declarators::derivings-derivings l = Derived l.kinds l.fn.declares l.fn.at (derivings_of l.derivings.items) l.end
 
 abbrev pub decreases-declarators::derivings-derivings : goal.decreases-declarators::derivings-derivings
 decreases-declarators::derivings-derivings l = length l.kinds - l.end
