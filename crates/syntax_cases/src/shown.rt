@@ -121,7 +121,10 @@ fn show_specifier(
 fn show_bound(out: &mut String, tokens: &[OutToken], bound: &Bound) -> Result<(), AllocError> {
     match bound {
         Bound::Unsized(qualifiers) => show_words(out, tokens, qualifiers.as_slice()),
-        Bound::AnySize(_) => out.push_str(" *"),
+        Bound::AnySize(qualifiers, _) => {
+            show_words(out, tokens, qualifiers.as_slice())?;
+            out.push_str(" *")
+        }
         Bound::Sized(qualifiers, size) => {
             show_words(out, tokens, qualifiers.as_slice())?;
             out.push_str(" ")?;
