@@ -1,5 +1,6 @@
 -- Documents that are opened and closed, and which paths are units by that.
-use Rattle.std.proofs.Common.{◌≡◌, ℕ, Bool, true, false, not, ◌&&◌, ◌||◌, List, [], ◌∷◌, Option, None, Some, Result, Ok, Err, is_some, refl, sym, ap, ◌∙◌, true≢false}
+use Rattle.std.proofs.Common.{◌≡◌, ℕ, Bool, true, false, cond, not, ◌&&◌, ◌||◌, List, [], ◌∷◌, Option, None, Some, Result, Ok, Err, is_some, bytes_eq, refl, sym, ap, ◌∙◌, true≢false}
+use Rattle.std.specs.List.{find, list_any}
 use Rattle.uri_paths.specs.Uris.{path_of_uri}
 use Rattle.io_edges.specs.Store.{Entry}
 use Rattle.doc_texts.specs.Texts.{Texts}
@@ -36,10 +37,32 @@ hinged_by_source true false = refl
 hinged_by_source false true = refl
 hinged_by_source false false = refl
 
-pub hinged_source : (database : Option (List UnitConf)) (units : List UnitConf) (path : List ℕ) (entry source : Bool) → database ≡ Some units → entry ≡ is_some (entry_of path units) →
-    source ≡ is_source path → (source && not entry) ≡ is_hinged database path
-hinged_source database units path entry source some found ends =
-    ap (λ b. b && not entry) ends ∙ ap (λ b. is_source path && not b) found ∙ hinged_by_source (is_some (entry_of path units)) (is_source path) ∙ ap (λ d. is_hinged d path) (sym some)
+found_by : (b : Bool) (unit : UnitConf) (others : Bool) (rest : Option UnitConf) → others ≡ is_some rest → (b || others) ≡ is_some (cond b (Some unit) rest)
+found_by true unit others rest same = refl
+found_by false unit others rest same = same
+
+any_found : (f : UnitConf → Bool) (units : List UnitConf) → list_any f units ≡ is_some (find f units)
+any_found f [] = refl
+any_found f (unit ∷ units) = found_by (f unit) unit (list_any f units) (find f units) (any_found f units)
+
+has_entry : (path : List ℕ) (units : List UnitConf) → list_any (λ unit. bytes_eq unit.file path) units ≡ is_some (entry_of path units)
+unfolding entry_of
+has_entry path units = any_found (λ unit. bytes_eq unit.file path) units
+
+hinged_source : (database : Option (List UnitConf)) (units : List UnitConf) (path : List ℕ) → database ≡ Some units →
+    (is_source path && not (list_any (λ unit. bytes_eq unit.file path) units)) ≡ is_hinged database path
+hinged_source database units path some =
+    ap (λ b. is_source path && not b) (has_entry path units) ∙ hinged_by_source (is_some (entry_of path units)) (is_source path) ∙ ap (λ d. is_hinged d path) (sym some)
+
+pub source_hinged : (database : Option (List UnitConf)) (units : List UnitConf) (path : List ℕ) (source entry : Bool) → database ≡ Some units → source ≡ is_source path → source ≡ true →
+    entry ≡ list_any (λ unit. bytes_eq unit.file path) units → not entry ≡ is_hinged database path
+source_hinged database units path source entry some ends is found =
+    ap not found ∙ ap (λ b. b && not (list_any (λ unit. bytes_eq unit.file path) units)) (sym is ∙ ends) ∙ hinged_source database units path some
+
+pub other_hinged : (database : Option (List UnitConf)) (units : List UnitConf) (path : List ℕ) (source : Bool) → database ≡ Some units → source ≡ is_source path → source ≡ false →
+    false ≡ is_hinged database path
+other_hinged database units path source some ends is =
+    ap (λ b. b && not (list_any (λ unit. bytes_eq unit.file path) units)) (sym is ∙ ends) ∙ hinged_source database units path some
 
 unhinged_by : (entry source b c : Bool) → ((entry || true && source) && not (entry || false && source)) ≡ false → (entry || b && source) ≡ (entry || c && source)
 unhinged_by true source b c h = refl

@@ -1,5 +1,6 @@
 // What the server keeps between two contents, and its reaction to a message.
-ghost use Rattle.std.specs.Prelude.{◌≡◌, ◌≢◌, ◌+◌, ◌++◌, ◌<◌, ◌^◌, ℕ, false, List, [], length, None, Some, Ok, IfOk, IfErr, OnOk, is_some, option_map, map, codes};
+ghost use Rattle.std.specs.Prelude.{◌≡◌, ◌≢◌, ◌+◌, ◌++◌, ◌<◌, ◌^◌, ℕ, false, List, [], length, None, Some, Ok, IfOk, IfErr, OnOk, option_map, map, bytes_eq, codes};
+ghost use Rattle.std.specs.List.{list_any};
 ghost use Rattle.doc_texts.specs.Prior.{Prior};
 ghost use Rattle.doc_texts.specs.Texts.{Texts};
 ghost use Rattle.serde_json.specs.View.{view};
@@ -18,7 +19,7 @@ ghost use Rattle.plain_mean.specs.Lists.{AreShown, shown_in};
 ghost use Rattle.plain_mean.specs.Shown.{units};
 ghost use Rattle.plain_mean.specs.Within.{AreWithin};
 ghost use Rattle.project_conf.specs.Defines.{AreUsable};
-ghost use Rattle.project_conf.specs.Entries.{entry_of};
+ghost use Rattle.project_conf.specs.Entries.{is_source};
 ghost use Rattle.plain_mean.specs.Confs.{IsUsable};
 ghost use Rattle.c_session.specs.Replies.{log, error};
 ghost use Rattle.c_session.specs.Ties.SeenParams.{seen_file_change};
@@ -109,25 +110,27 @@ fn shifted_by(opens: bool, path: &Path) -> Option<&Path>
 }
 
 /// Whether a database has an entry of a file.
-#[tactic(auto, unfolding(project_conf::specs::Entries::entry_of))]
 fn has_entry(units: &[UnitConf], file: &Path) -> bool
-    ensures { result ≡ is_some (entry_of file.now units.now) }
+    ensures { result ≡ list_any (λ unit. bytes_eq unit.file file.now) units.now }
 {
     units
         .iter()
-        .find(|unit| unit.file.as_str() == file.as_str())
-        .is_some()
+        .any(|unit| unit.file.as_str() == file.as_str())
+}
+
+fn is_source(path: &Path) -> bool
+    ensures { result ≡ is_source path.now }
+{
+    path.as_str().as_bytes().ends_with(b".c")
 }
 
 /// Whether a path is a unit just as long as its document is open: a C source to which the database has no entry.
-#[tactic(auto, using(crate::proofs::Turning::never_hinged, crate::proofs::Turning::hinged_source))]
+#[tactic(auto, using(crate::proofs::Turning::never_hinged))]
 fn is_hinged(conf: &Conf, path: &Path) -> bool
     ensures { result ≡ is_hinged conf.now.database path.now }
 {
     match &conf.database {
-        Some(units) => {
-            path.as_str().as_bytes().ends_with(b".c") && !has_entry(units.as_slice(), path)
-        }
+        Some(units) => is_source(path) && !has_entry(units.as_slice(), path),
         None => false,
     }
 }
