@@ -9,6 +9,8 @@ pub mod GoingOn
 pub mod EndingUp
 pub mod Exchanging
 pub mod Draining
+pub mod Generating
 pub mod Running
 pub mod Adding
+pub mod Asked
 pub mod Serving

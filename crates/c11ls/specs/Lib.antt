@@ -1,6 +1,7 @@
 pub mod Calls
 pub mod Codes
 pub mod Exchanges
+pub mod Generated
 pub mod Lines
 pub mod Plain
 pub mod Serve

@@ -5,6 +5,7 @@ ghost use Rattle.std.specs.Prelude.{◌≡◌, ◌⊎◌, ◌<◌, false};
 ghost use Rattle.project_conf.specs.Words.{texts, are_grammatical};
 ghost use Rattle.c11ls.specs.declared.status.Status.TheVariants as Status;
 
+mod generated;
 mod laws;
 mod lines;
 mod run;

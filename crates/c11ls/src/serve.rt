@@ -1,7 +1,8 @@
 // The server's top call: from the words of the command line to the status of the process.
-ghost use Rattle.std.specs.Prelude.{◌≡◌, ◌⊎◌, ◌↔◌, ◌+◌, ◌<◌, ◌≤◌, ◌^◌, length, true, false};
+ghost use Rattle.std.specs.Prelude.{◌≡◌, ℕ, ◌⊎◌, ◌↔◌, ◌+◌, ◌<◌, ◌≤◌, ◌^◌, length, true, false};
 ghost use Rattle.c11ls.specs.Calls.{IfTold};
 ghost use Rattle.c11ls.specs.Codes.{line_of};
+ghost use Rattle.c11ls.specs.Generated.{EndsRun, Generated, run_asked};
 ghost use Rattle.c11ls.specs.Ties.Going.{Ended};
 ghost use Rattle.c11ls.specs.Lines.{WritesLine};
 ghost use Rattle.c11ls.specs.Served.{Served};
@@ -9,6 +10,7 @@ ghost use Rattle.c11ls.specs.Ties.Turn.{IsCounted};
 ghost use Rattle.project_conf.specs.Words.{texts, are_grammatical, serves, options_of};
 ghost use Rattle.std.specs.Prelude.{Some};
 
+use crate::generated::run_generated;
 use crate::lines::write_line;
 use crate::run::run;
 use crate::status::Status;
@@ -19,7 +21,7 @@ use std::alloc::Global;
 use std::sync::ledger::Ledger;
 use steps::Steps;
 
-/// What the words ask for: a client that is served until the call ends, or nothing, where they aren't in the grammar.
+/// What the words ask for: a client that is served until the call ends, a generated run, or nothing, where they aren't in the grammar.
 fn answer<W: Wire, D: Store, L: Ledger>(
     alloc: Global,
     words: &[String],
@@ -38,6 +40,8 @@ fn answer<W: Wire, D: Store, L: Ledger>(
     ensures write_stays { are_grammatical (texts words.now) ≡ false → W.write_faults wire.new ≡ W.write_faults wire.old }
     ensures fault_stays { are_grammatical (texts words.now) ≡ false → D.faults store.new ≡ D.faults store.old }
     ensures ended { serves (texts words.now) ≡ true → Ended (options_of (texts words.now)) result (W.told wire.old) (W.told wire.new) (D.answers store.old) (D.answers store.new) }
+    ensures run { (n : ℕ) → run_asked (texts words.now) ≡ Some n → EndsRun result × IfTold (W.told wire.old) (W.told wire.new) (Generated (options_of (texts words.now)) n result) }
+    ensures unread { (n : ℕ) → run_asked (texts words.now) ≡ Some n → (W.read_faults wire.new ≡ W.read_faults wire.old) × (D.answers store.new ≡ D.answers store.old) × (D.faults store.new ≡ D.faults store.old) }
     ensures counted { IsCounted (Some result) (W.read_faults wire.old) (W.read_faults wire.new) (W.write_faults wire.old) (W.write_faults wire.new) (D.faults store.old) (D.faults store.new) }
 {
     let options = match project_conf::words(alloc, words) {
@@ -45,7 +49,10 @@ fn answer<W: Wire, D: Store, L: Ledger>(
         Err(WordError::Usage) => return Status::Usage,
         Err(WordError::NoMemory) => return Status::NoMemory,
     };
-    run(alloc, options, wire, store, steps)
+    match options.generate {
+        None => run(alloc, options, wire, store, steps),
+        Some(number) => run_generated(alloc, options, number, wire, steps),
+    }
 }
 
 /// Writes the line of a status, or a front of it.
@@ -56,7 +63,8 @@ pub fn tell<E: Sink>(errs: &mut E, status: Status)
     let _ = write_line(errs, status);
 }
 
-/// Serves the client on the wire, reading files from the store, until the call ends, and says how it ended.
+/// Serves the client on the wire, reading files from the store, until the call ends, and says how it ended; or plays a generated session
+/// and prints what its texts come to, where the words ask for that.
 ///
 /// `words` are the words after the program's name. What the sink gets is what the plain server writes for all that the
 /// source had left: it keeps only the current texts, and analyses every unit anew for each message. Where the call ends
@@ -83,6 +91,13 @@ pub fn serve<W: Wire, E: Sink, D: Store, L: Ledger>(
     // What the ends got and gave, where the wire tells it: the bytes written are those of the plain server.
     ensures served { serves (texts words.now) ≡ true → IfTold (W.told wire.old) (W.told wire.new)
         (Served (options_of (texts words.now)) result (D.answers store.old) (D.answers store.new)) }
+
+    // A generated run, for words that ask for one: nothing is read, and the store isn't called. The sink got the three lines, or a front of
+    // them where its count rose, or nothing for want of memory.
+    ensures generated { (n : ℕ) → run_asked (texts words.now) ≡ Some n → EndsRun result × IfTold (W.told wire.old) (W.told wire.new)
+        (Generated (options_of (texts words.now)) n result) }
+    ensures unread { (n : ℕ) → run_asked (texts words.now) ≡ Some n → (W.read_faults wire.new ≡ W.read_faults wire.old)
+        × (D.answers store.new ≡ D.answers store.old) × (D.faults store.new ≡ D.faults store.old) }
 
     // A fault: exactly where the count of that very end rose.
     ensures read_fault { (result ≡ Status.ReadFault) ↔ (W.read_faults wire.old < W.read_faults wire.new) }

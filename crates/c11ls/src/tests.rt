@@ -259,3 +259,23 @@ fn takes_no_words(rt: HostRuntime) -> Result<(), Fail> {
     }
     Ok(())
 }
+
+// Nothing is checked of an undeclared name yet, so that no file shows a fault.
+#[test]
+fn plays_a_generated_session(rt: HostRuntime) -> Result<(), Fail> {
+    let words = [
+        String::from_str(rt.alloc(), "--generate")?,
+        String::from_str(rt.alloc(), "1")?,
+    ];
+    let found = played::<Brand>(rt.alloc(), Blank::new(1), words.as_slice(), WHOLE)?;
+    assert!(rt; found.is_some());
+    if let Some(found) = found {
+        assert_eq!(rt; found.status, Status::Done);
+        assert_eq!(rt;
+            found.written.as_slice(),
+            b"messages 7\nunits 1\nfaults 0\n".as_slice()
+        );
+        assert!(rt; found.line.is_empty());
+    }
+    Ok(())
+}
