@@ -113,9 +113,7 @@ fn shifted_by(opens: bool, path: &Path) -> Option<&Path>
 fn has_entry(units: &[UnitConf], file: &Path) -> bool
     ensures { result ≡ list_any (λ unit. bytes_eq unit.file file.now) units.now }
 {
-    units
-        .iter()
-        .any(|unit| unit.file.as_str() == file.as_str())
+    units.iter().any(|unit| unit.file.as_str() == file.as_str())
 }
 
 fn is_source(path: &Path) -> bool
