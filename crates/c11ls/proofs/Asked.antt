@@ -1,10 +1,12 @@
 -- What words ask for, by the options that were read of them.
-use Rattle.std.proofs.Common.{◌≡◌, ℕ, Bool, true, false, List, Option, None, Some, is_none, is_some, option_and_then, unwrap_or, T, sym, ap, ◌∙◌, subst, cc, true≢false}
+use Rattle.std.proofs.Common.{◌≡◌, ℕ, Bool, true, false, List, Option, None, Some, is_none, is_some, option_and_then, unwrap_or, T, refl, sym, ap, ◌∙◌, subst, true≢false}
 use Rattle.std.specs.Option.{option_map_or}
 use Rattle.project_conf.specs.Options.{no_options}
 use Rattle.project_conf.specs.Words.{are_grammatical, options_in, options_of, serves}
 use Rattle.project_conf.specs.declared.options.Options.{Options}
-use Rattle.c11ls.specs.Generated.{run_asked}
+use Rattle.c11ls.specs.Generated.{EndsRun, run_asked}
+use Rattle.c11ls.specs.declared.status.Status.{Status}
+use Rattle.c11ls.specs.declared.status.Status.TheVariants as status
 
 asked_by : (o : Option Options) (options : Options) → is_some o ≡ true → options ≡ unwrap_or o no_options → option_and_then (λ p. p.generate) o ≡ options.generate
 asked_by None options h e = absurd (true≢false (sym h))
@@ -18,7 +20,7 @@ serves_by None options h e = absurd (true≢false (sym h))
 serves_by (Some o) options h e = ap (λ (p : Options). is_none p.generate) (sym e)
 
 none_asked : (o : Option Options) → is_some o ≡ false → option_and_then (λ p. p.generate) o ≡ None
-none_asked None h = cc
+none_asked None h = refl
 none_asked (Some o) h = absurd (true≢false h)
 
 none_some : {A : Type 0} (x : A) → None ≡ Some x → ⊥
@@ -45,3 +47,7 @@ asks_run words options number n P h e read asked holds =
 pub serves_none : (words : List (List ℕ)) (options : Options) (number : ℕ) → are_grammatical words ≡ true → options ≡ options_of words → options.generate ≡ Some number →
     serves words ≡ true → ⊥
 serves_none words options number h e read serves = true≢false (sym serves ∙ serves_by (options_in words) options h e ∙ ap is_none read)
+
+-- a run never ends with Usage
+pub ends_no_usage : (ended : Status) → EndsRun ended → ended ≡ status.Usage → ⊥
+ends_no_usage ended ends is = subst EndsRun is ends

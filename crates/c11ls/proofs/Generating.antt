@@ -1,5 +1,5 @@
 -- A generated run, content by content, and what it prints.
-use Rattle.std.proofs.Common.{◌≡◌, ◌≢◌, ℕ, List, [], ◌∷◌, ◌++◌, take, Option, None, Some, option_map, refl, sym, ap, ◌∙◌, subst, cc, append-nil}
+use Rattle.std.proofs.Common.{◌≡◌, ◌≢◌, ℕ, List, [], ◌∷◌, ◌++◌, take, Option, None, Some, option_map, refl, sym, ap, ◌∙◌, subst, T, is_none, append-nil}
 use Rattle.std.proofs.lemmas.List.{take-append-drop}
 use Rattle.io_edges.specs.Store.{Entry}
 use Rattle.io_edges.specs.Wire.{Traffic, after_write}
@@ -45,11 +45,7 @@ stays_is : (t t' : Traffic) → Some t' ≡ Some t → t' ≡ behind [] t
 stays_is t t' is = some_is t' t is ∙ ap (λ (all : List ℕ). record { left = t.left; taken = t.taken; written = all; marks = t.marks }) (sym (append-nil t.written))
 
 no_some : {A B : Type 0} (x : A) → None ≡ Some x → B
-no_some x is = absurd (subst is_there (sym is) tt)
-  where
-    is_there : Option A → Type 0
-    is_there None = ⊥
-    is_there (Some y) = Unit {0}
+no_some x is = absurd (subst (λ o. T (is_none o)) is tt)
 
 pub printed_all : (options : Options) (n : ℕ) (text : List ℕ) (w w' : Option Traffic) → text ≡ printed options n → w' ≡ option_map (after_write text) w →
     IfTold w w' (Generated options n status.Done)

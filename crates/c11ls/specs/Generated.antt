@@ -31,10 +31,12 @@ left_by s (content ∷ more) = left_by (state_behind s (react s content [])) mor
 abbrev pub counts : Options → ℕ → Counts
 counts options n = counts_of (left_by (fresh options) (contents n))
 
--- three lines: the contents, the units and the faults that all files show
+abbrev pub line : List ℕ → ℕ → List ℕ
+line name number = (name ++ decimal number) ++ codes "\n"
+
+-- three lines: how many contents there are, how many units, and how many faults all files show
 abbrev pub lines : ℕ → Counts → List ℕ
-lines n c =
-    codes "messages " ++ decimal (2 * n + 5) ++ codes "\nunits " ++ decimal c.units ++ codes "\nfaults " ++ decimal c.faults ++ codes "\n"
+lines n c = (line (codes "messages ") (2 * n + 5) ++ line (codes "units ") c.units) ++ line (codes "faults ") c.faults
 
 unfoldable pub printed : Options → ℕ → List ℕ
 printed options n = lines n (counts options n)

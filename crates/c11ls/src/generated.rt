@@ -3,7 +3,7 @@ ghost use Rattle.std.specs.Prelude.{◌≡◌, ℕ, ◌+◌, ◌≤◌, ◌<◌,
 ghost use Rattle.c_session.specs.Ties.Sessions.{state_of, handled_by};
 ghost use Rattle.project_conf.specs.Defines.{AreUsable};
 ghost use Rattle.c11ls.specs.Calls.{IfTold};
-ghost use Rattle.c11ls.specs.Generated.{EndsRun, Generated, left_by, lines, printed};
+ghost use Rattle.c11ls.specs.Generated.{EndsRun, Generated, left_by, line, lines, printed};
 ghost use Rattle.c11ls.specs.Ties.Turn.{IsCounted};
 
 use crate::status::Status;
@@ -11,6 +11,7 @@ use crate::writing::write_reply;
 use c_session::{Counts, Session};
 use gen_project::generate;
 use io_edges::{Found, Listed, Store, StoreFail, Wire};
+use itoa::Buffer;
 use project_conf::Options;
 use std::alloc::{AllocError, Global};
 use std::sync::ledger::Ledger;
@@ -37,7 +38,6 @@ impl Store for NoStore {
 }
 
 /// Hands contents to a session.
-#[tactic(auto, using(crate::proofs::Generating::left_more))]
 fn hand<L: Ledger>(
     session: &mut Session,
     contents: &[String],
@@ -58,14 +58,26 @@ fn hand<L: Ledger>(
     Ok(())
 }
 
+fn line(alloc: Global, name: &'static str, number: u128) -> Result<String, AllocError>
+    ensures { IfOk result (λ text. string_bytes text ≡ line name.now number) }
+{
+    let mut buffer = Buffer::new();
+    let mut text = String::from_str(alloc, name)?;
+    text.push_str(buffer.format(number))?;
+    text.push_str("\n")?;
+    Ok(text)
+}
+
 fn lines(alloc: Global, number: u32, counts: Counts) -> Result<String, AllocError>
     requires { number ≤ 512 }
     ensures { IfOk result (λ text. string_bytes text ≡ lines number counts) }
 {
-    let messages = 2 * number + 5;
-    let units = counts.units;
-    let faults = counts.faults;
-    format!(in alloc; "messages {messages}\nunits {units}\nfaults {faults}\n")
+    let mut text = line(alloc, "messages ", (2 * number + 5) as u128)?;
+    let units = line(alloc, "units ", counts.units as u128)?;
+    text.push_str(units.as_str())?;
+    let faults = line(alloc, "faults ", counts.faults)?;
+    text.push_str(faults.as_str())?;
+    Ok(text)
 }
 
 /// What a generated run of so many units prints.
@@ -101,6 +113,7 @@ pub fn run_generated<W: Wire, L: Ledger>(
     requires sink { W.write_faults wire.old + 1 < 2 ^ 64 }
     ensures ended { EndsRun result }
     ensures generated { IfTold (W.told wire.old) (W.told wire.new) (Generated options number result) }
+    ensures unread { W.read_faults wire.new ≡ W.read_faults wire.old }
     ensures counted { (store : ℕ) → IsCounted (Some result) (W.read_faults wire.old) (W.read_faults wire.new) (W.write_faults wire.old) (W.write_faults wire.new) store store }
 {
     let text = match printed(alloc, options, number, steps) {
