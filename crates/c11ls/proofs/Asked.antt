@@ -1,5 +1,5 @@
 -- What words ask for, by the options that were read of them.
-use Rattle.std.proofs.Common.{◌≡◌, ℕ, Bool, true, false, List, Option, None, Some, is_none, is_some, option_and_then, unwrap_or, T, refl, sym, ap, ◌∙◌, subst, true≢false}
+use Rattle.std.proofs.Common.{◌≡◌, ℕ, true, false, List, Option, None, Some, is_none, is_some, option_and_then, unwrap_or, T, refl, sym, ap, ◌∙◌, subst, true≢false}
 use Rattle.std.specs.Option.{option_map_or}
 use Rattle.project_conf.specs.Options.{no_options}
 use Rattle.project_conf.specs.Words.{are_grammatical, options_in, options_of, serves}

@@ -1,7 +1,6 @@
 -- A generated run, content by content, and what it prints.
-use Rattle.std.proofs.Common.{◌≡◌, ◌≢◌, ℕ, List, [], ◌∷◌, ◌++◌, take, Option, None, Some, option_map, refl, sym, ap, ◌∙◌, subst, T, is_none, append-nil}
+use Rattle.std.proofs.Common.{◌≡◌, ℕ, List, [], ◌∷◌, ◌++◌, take, Option, None, Some, option_map, refl, sym, ap, ◌∙◌, subst, T, is_none, append-nil}
 use Rattle.std.proofs.lemmas.List.{take-append-drop}
-use Rattle.io_edges.specs.Store.{Entry}
 use Rattle.io_edges.specs.Wire.{Traffic, after_write}
 use Rattle.asking.specs.InTurn.{run}
 use Rattle.c_session.specs.Asking.{Asking, Gives, after_all}
@@ -10,9 +9,8 @@ use Rattle.c_session.specs.React.{Outcome, Replies, reaction, asks, react}
 use Rattle.c_session.specs.State.{State}
 use Rattle.project_conf.specs.declared.options.Options.{Options}
 use Rattle.c11ls.specs.Calls.{IfTold}
-use Rattle.c11ls.specs.Generated.{Generated, HasPrinted, left_by, printed, state_behind}
+use Rattle.c11ls.specs.Generated.{Generated, left_by, printed, state_behind}
 use Rattle.c11ls.specs.Ties.Turn.{SentFront}
-use Rattle.c11ls.specs.declared.status.Status.{Status}
 use Rattle.c11ls.specs.declared.status.Status.TheVariants as status
 
 -- ---- contents that ask for nothing

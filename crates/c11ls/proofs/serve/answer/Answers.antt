@@ -1,7 +1,7 @@
 use Rattle.std.proofs.Common.{refl}
 use Rattle.c11ls.specs.Calls.{IfTold}
-use Rattle.c11ls.specs.Generated.{EndsRun, Generated}
-use Rattle.c11ls.proofs.Asked.{asks_none, asks_not, asks_run, ends_no_usage, serves_none}
+use Rattle.c11ls.specs.Generated.{Generated}
+use Rattle.c11ls.proofs.Asked.{asks_not, asks_run, ends_no_usage, serves_none}
 use Rattle.c11ls.proofs.Generating.{printed_nothing}
 use Rattle.c11ls.proofs.Running.{ends_at_once}
 use Rattle.c11ls.proofs.Serving.{not_usage}
