@@ -1,0 +1,6 @@
+pub mod AnswerLemmas
+pub mod ChainLemmas
+pub mod LookLemmas
+pub mod OrderLemmas
+pub mod SharedLemmas
+pub mod WalkLemmas

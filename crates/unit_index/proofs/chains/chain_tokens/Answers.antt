@@ -1,0 +1,19 @@
+use Rattle.std.proofs.Common.{refl, ◌∙◌}
+use Rattle.unit_index.specs.Chains.{by_token}
+use Rattle.unit_index.specs.Occurrences.{is_at}
+use Rattle.unit_index.proofs.ChainLemmas.{links_begin, links_turn, links_end}
+use Rattle.unit_index.proofs.chains.chain_tokens.Goals as goal
+
+pub occs-init : goal.occs-init
+occs-init c = links_begin by_token is_at _ _ _ c.no_tokens-first.ensures c.new-next.ensures.items
+
+pub occs-preserved : goal.occs-preserved
+occs-preserved c =
+    links_turn by_token is_at _ _ _ c.in-Some.occ.now c.in-Some.occ.now.tok _ _ _ _ _ refl c.in-Some.ensures.cases.0 c.first_at.ensures
+    c.in_ok-push.ensures.items c.in_ok-note_token.ensures c.occs.invariant
+
+pub returns-clause-first : goal.returns-clause-first
+returns-clause-first c = (links_end by_token is_at _ _ _ _ c.in_default.ensures.cases c.occs.invariant).0
+
+pub returns-clause-next : goal.returns-clause-next
+returns-clause-next c = c.reverse.ensures.items ∙ (links_end by_token is_at _ _ _ _ c.in_default.ensures.cases c.occs.invariant).1

@@ -1,0 +1,12 @@
+pub mod Chains
+pub mod Definition
+pub mod Kept
+pub mod Known
+pub mod Occurrences
+pub mod References
+pub mod Seen
+pub mod Sets
+pub mod Shared
+pub mod Speaking
+pub mod Tokens
+pub mod Walks

@@ -1,0 +1,176 @@
+// The questions on a token, over all units.
+ghost use Rattle.std.specs.Prelude.{◌≡◌, option_map, IfOk};
+ghost use Rattle.std.specs.List.{filter, list_any};
+ghost use Rattle.unit_index.specs.Definition.{definition, defining};
+ghost use Rattle.unit_index.specs.Occurrences.{occs_of, shared};
+ghost use Rattle.unit_index.specs.References as spec;
+ghost use Rattle.unit_index.specs.Seen.{speech_of};
+ghost use Rattle.unit_index.specs.Speaking;
+ghost use Rattle.unit_index.specs.Tokens.{in_order, is_outside};
+
+use crate::indexed::IndexedUnit;
+use crate::sets::is_outside;
+use crate::shared::{Asked, anchors_of, tokens_of};
+use scope_tables::{Anchor, Entity, Role};
+use std::alloc::{AllocError, Global};
+use tok_data::TokId;
+
+fn introduces(role: Role) -> bool
+    ensures { result ≡ spec.introduces role }
+{
+    match role {
+        Role::Defines => true,
+        Role::Declares => true,
+        Role::Uses => false,
+        Role::Pasted => false,
+        Role::Spelled => false,
+    }
+}
+
+// Whether the token defines or declares something in the unit.
+fn introduces_here(unit: &IndexedUnit, tok: &TokId) -> bool
+    ensures { result ≡ list_any (spec.is_introduced tok.now) (occs_of unit.now) }
+{
+    let mut walk = unit.at(tok);
+    'occs: while let Some(occ) = walk.step() {
+        if introduces(occ.role) {
+            return true;
+        }
+    }
+    false
+}
+
+fn is_introduced(units: &[IndexedUnit], tok: &TokId) -> bool
+    ensures { result ≡ spec.introduced units.now tok.now }
+{
+    let mut rest = units;
+    'units: while let Some((unit, behind)) = rest.split_first() {
+        if introduces_here(unit, tok) {
+            return true;
+        }
+        rest = behind;
+    }
+    false
+}
+
+// Whether a mention is asked for.
+fn is_wanted(units: &[IndexedUnit], declarations: bool, tok: &TokId) -> bool
+    ensures { result ≡ spec.is_wanted units.now declarations tok.now }
+{
+    is_outside(tok) && (declarations || !is_introduced(units, tok))
+}
+
+fn all_wanted(
+    alloc: Global,
+    units: &[IndexedUnit],
+    declarations: bool,
+    tokens: &[TokId],
+) -> Result<Vec<TokId>, AllocError>
+    ensures { IfOk result (λ out. out.items ≡ filter (spec.is_wanted units.now declarations) tokens.now) }
+{
+    let mut out = Vec::new(alloc);
+    let mut rest = tokens;
+    'tokens: while let Some((tok, behind)) = rest.split_first() {
+        rest = behind;
+        if !is_wanted(units, declarations, tok) {
+            continue;
+        }
+        out.push(tok.copy()?)?;
+    }
+    Ok(out)
+}
+
+fn all_outside(alloc: Global, tokens: &[TokId]) -> Result<Vec<TokId>, AllocError>
+    ensures { IfOk result (λ out. out.items ≡ filter is_outside tokens.now) }
+{
+    let mut out = Vec::new(alloc);
+    let mut rest = tokens;
+    'tokens: while let Some((tok, behind)) = rest.split_first() {
+        rest = behind;
+        if !is_outside(tok) {
+            continue;
+        }
+        out.push(tok.copy()?)?;
+    }
+    Ok(out)
+}
+
+// The tokens that define what a token denotes, else those that declare it.
+fn defining(alloc: Global, units: &[IndexedUnit], tok: &TokId) -> Result<Vec<TokId>, AllocError>
+    ensures { IfOk result (λ tokens. tokens.items ≡ in_order (defining (shared units.now tok.now))) }
+{
+    let anchors = anchors_of(alloc, units, tok)?;
+    let defined = tokens_of(alloc, Asked::Defining, units, tok, &anchors)?;
+    if !defined.is_empty() {
+        return Ok(defined);
+    }
+    let declared = tokens_of(alloc, Asked::Declaring, units, tok, &anchors)?;
+    Ok(declared)
+}
+
+/// The tokens that define the entities which a token denotes, in all units; where there is none, those that declare them. Tokens
+/// of library texts are left out. What the token denotes in one unit counts in each. They stand in order of text, then place, each
+/// once; no entity of the token's, or none outside the library, leaves none. The cost is a look-up a unit and anchor, and beyond it linear in
+/// the occurrences of these entities, times the logarithm of their number. It fails for want of memory alone.
+#[tactic(auto, unfolding(crate::specs::Definition::definition))]
+pub fn definition(
+    alloc: Global,
+    units: &[IndexedUnit],
+    tok: &TokId,
+) -> Result<Vec<TokId>, AllocError>
+    ensures { IfOk result (λ out. out.items ≡ definition units.now tok.now) }
+{
+    let tokens = defining(alloc, units, tok)?;
+    let out = all_outside(alloc, tokens.as_slice())?;
+    Ok(out)
+}
+
+/// The tokens that mention the entities which a token denotes, in all units; without declarations those alone that only use, in each unit
+/// in which they denote something. Tokens of library texts are left out. What the token denotes in one unit counts in each. They stand in
+/// order of text, then place, each once. The cost is that of `definition`, and without declarations a look-up a unit and mention more. It
+/// fails for want of memory alone.
+#[tactic(auto, unfolding(crate::specs::References::references))]
+pub fn references(
+    alloc: Global,
+    units: &[IndexedUnit],
+    tok: &TokId,
+    declarations: bool,
+) -> Result<Vec<TokId>, AllocError>
+    ensures { IfOk result (λ out. out.items ≡ spec.references units.now tok.now declarations) }
+{
+    let anchors = anchors_of(alloc, units, tok)?;
+    let tokens = tokens_of(alloc, Asked::All, units, tok, &anchors)?;
+    let out = all_wanted(alloc, units, declarations, tokens.as_slice())?;
+    Ok(out)
+}
+
+/// A unit that speaks for a token, and the entity that the token denotes there.
+#[derive(Clone, Copy, Drop)]
+pub struct Speaker<'a> {
+    pub unit: &'a IndexedUnit,
+    pub entity: &'a Entity,
+}
+
+fn with_unit<'a>(unit: &'a IndexedUnit, anchor: &Anchor) -> Option<Speaker<'a>>
+    ensures { option_map speech_of result ≡ Speaking.entity_at anchor.now unit.now }
+{
+    match unit.entity(anchor) {
+        Some(entity) => Some(Speaker { unit, entity }),
+        None => None,
+    }
+}
+
+/// The first unit in which a token denotes an entity, and the entity that its first occurrence there denotes; none exactly where no
+/// unit has the token as an occurrence, or the unit that has it lacks the entity. It takes no memory, and a look-up a unit.
+pub fn speaking<'a>(units: &'a [IndexedUnit], tok: &TokId) -> Option<Speaker<'a>>
+    ensures { option_map speech_of result ≡ Speaking.speaking units.now tok.now }
+{
+    let mut rest = units;
+    'units: while let Some((unit, behind)) = rest.split_first() {
+        if let Some(occ) = unit.first(tok) {
+            return with_unit(unit, &occ.anchor);
+        }
+        rest = behind;
+    }
+    None
+}
