@@ -3,4 +3,6 @@ pub mod ChainLemmas
 pub mod LookLemmas
 pub mod OrderLemmas
 pub mod SharedLemmas
+pub mod SymbolLemmas
+pub mod UnderLemmas
 pub mod WalkLemmas

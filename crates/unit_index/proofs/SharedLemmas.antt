@@ -25,7 +25,7 @@ any_append : {A : Type 0} (f : A → Bool) (xs ys : List A) → list_any f (xs +
 any_append f [] ys = refl
 any_append f (x ∷ xs) ys = ap (λ b. f x || b) (any_append f xs ys) ∙ sym (or_assoc (f x) (list_any f xs) (list_any f ys))
 
-any_map : {A B : Type 0} (f : B → Bool) (g : A → B) (xs : List A) → list_any f (map g xs) ≡ list_any (λ x. f (g x)) xs
+pub any_map : {A B : Type 0} (f : B → Bool) (g : A → B) (xs : List A) → list_any f (map g xs) ≡ list_any (λ x. f (g x)) xs
 any_map f g [] = refl
 any_map f g (x ∷ xs) = ap (λ b. f (g x) || b) (any_map f g xs)
 
@@ -45,7 +45,7 @@ pub any_filter : {A : Type 0} (f p : A → Bool) (xs : List A) → list_any f (f
 any_filter f p [] = refl
 any_filter f p (x ∷ xs) = any_if f (p x) x (filter p xs) ∙ ap (λ b. (f x && p x) || b) (any_filter f p xs)
 
-any_same : {A : Type 0} (f g : A → Bool) → ((x : A) → f x ≡ g x) → (xs : List A) → list_any f xs ≡ list_any g xs
+pub any_same : {A : Type 0} (f g : A → Bool) → ((x : A) → f x ≡ g x) → (xs : List A) → list_any f xs ≡ list_any g xs
 any_same f g h [] = refl
 any_same f g h (x ∷ xs) = (λ i. h x i || list_any f xs) ∙ ap (λ b. g x || b) (any_same f g h xs)
 

@@ -1,5 +1,6 @@
 pub mod Chains
 pub mod Definition
+pub mod Hover
 pub mod Kept
 pub mod Known
 pub mod Occurrences
@@ -8,5 +9,7 @@ pub mod Seen
 pub mod Sets
 pub mod Shared
 pub mod Speaking
+pub mod Symbols
 pub mod Tokens
+pub mod Under
 pub mod Walks

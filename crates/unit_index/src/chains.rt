@@ -31,8 +31,9 @@ pub(crate) fn counts(role: Role) -> bool
     }
 }
 
+/// No places of tokens.
 #[tactic(auto, unfolding(crate::specs::Chains::at_tok))]
-fn no_tokens(alloc: Global) -> HashMap<TokId, usize>
+pub(crate) fn no_tokens(alloc: Global) -> HashMap<TokId, usize>
     ensures { (q : Token) → spec.at_tok result q ≡ None }
 {
     HashMap::new(alloc)
@@ -46,8 +47,9 @@ pub(crate) fn first_at(places: &HashMap<TokId, usize>, tok: &TokId) -> Option<us
     places.get(tok).copied()
 }
 
+/// The place of a token from now on.
 #[tactic(auto, unfolding(crate::specs::Chains::at_tok))]
-fn put_token(
+pub(crate) fn put_token(
     places: &mut HashMap<TokId, usize>,
     tok: &TokId,
     place: usize,

@@ -3,10 +3,16 @@
 
 mod answers;
 mod chains;
+mod hover;
 mod indexed;
+mod outline;
 mod sets;
 mod shared;
+mod under;
 mod walks;
 
 pub use answers::{Speaker, definition, references, speaking};
+pub use hover::hover_text;
 pub use indexed::IndexedUnit;
+pub use outline::{symbol_number, symbols};
+pub use under::{are_apart, token_under};

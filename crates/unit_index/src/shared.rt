@@ -135,8 +135,8 @@ fn mentions(
     Ok(tokens)
 }
 
-// The tokens of a set, ascending.
-fn listed(alloc: Global, tokens: BTreeSet<TokId>) -> Result<Vec<TokId>, AllocError>
+/// The tokens of a set, ascending.
+pub(crate) fn listed(alloc: Global, tokens: BTreeSet<TokId>) -> Result<Vec<TokId>, AllocError>
     ensures { IfOk result (λ list. (ts : List Token) → ((q : Token) → sets.has_tok tokens q ≡ list_any (λ t. spec.same_tok t q) ts) → list.items ≡ in_order ts) }
 {
     let mut list = Vec::with_capacity(alloc, tokens.len())?;
