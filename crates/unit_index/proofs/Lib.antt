@@ -1,5 +1,7 @@
 pub mod AnswerLemmas
 pub mod ChainLemmas
+pub mod GroupLemmas
+pub mod IntroducedLemmas
 pub mod LookLemmas
 pub mod OrderLemmas
 pub mod SharedLemmas

@@ -12,8 +12,8 @@ use Rattle.unit_index.specs.Occurrences.{is_at, is_of}
 use Rattle.unit_index.specs.Walks.{IsOnTheWay, Stands}
 use Rattle.unit_index.proofs.WalkLemmas.{leads, is_token, is_anchor, slice_at}
 
-pub tokens_lead : {m : UnitMeaning} {at : TokId → Option ℕ} {next_at : List (Option ℕ)} {of : Anchor → Option ℕ} {next_of : List (Option ℕ)} {named : Anchor → Option ℕ} →
-    IsKept m at next_at of next_of named → (os : List Occ) (next : List (Option ℕ)) (q : TokId) (o : Option ℕ)
+pub tokens_lead : {m : UnitMeaning} {at : TokId → Option ℕ} {next_at : List (Option ℕ)} {of : Anchor → Option ℕ} {next_of : List (Option ℕ)} {named : Anchor → Option ℕ} {in_file : List ℕ → Bool} →
+    IsKept m at next_at of next_of named in_file → (os : List Occ) (next : List (Option ℕ)) (q : TokId) (o : Option ℕ)
     → os ≡ m.occs → next ≡ next_at → o ≡ at q → IsOnTheWay by_token os next o
 tokens_lead {m} kept os next q o here links is =
     let stands : Stands by_token m.occs o = subst (Stands by_token m.occs) (sym (is ∙ kept.tokens q)) (leads by_token (is_at q) m.occs [] m.occs 0 (is_token q) refl refl).0 in
@@ -22,13 +22,13 @@ tokens_lead {m} kept os next q o here links is =
       stands = subst (λ zs. Stands by_token zs o) (sym here) stands;
     }
 
-pub tokens_left : {m : UnitMeaning} {at : TokId → Option ℕ} {next_at : List (Option ℕ)} {of : Anchor → Option ℕ} {next_of : List (Option ℕ)} {named : Anchor → Option ℕ} →
-    IsKept m at next_at of next_of named → (os : List Occ) (q : TokId) (o : Option ℕ) → os ≡ m.occs → o ≡ at q → left by_token os o ≡ filter (is_at q) m.occs
+pub tokens_left : {m : UnitMeaning} {at : TokId → Option ℕ} {next_at : List (Option ℕ)} {of : Anchor → Option ℕ} {next_of : List (Option ℕ)} {named : Anchor → Option ℕ} {in_file : List ℕ → Bool} →
+    IsKept m at next_at of next_of named in_file → (os : List Occ) (q : TokId) (o : Option ℕ) → os ≡ m.occs → o ≡ at q → left by_token os o ≡ filter (is_at q) m.occs
 tokens_left {m} kept os q o here is =
     ap (λ zs. left by_token zs o) here ∙ ap (left by_token m.occs) (is ∙ kept.tokens q) ∙ (leads by_token (is_at q) m.occs [] m.occs 0 (is_token q) refl refl).1
 
-pub anchors_lead : {m : UnitMeaning} {at : TokId → Option ℕ} {next_at : List (Option ℕ)} {of : Anchor → Option ℕ} {next_of : List (Option ℕ)} {named : Anchor → Option ℕ} →
-    IsKept m at next_at of next_of named → (os : List Occ) (next : List (Option ℕ)) (q : Anchor) (o : Option ℕ)
+pub anchors_lead : {m : UnitMeaning} {at : TokId → Option ℕ} {next_at : List (Option ℕ)} {of : Anchor → Option ℕ} {next_of : List (Option ℕ)} {named : Anchor → Option ℕ} {in_file : List ℕ → Bool} →
+    IsKept m at next_at of next_of named in_file → (os : List Occ) (next : List (Option ℕ)) (q : Anchor) (o : Option ℕ)
     → os ≡ m.occs → next ≡ next_of → o ≡ of q → IsOnTheWay by_anchor os next o
 anchors_lead {m} kept os next q o here links is =
     let stands : Stands by_anchor m.occs o = subst (Stands by_anchor m.occs) (sym (is ∙ kept.anchors q)) (leads by_anchor (is_of q) m.occs [] m.occs 0 (is_anchor q) refl refl).0 in
@@ -37,8 +37,8 @@ anchors_lead {m} kept os next q o here links is =
       stands = subst (λ zs. Stands by_anchor zs o) (sym here) stands;
     }
 
-pub anchors_left : {m : UnitMeaning} {at : TokId → Option ℕ} {next_at : List (Option ℕ)} {of : Anchor → Option ℕ} {next_of : List (Option ℕ)} {named : Anchor → Option ℕ} →
-    IsKept m at next_at of next_of named → (os : List Occ) (q : Anchor) (o : Option ℕ) → os ≡ m.occs → o ≡ of q → left by_anchor os o ≡ filter (is_of q) m.occs
+pub anchors_left : {m : UnitMeaning} {at : TokId → Option ℕ} {next_at : List (Option ℕ)} {of : Anchor → Option ℕ} {next_of : List (Option ℕ)} {named : Anchor → Option ℕ} {in_file : List ℕ → Bool} →
+    IsKept m at next_at of next_of named in_file → (os : List Occ) (q : Anchor) (o : Option ℕ) → os ≡ m.occs → o ≡ of q → left by_anchor os o ≡ filter (is_of q) m.occs
 anchors_left {m} kept os q o here is =
     ap (λ zs. left by_anchor zs o) here ∙ ap (left by_anchor m.occs) (is ∙ kept.anchors q) ∙ (leads by_anchor (is_of q) m.occs [] m.occs 0 (is_anchor q) refl refl).1
 

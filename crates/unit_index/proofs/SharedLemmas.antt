@@ -54,7 +54,7 @@ any_joined : {A B : Type 0} (f : B → Bool) (g : A → List B) (xs : List A) �
 any_joined f g [] = refl
 any_joined f g (x ∷ xs) = any_append f (g x) (flat_map g xs) ∙ ap (λ b. list_any f (g x) || b) (any_joined f g xs)
 
-none_of : {A : Type 0} (f : A → Bool) (xs : List A) → list_any (λ x. f x && false) xs ≡ false
+pub none_of : {A : Type 0} (f : A → Bool) (xs : List A) → list_any (λ x. f x && false) xs ≡ false
 none_of f [] = refl
 none_of f (x ∷ xs) = ap (λ b. b || list_any (λ y. f y && false) xs) (and_false (f x)) ∙ none_of f xs
   where
@@ -68,7 +68,7 @@ or_swap false true true d = refl
 or_swap false true false d = refl
 or_swap false false c d = refl
 
-any_or : {A : Type 0} (f g : A → Bool) (xs : List A) → (list_any f xs || list_any g xs) ≡ list_any (λ x. f x || g x) xs
+pub any_or : {A : Type 0} (f g : A → Bool) (xs : List A) → (list_any f xs || list_any g xs) ≡ list_any (λ x. f x || g x) xs
 any_or f g [] = refl
 any_or f g (x ∷ xs) = or_swap (f x) (list_any f xs) (g x) (list_any g xs) ∙ ap (λ b. (f x || g x) || b) (any_or f g xs)
 

@@ -1,6 +1,9 @@
 pub mod Chains
 pub mod Definition
+pub mod Files
+pub mod Groups
 pub mod Hover
+pub mod Introduced
 pub mod Kept
 pub mod Known
 pub mod Occurrences

@@ -1,84 +1,20 @@
 // The questions on a token, over all units.
 ghost use Rattle.std.specs.Prelude.{◌≡◌, option_map, IfOk};
-ghost use Rattle.std.specs.List.{filter, list_any};
+ghost use Rattle.std.specs.List.{filter};
 ghost use Rattle.unit_index.specs.Definition.{definition, defining};
-ghost use Rattle.unit_index.specs.Occurrences.{occs_of, shared};
+ghost use Rattle.unit_index.specs.Occurrences.{shared};
 ghost use Rattle.unit_index.specs.References as spec;
 ghost use Rattle.unit_index.specs.Seen.{speech_of};
 ghost use Rattle.unit_index.specs.Speaking;
 ghost use Rattle.unit_index.specs.Tokens.{in_order, is_outside};
 
-use crate::indexed::IndexedUnit;
+use crate::introduced::uses_among;
 use crate::sets::is_outside;
 use crate::shared::{Asked, anchors_of, tokens_of};
-use scope_tables::{Anchor, Entity, Role};
+use crate::unit::IndexedUnit;
+use scope_tables::{Anchor, Entity};
 use std::alloc::{AllocError, Global};
 use tok_data::TokId;
-
-fn introduces(role: Role) -> bool
-    ensures { result ≡ spec.introduces role }
-{
-    match role {
-        Role::Defines => true,
-        Role::Declares => true,
-        Role::Uses => false,
-        Role::Pasted => false,
-        Role::Spelled => false,
-    }
-}
-
-// Whether the token defines or declares something in the unit.
-fn introduces_here(unit: &IndexedUnit, tok: &TokId) -> bool
-    ensures { result ≡ list_any (spec.is_introduced tok.now) (occs_of unit.now) }
-{
-    let mut walk = unit.at(tok);
-    'occs: while let Some(occ) = walk.step() {
-        if introduces(occ.role) {
-            return true;
-        }
-    }
-    false
-}
-
-fn is_introduced(units: &[IndexedUnit], tok: &TokId) -> bool
-    ensures { result ≡ spec.introduced units.now tok.now }
-{
-    let mut rest = units;
-    'units: while let Some((unit, behind)) = rest.split_first() {
-        if introduces_here(unit, tok) {
-            return true;
-        }
-        rest = behind;
-    }
-    false
-}
-
-// Whether a mention is asked for.
-fn is_wanted(units: &[IndexedUnit], declarations: bool, tok: &TokId) -> bool
-    ensures { result ≡ spec.is_wanted units.now declarations tok.now }
-{
-    is_outside(tok) && (declarations || !is_introduced(units, tok))
-}
-
-fn all_wanted(
-    alloc: Global,
-    units: &[IndexedUnit],
-    declarations: bool,
-    tokens: &[TokId],
-) -> Result<Vec<TokId>, AllocError>
-    ensures { IfOk result (λ out. out.items ≡ filter (spec.is_wanted units.now declarations) tokens.now) }
-{
-    let mut out = Vec::new(alloc);
-    let mut rest = tokens;
-    'tokens: while let Some((tok, behind)) = rest.split_first() {
-        rest = behind;
-        if !is_wanted(units, declarations, tok) {
-            continue;
-        }
-        out.push(tok.copy()?)?;
-    }
-    Ok(out)
-}
 
 fn all_outside(alloc: Global, tokens: &[TokId]) -> Result<Vec<TokId>, AllocError>
     ensures { IfOk result (λ out. out.items ≡ filter is_outside tokens.now) }
@@ -125,10 +61,27 @@ pub fn definition(
     Ok(out)
 }
 
+// With declarations all outside the library, else those that only use.
+fn narrowed(
+    alloc: Global,
+    units: &[IndexedUnit],
+    declarations: bool,
+    tokens: &[TokId],
+) -> Result<Vec<TokId>, AllocError>
+    ensures { IfOk result (λ out. out.items ≡ filter (spec.is_wanted units.now declarations) tokens.now) }
+{
+    if declarations {
+        let out = all_outside(alloc, tokens)?;
+        return Ok(out);
+    }
+    let out = uses_among(alloc, units, tokens)?;
+    Ok(out)
+}
+
 /// The tokens that mention the entities which a token denotes, in all units; without declarations those alone that only use, in each unit
 /// in which they denote something. Tokens of library texts are left out. What the token denotes in one unit counts in each. They stand in
-/// order of text, then place, each once. The cost is that of `definition`, and without declarations a look-up a unit and mention more. It
-/// fails for want of memory alone.
+/// order of text, then place, each once. The cost is that of `definition`; without declarations a look-up more for
+/// each text in which a unit declares something, and for each mention and unit that declares something in the mention's text. It fails for want of memory alone.
 #[tactic(auto, unfolding(crate::specs::References::references))]
 pub fn references(
     alloc: Global,
@@ -140,7 +93,7 @@ pub fn references(
 {
     let anchors = anchors_of(alloc, units, tok)?;
     let tokens = tokens_of(alloc, Asked::All, units, tok, &anchors)?;
-    let out = all_wanted(alloc, units, declarations, tokens.as_slice())?;
+    let out = narrowed(alloc, units, declarations, tokens.as_slice())?;
     Ok(out)
 }
 

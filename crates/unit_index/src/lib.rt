@@ -3,16 +3,20 @@
 
 mod answers;
 mod chains;
+mod files;
+mod groups;
 mod hover;
 mod indexed;
+mod introduced;
 mod outline;
 mod sets;
 mod shared;
 mod under;
+mod unit;
 mod walks;
 
 pub use answers::{Speaker, definition, references, speaking};
 pub use hover::hover_text;
-pub use indexed::IndexedUnit;
 pub use outline::{symbol_number, symbols};
 pub use under::{are_apart, token_under};
+pub use unit::IndexedUnit;

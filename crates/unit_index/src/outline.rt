@@ -9,9 +9,9 @@ ghost use Rattle.unit_index.specs.Symbols as spec;
 ghost use Rattle.unit_index.specs.Tokens.{in_order};
 
 use crate::chains::{first_at, no_tokens as no_places, put_token};
-use crate::indexed::IndexedUnit;
 use crate::sets::{add_token, no_tokens};
 use crate::shared::listed;
+use crate::unit::IndexedUnit;
 use scope_tables::{Symbol, SymbolKind};
 use std::alloc::{AllocError, Global};
 use std::collections::{BTreeSet, HashMap};

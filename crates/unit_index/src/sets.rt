@@ -50,6 +50,14 @@ pub(crate) fn add_token(tokens: &mut BTreeSet<TokId>, tok: &TokId) -> Result<(),
     }
 }
 
+//// Whether a set has a token.
+#[tactic(auto, unfolding(crate::specs::Sets::has_tok))]
+pub(crate) fn has_token(tokens: &BTreeSet<TokId>, tok: &TokId) -> bool
+    ensures { result ≡ spec.has_tok tokens.now tok.now }
+{
+    tokens.contains(tok)
+}
+
 /// Whether a text is one of the library's.
 fn is_library(file: &FileId) -> bool
     ensures { result ≡ Tokens.is_library file.now }

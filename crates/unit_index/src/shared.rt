@@ -8,8 +8,8 @@ ghost use Rattle.unit_index.specs.Sets as sets;
 ghost use Rattle.unit_index.specs.Shared as found;
 ghost use Rattle.unit_index.specs.Tokens.{in_order};
 
-use crate::indexed::IndexedUnit;
 use crate::sets::{add_anchor, add_token, no_anchors, no_tokens};
+use crate::unit::IndexedUnit;
 use crate::walks::Walk;
 use indexmap::IndexSet;
 use scope_tables::{Anchor, Occ, Role};

@@ -1,16 +1,19 @@
 // What a unit is made of, and what it says of a token or an anchor.
-ghost use Rattle.std.specs.Prelude.{◌≡◌, option_map, IfOk};
-ghost use Rattle.std.specs.List.{filter, find, slice_get};
+ghost use Rattle.std.specs.Prelude.{◌≡◌, ℕ, List, option_map, IfOk};
+ghost use Rattle.std.specs.List.{filter, find, list_any, slice_get};
+ghost use Rattle.unit_index.specs.Files.{introduces_in};
+ghost use Rattle.unit_index.specs.Groups.{same_file};
 ghost use Rattle.unit_index.specs.Occurrences as spec;
 ghost use Rattle.unit_index.specs.Speaking.{is_named};
 
-use super::IndexedUnit;
+use super::Indexed;
 use crate::chains::{By, chain_anchors, chain_tokens, first_at, first_of, place_entities};
+use crate::files::files_of;
 use crate::walks::Walk;
 use scope_tables::{Anchor, Entity, Occ, UnitMeaning};
 use shared_list::Listing;
 use std::alloc::{AllocError, Global};
-use tok_data::TokId;
+use tok_data::{FileId, TokId};
 use uri_paths::Path;
 
 fn occ_at(occs: &[Occ], place: usize) -> Option<&Occ>
@@ -25,21 +28,22 @@ fn entity_at(entities: &[Entity], place: usize) -> Option<&Entity>
     entities.get(place)
 }
 
-impl IndexedUnit {
+impl Indexed {
     /// A unit at a path, which reads the texts at these paths and has this meaning. Its cost is linear in the number of
     /// occurrences and entities. It fails for want of memory alone.
-    pub fn of(
+    pub(crate) fn of(
         alloc: Global,
         path: Path,
         reads: Listing<Path>,
         meaning: UnitMeaning,
-    ) -> Result<IndexedUnit, AllocError>
+    ) -> Result<Indexed, AllocError>
         ensures { IfOk result (λ u. u ≡ record { path = path; reads = reads; meaning = meaning }) }
     {
         let (tokens, next_of_token) = chain_tokens(alloc, meaning.occs.as_slice())?;
         let (anchors, next_of_anchor) = chain_anchors(alloc, meaning.occs.as_slice())?;
         let entities = place_entities(alloc, meaning.entities.as_slice())?;
-        Ok(IndexedUnit {
+        let files = files_of(alloc, meaning.occs.as_slice())?;
+        Ok(Indexed {
             path,
             reads,
             meaning,
@@ -48,25 +52,26 @@ impl IndexedUnit {
             anchors,
             next_of_anchor,
             entities,
+            files,
         })
     }
 
     /// Its path.
-    pub fn path(&self) -> &Path
+    pub(crate) fn path(&self) -> &Path
         ensures { result.now ≡ self.now.path }
     {
         &self.path
     }
 
     /// The paths whose texts it reads.
-    pub fn reads(&self) -> &[Path]
+    pub(crate) fn reads(&self) -> &[Path]
         ensures { result.now ≡ self.now.reads }
     {
         self.reads.as_slice()
     }
 
     /// What it means.
-    pub fn meaning(&self) -> &UnitMeaning
+    pub(crate) fn meaning(&self) -> &UnitMeaning
         ensures { result.now ≡ self.now.meaning }
     {
         &self.meaning
@@ -104,6 +109,13 @@ impl IndexedUnit {
             Some(place) => occ_at(self.meaning.occs.as_slice(), place),
             None => None,
         }
+    }
+
+    /// The texts in which it defines or declares something, each once.
+    pub(crate) fn files(&self) -> &[FileId]
+        ensures { (f : List ℕ) → list_any (same_file f) result.now ≡ list_any (introduces_in f) self.now.meaning.occs }
+    {
+        self.files.as_slice()
     }
 
     /// The entity with this anchor.

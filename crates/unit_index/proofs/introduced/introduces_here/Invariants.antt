@@ -2,7 +2,7 @@ use Rattle.std.proofs.Common.{◌≡◌, length}
 use Rattle.std.specs.List.{filter, list_any}
 use Rattle.unit_index.specs.Occurrences.{is_at, occs_of}
 use Rattle.unit_index.specs.References.{introduces}
-use Rattle.unit_index.proofs.answers.introduces_here.Given as goal
+use Rattle.unit_index.proofs.introduced.introduces_here.Given as goal
 
 abbrev pub invariant-occs : goal.invariant-occs
 invariant-occs l = list_any (λ o. introduces o.role) l.walk ≡ list_any (λ o. introduces o.role) (filter (is_at l.tok) (occs_of l.unit))

@@ -2,7 +2,7 @@ use Rattle.std.proofs.Common.{ap, ◌∙◌}
 use Rattle.std.specs.List.{filter}
 use Rattle.unit_index.specs.Occurrences.{is_of}
 use Rattle.unit_index.proofs.LookLemmas.{anchors_lead, anchors_left}
-use Rattle.unit_index.proofs.indexed.IndexedUnit.of_anchor.Goals as goal
+use Rattle.unit_index.proofs.indexed.Indexed.of_anchor.Goals as goal
 
 pub new-requires : goal.new-requires
 new-requires c = anchors_lead c.self.invariant _ _ c.args.anchor.now _ c.as_slice.ensures c.as_slice-2.ensures.value c.first_of.ensures

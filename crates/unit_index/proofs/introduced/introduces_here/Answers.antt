@@ -2,7 +2,7 @@ use Rattle.std.proofs.Common.{sym, ◌∙◌}
 use Rattle.unit_index.specs.Occurrences.{is_at, occs_of}
 use Rattle.unit_index.specs.References.{introduces}
 use Rattle.unit_index.proofs.SharedLemmas.{any_filter, any_here, any_nowhere}
-use Rattle.unit_index.proofs.answers.introduces_here.Goals as goal
+use Rattle.unit_index.proofs.introduced.introduces_here.Goals as goal
 
 pub returns-then-introduces : goal.returns-then-introduces
 returns-then-introduces c =

@@ -2,7 +2,7 @@ use Rattle.std.proofs.Common.{ap, Some, None, ◌∙◌}
 use Rattle.std.specs.List.{find, slice_get}
 use Rattle.unit_index.specs.Speaking.{is_named}
 use Rattle.unit_index.proofs.LookLemmas.{found}
-use Rattle.unit_index.proofs.indexed.IndexedUnit.entity.Goals as goal
+use Rattle.unit_index.proofs.indexed.Indexed.entity.Goals as goal
 
 pub returns-in-Some : goal.returns-in-Some
 returns-in-Some c =
