@@ -1,0 +1,11 @@
+use Rattle.std.proofs.Common.{◌≡◌, length}
+use Rattle.rename_core.specs.Found.{name_told}
+use Rattle.rename_core.specs.Lists.{listed}
+use Rattle.rename_core.specs.Occurrences.{same_tok, first_some}
+use Rattle.rename_core.proofs.showing.external.Given as goal
+
+abbrev pub invariant-toks : goal.invariant-toks
+invariant-toks l = first_some (λ t. name_told (listed same_tok l.told t)) l.rest ≡ first_some (λ t. name_told (listed same_tok l.told t)) l.toks
+
+abbrev pub decreases-toks : goal.decreases-toks
+decreases-toks l = length l.rest

@@ -1,0 +1,9 @@
+pub mod Classes
+pub mod Found
+pub mod Lists
+pub mod Mentions
+pub mod Occurrences
+pub mod Refusals
+pub mod Showing
+pub mod Steps
+pub mod Walked
