@@ -1,17 +1,16 @@
 -- What was come to from a token, put in order, is its class.
-use Rattle.std.proofs.Common.{◌≡◌, Bool, true, List, map, Option, inl, inr, refl, sym, ap, subst, ◌∙◌}
-use Rattle.std.specs.List.{find, list_any}
-use Rattle.std.specs.Prelude.{option_map, ◌↔◌}
+use Rattle.std.proofs.Common.{◌≡◌, Bool, List, map, sym, ap, subst, ◌∙◌}
+use Rattle.std.specs.List.{find}
+use Rattle.std.specs.Prelude.{option_map}
 use Rattle.tok_data.specs.declared.sources.TokId.{TokId}
 use Rattle.scope_tables.specs.declared.entities.Occ.{Occ}
-use Rattle.rename_core.specs.declared.class.TwoMeanings.{TwoMeanings}
 use Rattle.rename_core.specs.declared.mentions.Told.{Told}
 use Rattle.rename_core.specs.declared.mentions.Denoted.{Denoted}
 use Rattle.rename_core.specs.Classes.{IsClass}
 use Rattle.rename_core.specs.Found.{in_order, meanings_told, name_told, pasted_from}
 use Rattle.rename_core.specs.Mentions.{same_denoted, denoted_by, tolds, tokens_of}
 use Rattle.rename_core.specs.Occurrences.{same_tok, in_class, first_some}
-use Rattle.rename_core.specs.Showing.{external, meanings_of, name_in, pasted, pasted_in, spelled, spelled_in, two, two_in}
+use Rattle.rename_core.specs.Showing.{external, pasted, spelled, spelled_in, two}
 use Rattle.rename_core.specs.Steps.{Seen}
 use Rattle.rename_core.specs.Walked.{IsWalked}
 use Rattle.rename_core.proofs.LinkLemmas.{keys, tokens, chain_reaches, reaches_chain}

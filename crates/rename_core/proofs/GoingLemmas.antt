@@ -1,5 +1,5 @@
 -- The walk over what units say, step by step.
-use Rattle.std.proofs.Common.{◌≡◌, ℕ, ◌+◌, List, [], map, Option, Some, None, sym, ap, subst, ◌∙◌}
+use Rattle.std.proofs.Common.{◌≡◌, ℕ, ◌+◌, List, [], map, Some, None, sym, ap, subst, ◌∙◌}
 use Rattle.std.specs.List.{slice_get}
 use Rattle.tok_data.specs.declared.sources.TokId.{TokId}
 use Rattle.rename_core.specs.declared.mentions.Told.{Told}

@@ -1,6 +1,9 @@
+mod ApartLemmas
 mod ClassLemmas
+mod CompareLemmas
 mod GoingLemmas
 mod LinkLemmas
+mod LookupLemmas
 mod MentionLemmas
 mod OrderLemmas
 mod PastedLemmas

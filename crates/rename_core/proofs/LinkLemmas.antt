@@ -1,14 +1,12 @@
 -- Tokens are linked exactly where they share something denoted, so chains along the lists lead where chains of links do.
-use Rattle.std.proofs.Common.{arith, rules, ◌≡◌, ℕ, suc, zero, ◌+◌, Bool, true, false, ◌&&◌, ◌||◌, List, [], ◌∷◌, ◌++◌, length, map, Option, Some, None, inl, inr, refl, sym, ap, subst, ◌∙◌}
+use Rattle.std.proofs.Common.{arith, ◌≡◌, ℕ, suc, zero, ◌+◌, Bool, true, false, ◌&&◌, List, [], ◌∷◌, ◌++◌, map, Option, Some, None, inl, inr, refl, sym, ap, subst, ◌∙◌}
 use Rattle.std.proofs.lemmas.List.{map-append}
-use Rattle.std.specs.Bool.{Decides}
 use Rattle.std.specs.List.{list_any, slice_get}
-use Rattle.std.specs.Prelude.{if◌then◌else◌, ◌⊎◌, ◌↔◌}
+use Rattle.std.specs.Prelude.{if◌then◌else◌, ◌⊎◌}
 use Rattle.tok_data.specs.declared.sources.TokId.{TokId}
 use Rattle.scope_tables.specs.declared.entities.Anchor.{Anchor}
 use Rattle.scope_tables.specs.declared.entities.Anchor.TheVariants.{External, Local, Made, Macro}
 use Rattle.scope_tables.specs.declared.entities.Occ.{Occ}
-use Rattle.rename_core.specs.declared.mentions.Told.{Told}
 use Rattle.rename_core.specs.declared.mentions.Denoted.{Denoted}
 use Rattle.rename_core.specs.declared.mentions.Denoted.TheVariants.{Everywhere, Within}
 use Rattle.rename_core.specs.Classes.{Has, Linked, in_a_unit, by_name, Reaches, one, more}
@@ -16,7 +14,7 @@ use Rattle.rename_core.specs.Mentions.{same_denoted, denoted_in, denoted_by, tol
 use Rattle.rename_core.specs.Occurrences.{same_tok, same_anchor, counts, is_at, anchors_at, denotes}
 use Rattle.rename_core.specs.Walked.{Shares, Chain, first, further}
 use Rattle.rename_core.proofs.MentionLemmas.{tok_exact, anchor_exact, denoted_exact}
-use Rattle.rename_core.proofs.WalkLemmas.{either_true, has_front, has_back, has_none, has_parts, or_first, or_later}
+use Rattle.rename_core.proofs.WalkLemmas.{either_true, has_front, has_back, has_parts, or_first, or_later}
 
 pub both : (a b : Bool) → a && b ≡ true → (a ≡ true) × (b ≡ true)
 both true true e = (refl, refl)

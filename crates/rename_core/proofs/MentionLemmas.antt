@@ -1,5 +1,5 @@
 -- Lists of what units say, made occurrence by occurrence and unit by unit.
-use Rattle.std.proofs.Common.{arith, rules, ◌≡◌, ℕ, suc, zero, ◌+◌, Bool, true, false, ◌&&◌, ◌||◌, List, [], ◌∷◌, ◌++◌, length, drop, map, Option, Some, None, refl, sym, ap, subst, ◌∙◌, append_assoc, append-nil}
+use Rattle.std.proofs.Common.{arith, rules, ◌≡◌, ℕ, suc, zero, ◌+◌, Bool, true, false, ◌||◌, List, [], ◌∷◌, ◌++◌, length, drop, map, Option, Some, None, refl, sym, ap, ◌∙◌, append_assoc}
 use denote.Ref.{Bor}
 use Rattle.std.proofs.lemmas.Option.{slice_get-map, slice_get_read}
 use Rattle.std.specs.Bool.{Decides}
@@ -11,8 +11,8 @@ use Rattle.scope_tables.specs.declared.entities.Occ.{Occ}
 use Rattle.rename_core.specs.declared.mentions.Told.{Told}
 use Rattle.rename_core.specs.declared.mentions.Denoted.{Denoted}
 use Rattle.rename_core.specs.Found.{pasted_at, pasted_from}
-use Rattle.rename_core.specs.Mentions.{same_denoted, denoted_in, told_in, is_of, tolds, tokens_in, tokens_of}
-use Rattle.rename_core.specs.Occurrences.{same_tok, same_anchor, counts, is_at, anchors_at, or_later}
+use Rattle.rename_core.specs.Mentions.{same_denoted, told_in, is_of, tolds, tokens_in, tokens_of}
+use Rattle.rename_core.specs.Occurrences.{same_tok, same_anchor, is_at, anchors_at, or_later}
 use Rattle.rename_core.specs.Showing.{is_spelled_at, spelled_in}
 
 pub tok_exact : (s t : TokId) → Decides (same_tok s t) (s ≡ t)

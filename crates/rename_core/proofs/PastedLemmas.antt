@@ -1,21 +1,21 @@
 -- A token that was made denotes something of the class exactly where what it denotes was come to.
-use Rattle.std.proofs.Common.{arith, rules, ◌≡◌, ℕ, suc, zero, ◌+◌, Bool, true, false, ◌&&◌, ◌||◌, List, [], ◌∷◌, ◌++◌, drop, map, Option, Some, None, inl, inr, refl, sym, ap, subst, ◌∙◌}
+use Rattle.std.proofs.Common.{arith, ◌≡◌, ℕ, suc, ◌+◌, Bool, true, false, ◌&&◌, List, [], ◌∷◌, Some, inl, inr, refl, sym, ap, subst, ◌∙◌}
 use Rattle.std.specs.List.{find, list_any, slice_get}
-use Rattle.std.specs.Prelude.{if◌then◌else◌, option_map, ◌⊎◌, ◌↔◌}
+use Rattle.std.specs.Prelude.{option_map}
 use Rattle.tok_data.specs.declared.sources.TokId.{TokId}
 use Rattle.scope_tables.specs.declared.entities.Anchor.{Anchor}
 use Rattle.scope_tables.specs.declared.entities.Anchor.TheVariants.{External, Local, Made, Macro}
 use Rattle.scope_tables.specs.declared.entities.Occ.{Occ}
 use Rattle.rename_core.specs.declared.mentions.Denoted.{Denoted}
 use Rattle.rename_core.specs.Classes.{Has}
-use Rattle.rename_core.specs.Found.{is_pasted_as, pasted_at, pasted_from}
+use Rattle.rename_core.specs.Found.{is_pasted_as, pasted_from}
 use Rattle.rename_core.specs.Mentions.{same_denoted, denoted_in}
 use Rattle.rename_core.specs.Occurrences.{same_tok, same_anchor, counts, in_class, or_later, first_some}
 use Rattle.rename_core.specs.Showing.{across, has_anchor, class_has, is_pasted, is_pasted_of, pasted_in}
 use Rattle.rename_core.specs.Steps.{Seen}
-use Rattle.rename_core.specs.Walked.{Shares, Chain, first, further, From, IsWalked}
-use Rattle.rename_core.proofs.LinkLemmas.{Occurs, Says, both, and_true, keys_say, says_keys, says_tokens, keys, tokens, get_has, has_get, same_unit, anchor_is_same, some_unit, occurs_denotes, denotes_occurs}
-use Rattle.rename_core.proofs.MentionLemmas.{tok_exact, anchor_exact, denoted_exact}
+use Rattle.rename_core.specs.Walked.{Chain, first, From, IsWalked}
+use Rattle.rename_core.proofs.LinkLemmas.{Says, both, and_true, keys_say, says_keys, says_tokens, keys, tokens, get_has, has_get, same_unit, anchor_is_same, some_unit}
+use Rattle.rename_core.proofs.MentionLemmas.{anchor_exact}
 use Rattle.rename_core.proofs.WalkLemmas.{either_true, or_first, or_later as or_second}
 
 any_has : {A : Type 0} (p : A → Bool) (xs : List A) (x : A) → Has xs x → p x ≡ true → list_any p xs ≡ true

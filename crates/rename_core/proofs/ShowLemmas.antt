@@ -1,13 +1,11 @@
 -- What is found by the lists of tokens and of what they denote is what the occurrences of the units say.
-use Rattle.std.proofs.Common.{arith, rules, ◌≡◌, ℕ, suc, zero, ◌+◌, ◌<◌, ◌==◌, Bool, true, false, ◌&&◌, ◌||◌, List, [], ◌∷◌, ◌++◌, map, Option, Some, None, inl, inr, refl, sym, ap, subst, ◌∙◌}
-use Rattle.std.specs.List.{find, flat_map, list_any, slice_get}
-use Rattle.std.specs.Prelude.{if◌then◌else◌, not, option_map, ◌⊎◌, ◌↔◌}
+use Rattle.std.proofs.Common.{arith, ◌≡◌, ℕ, ◌+◌, ◌<◌, ◌==◌, Bool, true, false, List, [], ◌∷◌, ◌++◌, map, Option, Some, None, refl, sym, ap, ◌∙◌}
+use Rattle.std.specs.List.{find, flat_map}
+use Rattle.std.specs.Prelude.{if◌then◌else◌, not, option_map}
 use Rattle.tok_data.specs.declared.sources.TokId.{TokId}
 use Rattle.scope_tables.specs.declared.entities.Anchor.{Anchor}
-use Rattle.scope_tables.specs.declared.entities.Anchor.TheVariants.{External, Local, Made, Macro}
 use Rattle.scope_tables.specs.declared.entities.Occ.{Occ}
 use Rattle.rename_core.specs.declared.mentions.Told.{Told}
-use Rattle.rename_core.specs.declared.mentions.Denoted.{Denoted}
 use Rattle.rename_core.specs.Found.{other_told, two_told, name_told}
 use Rattle.rename_core.specs.Mentions.{told_in, tolds}
 use Rattle.rename_core.specs.Occurrences.{same_anchor, anchors_at, or_later, first_some}

@@ -1,11 +1,11 @@
 -- A walk along lists there and back comes to all that a chain leads to, and to nothing else.
-use Rattle.std.proofs.Common.{arith, ◌≡◌, ℕ, suc, zero, ◌+◌, Bool, true, false, ◌||◌, List, [], ◌∷◌, ◌++◌, length, Option, Some, None, inl, inr, refl, sym, ap, subst, ◌∙◌, append_assoc, append-nil}
+use Rattle.std.proofs.Common.{arith, ◌≡◌, ℕ, ◌+◌, Bool, true, false, ◌||◌, List, [], ◌∷◌, ◌++◌, length, Option, Some, None, inl, inr, refl, sym, ap, subst, ◌∙◌, append_assoc, append-nil}
 use Rattle.std.specs.Bool.{Decides}
 use Rattle.std.specs.List.{list_any, slice_get}
 use Rattle.std.specs.Prelude.{if◌then◌else◌, ◌⊎◌}
 use Rattle.indexmap.specs.IndexSet.{insert_key}
 use Rattle.rename_core.specs.Steps.{Seen, noted_all, step, steps}
-use Rattle.rename_core.specs.Walked.{Shares, Chain, first, further, From, IsWalked}
+use Rattle.rename_core.specs.Walked.{Chain, first, further, From, IsWalked}
 
 no : {b : Bool} → b ≡ true → b ≡ false → ⊥
 no t f = cc

@@ -1,6 +1,6 @@
 -- What the occurrences of a unit say of a token (ISO C11 6.2.1p1).
-use Rattle.std.specs.Prelude.{◌≡◌, Bool, true, false, ◌&&◌, List, [], ◌∷◌, map, Option, Some, None, if◌then◌else◌}
-use Rattle.std.specs.List.{filter, list_any}
+use Rattle.std.specs.Prelude.{Bool, true, false, ◌&&◌, List, [], ◌∷◌, Option, Some, None, if◌then◌else◌}
+use Rattle.std.specs.List.{list_any}
 use Rattle.tok_data.specs.declared.sources.TokId.{TokId}
 use Rattle.tok_data.specs.contracts.sources.TokIdPartialEq.TheImpl as toks
 use Rattle.scope_tables.specs.declared.entities.Anchor.{Anchor}

@@ -1,5 +1,5 @@
 -- What a rename comes to before its effect is known: the first refusal that holds, in this order, or the plan of it.
-use Rattle.std.specs.Prelude.{ℕ, ◌≤◌, Bool, not, ◌&&◌, List, [], ◌∷◌, Option, Some, None, Result, Ok, Err, length, option_map, is_none, if◌then◌else◌, leb}
+use Rattle.std.specs.Prelude.{ℕ, Bool, not, ◌&&◌, List, [], ◌∷◌, Option, Some, None, Result, Ok, Err, length, option_map, is_none, if◌then◌else◌, leb}
 use Rattle.c_tokens.specs.Languages.{is_identifier}
 use Rattle.tok_data.specs.Keywords.{is_keyword}
 use Rattle.tok_data.specs.declared.sources.TokId.{TokId}

@@ -1,4 +1,4 @@
-use Rattle.std.proofs.Common.{rules, ◌≡◌, ◌∙◌, List, Some, None, map, sym}
+use Rattle.std.proofs.Common.{rules, ◌≡◌, ◌∙◌, None, map, sym}
 use Rattle.rename_core.specs.Found.{pasted_at}
 use Rattle.rename_core.proofs.MentionLemmas.{lent, pasted_here, pasted_later}
 use Rattle.rename_core.proofs.marks.pasted.Goals as goal

@@ -1,4 +1,4 @@
-use Rattle.std.proofs.Common.{rules, ◌≡◌, List, Some, map}
+use Rattle.std.proofs.Common.{map}
 use Rattle.rename_core.proofs.MentionLemmas.{lent, unit_spelled}
 use Rattle.rename_core.proofs.marks.spelled_tokens.Goals as goal
 

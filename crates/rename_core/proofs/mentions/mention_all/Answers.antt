@@ -1,4 +1,4 @@
-use Rattle.std.proofs.Common.{rules, ◌≡◌, ◌++◌, List, Some, ap, map}
+use Rattle.std.proofs.Common.{◌++◌, ap, map}
 use Rattle.rename_core.specs.Mentions.{tokens_of}
 use Rattle.rename_core.proofs.MentionLemmas.{lent, unit_mentioned}
 use Rattle.rename_core.proofs.mentions.mention_all.Goals as goal

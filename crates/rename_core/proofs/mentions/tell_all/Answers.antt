@@ -1,6 +1,5 @@
-use Rattle.std.proofs.Common.{rules, ◌≡◌, ◌++◌, List, Some, ap, map}
+use Rattle.std.proofs.Common.{◌++◌, ap, map}
 use Rattle.rename_core.specs.Mentions.{tolds}
-use Rattle.rename_core.specs.Occurrences.{same_tok}
 use Rattle.rename_core.proofs.MentionLemmas.{lent, unit_told}
 use Rattle.rename_core.proofs.mentions.tell_all.Goals as goal
 

@@ -1,4 +1,4 @@
-use Rattle.std.proofs.Common.{◌≡◌, ◌++◌, List, length, map}
+use Rattle.std.proofs.Common.{◌≡◌, ◌++◌, length, map}
 use Rattle.tok_data.specs.declared.sources.TokId.{TokId}
 use Rattle.rename_core.specs.Lists.{listed}
 use Rattle.rename_core.specs.Mentions.{told_in}
