@@ -35,3 +35,23 @@ pub(crate) fn ends_line(c: char, behind: &str) -> bool
         _ => false,
     }
 }
+
+fn begins_with_feed(bytes: &[u8]) -> bool
+    ensures { result ≡ (slice_index bytes.now 0 == 10) }
+{
+    match bytes.split_first() {
+        Some((byte, _)) => *byte == b'\n',
+        None => false,
+    }
+}
+
+/// Whether a line's end mark ends with a byte, where these follow it: no byte of another code point is that of a mark.
+pub(crate) fn ends_with(byte: u8, behind: &[u8]) -> bool
+    ensures { result ≡ is_line_end byte behind.now }
+{
+    match byte {
+        b'\n' => true,
+        b'\r' => !begins_with_feed(behind),
+        _ => false,
+    }
+}

@@ -8,7 +8,7 @@ ghost use Rattle.text_lines.specs.Units.{units, fitting};
 ghost use Rattle.text_lines.specs.declared.encoding.Encoding.TheVariants.{Utf8};
 ghost use Rattle.text_lines.specs.Walked.{IsPlaceIn};
 
-use crate::chars::{ends_line, split_first_char};
+use crate::chars::ends_with;
 use crate::encoding::Encoding;
 use crate::pos::Pos;
 use crate::seek::bytes_within;
@@ -35,7 +35,6 @@ impl Model for LineTable {
 
 impl LineTable {
     /// The table of a text, made in one walk over it.
-    #[tactic(auto, using(crate::proofs::Starts::line_starts_later))]
     pub fn new(alloc: Global, text: &str) -> Result<LineTable, AllocError>
         requires { length text.now ≤ 4290772992 }
         ensures { IfOk result (λ table. table ≡ line_starts text.now) }
@@ -43,11 +42,11 @@ impl LineTable {
         let mut starts = Vec::new(alloc);
         starts.push(0)?;
         let mut at: u32 = 0;
-        let mut rest = text;
-        while let Some((c, behind)) = split_first_char(rest) {
+        let mut rest = text.as_bytes();
+        while let Some((byte, behind)) = rest.split_first() {
             rest = behind;
-            at += c.len_utf8() as u32;
-            if ends_line(c, behind) {
+            at += 1;
+            if ends_with(*byte, behind) {
                 starts.push(at)?;
             }
         }
