@@ -310,7 +310,7 @@ pub fn lex(alloc: Global, text: &str) -> Result<Lexed, AllocError>
         places: Vec::new(alloc),
         faults: Vec::new(alloc),
     };
-    let mut names = Names::new(alloc);
+    let mut names = Names::new(alloc, text.len())?;
     let mut at = 0;
     let mut context = Context::Fresh;
     let mut spaced = false;
