@@ -1,5 +1,5 @@
--- Where no line is asked for, the lines that are known make no difference.
-use Rattle.std.proofs.Common.{◌≡◌, refl, sym, ap, ◌∙◌, subst, T, ℕ, zero, suc, ◌==◌, Bool, true, false, List, [], ◌∷◌, map, drop, Option, None, Some, is_some, if◌then◌else◌}
+-- Where no line is asked for, more known lines make no difference.
+use Rattle.std.proofs.Common.{◌≡◌, refl, sym, ap, ◌∙◌, subst, T, ℕ, zero, suc, ◌==◌, Bool, true, false, not, List, [], ◌∷◌, map, drop, Option, None, Some, is_some, if◌then◌else◌}
 use Rattle.tok_data.specs.declared.sources.TokId.{TokId}
 use Rattle.tok_data.specs.declared.tokens.OutToken.{OutToken}
 use Rattle.macro_table.specs.declared.definition.MacroDef.{MacroDef}
@@ -13,8 +13,7 @@ use Rattle.macro_expand.specs.Pasting.{pasted}
 use Rattle.macro_expand.specs.Arguments.{called, fitted, lacks_variable}
 use Rattle.macro_expand.specs.Progress.{refused, asking}
 use Rattle.macro_expand.specs.Substitution.{Element, Paste, Quoted, Param, Other, Item, Token, Placemarker, Output, Expander, written, space_of, noting, puts_written, puts_outcome, puts_expanded, pasted_or, pasted_to, pasted_behind, glue, paste_follows, elements, substituted, settled}
-use Rattle.macro_expand.specs.Expansion.{Definitions, Sense, Ordinary, Line, File, Macro, Found, Stays, Put, Replaced, meaning, put_line, file_found, object_found, counted_call, fit_found, fit_or, call_found, macro_found, found_by, found, built, spliced, with_front, again_with, goes_on, walked, bounded, expansion, at_first, told_by, told, expanded}
-use Rattle.macro_expand.specs.Expansion as spec
+use Rattle.macro_expand.specs.Expansion.{Definitions, Sense, Ordinary, Line, File, Macro, Found, Stays, Put, Replaced, line_in, meaning, put_line, file_found, object_found, counted_call, fit_found, fit_or, call_found, macro_found, found_by, found, built, spliced, with_front, again_with, goes_on, walked, bounded, expansion, at_first, told_by, told, expanded}
 
 either_way : {A : Type 0} (P : A → Type 0) (b : Bool) (x y : A) → P x → P y → P (if b then x else y)
 either_way P true x y h k = h
@@ -118,28 +117,34 @@ macro_asks : (p : Progress) (t : Marked) (ts : List Marked) (def : MacroDef) (pa
 macro_asks p t ts def None = object_asks p t def
 macro_asks p t ts def (Some names) = call_asks p t def (called def ts)
 
-line_quiet : (p : Progress) (t : Marked) (o : Option ℕ) (b : Bool) → asks (held_in (if b then Stays (refused t p) else put_line p t None)) ≡ false →
-    (asks p ≡ false) × ((if b then Stays (refused t p) else put_line p t None) ≡ (if b then Stays (refused t p) else put_line p t o))
-line_quiet p t o true h = (h, refl)
-line_quiet p t o false h = absurd (subst T h tt)
+line_quiet : (p : Progress) (t : Marked) (o more : Option ℕ) → ((n : ℕ) → o ≡ Some n → more ≡ Some n) → (b : Bool) →
+    asks (held_in (if b then Stays (refused t p) else put_line p t o)) ≡ false →
+    (asks p ≡ false) × ((if b then Stays (refused t p) else put_line p t o) ≡ (if b then Stays (refused t p) else put_line p t more))
+line_quiet p t o more same true h = (h, refl)
+line_quiet p t None more same false h = absurd (subst T h tt)
+line_quiet p t (Some n) more same false h = (h, ap (put_line p t) (sym (same n refl)))
 
-module _ (lines : List (TokId × ℕ)) where
-  sense_quiet : (p : Progress) (t : Marked) (ts : List Marked) (s : Sense) → asks (held_in (found_by [] p t ts s)) ≡ false →
-      (asks p ≡ false) × (found_by [] p t ts s ≡ found_by lines p t ts s)
+-- what the first tell, the second tell, too
+abbrev Tells : List (TokId × ℕ) → List (TokId × ℕ) → Type 0
+Tells few lines = (site : TokId) (n : ℕ) → line_in few site ≡ Some n → line_in lines site ≡ Some n
+
+module _ (few lines : List (TokId × ℕ)) (tells : Tells few lines) where
+  sense_quiet : (p : Progress) (t : Marked) (ts : List Marked) (s : Sense) → asks (held_in (found_by few p t ts s)) ≡ false →
+      (asks p ≡ false) × (found_by few p t ts s ≡ found_by lines p t ts s)
   sense_quiet p t ts Ordinary h = (h, refl)
-  sense_quiet p t ts Line h = line_quiet p t (spec.line_in lines t.token.site) (p.left == 0) h
+  sense_quiet p t ts Line h = line_quiet p t (line_in few t.token.site) (line_in lines t.token.site) (tells t.token.site) (p.left == 0) h
   sense_quiet p t ts File h = (sym (ap is_some (file_asks p t)) ∙ h, refl)
   sense_quiet p t ts (Macro def) h = (sym (ap is_some (macro_asks p t ts def def.params)) ∙ h, refl)
 
-  stopped_quiet : (p : Progress) (t : Marked) (ts : List Marked) (s : Sense) (b : Bool) → asks (held_in (if b then Stays p else found_by [] p t ts s)) ≡ false →
-      (asks p ≡ false) × ((if b then Stays p else found_by [] p t ts s) ≡ (if b then Stays p else found_by lines p t ts s))
+  stopped_quiet : (p : Progress) (t : Marked) (ts : List Marked) (s : Sense) (b : Bool) → asks (held_in (if b then Stays p else found_by few p t ts s)) ≡ false →
+      (asks p ≡ false) × ((if b then Stays p else found_by few p t ts s) ≡ (if b then Stays p else found_by lines p t ts s))
   stopped_quiet p t ts s true h = (h, refl)
   stopped_quiet p t ts s false h = sense_quiet p t ts s h
 
-found_quiet : (table : Definitions) (lines : List (TokId × ℕ)) (p : Progress) (t : Marked) (ts : List Marked) → asks (held_in (found table [] p t ts)) ≡ false →
-    (asks p ≡ false) × (found table [] p t ts ≡ found table lines p t ts)
+found_quiet : (table : Definitions) (few lines : List (TokId × ℕ)) → Tells few lines → (p : Progress) (t : Marked) (ts : List Marked) → asks (held_in (found table few p t ts)) ≡ false →
+    (asks p ≡ false) × (found table few p t ts ≡ found table lines p t ts)
 unfolding found
-found_quiet table lines p t ts h = stopped_quiet lines p t ts (meaning table t) p.stopped h
+found_quiet table few lines tells p t ts h = stopped_quiet few lines tells p t ts (meaning table t) p.stopped h
 
 -- ---- a list
 
@@ -150,27 +155,34 @@ goes_quiet f g quiet more more' same t ts (Stays p) h = let r = same p h in (r.0
 goes_quiet f g quiet more more' same t ts (Put p u) h = quiet p (u ∷ ts) h
 goes_quiet f g quiet more more' same t ts (Replaced p def args names width) h = again_quiet f g quiet t names (drop width ts) p def args h
 
-walked_quiet : (table : Definitions) (lines : List (TokId × ℕ)) (f g : Expander) → Quiet f g → (ts : List Marked) (p : Progress) →
-    asks (walked table [] f p ts).progress ≡ false → (asks p ≡ false) × (walked table [] f p ts ≡ walked table lines g p ts)
-walked_quiet table lines f g quiet [] p h = (h, refl)
-walked_quiet table lines f g quiet (t ∷ ts) p h =
-    let r = goes_quiet f g quiet (λ x. walked table [] f x ts) (λ x. walked table lines g x ts) (walked_quiet table lines f g quiet ts) t ts (found table [] p t ts) h in
-    let s = found_quiet table lines p t ts r.0 in
+walked_quiet : (table : Definitions) (few lines : List (TokId × ℕ)) → Tells few lines → (f g : Expander) → Quiet f g → (ts : List Marked) (p : Progress) →
+    asks (walked table few f p ts).progress ≡ false → (asks p ≡ false) × (walked table few f p ts ≡ walked table lines g p ts)
+walked_quiet table few lines tells f g quiet [] p h = (h, refl)
+walked_quiet table few lines tells f g quiet (t ∷ ts) p h =
+    let r = goes_quiet f g quiet (λ x. walked table few f x ts) (λ x. walked table lines g x ts) (walked_quiet table few lines tells f g quiet ts) t ts (found table few p t ts) h in
+    let s = found_quiet table few lines tells p t ts r.0 in
     (s.0, r.1 ∙ ap (goes_on g (λ x. walked table lines g x ts) t ts) s.1)
 
-bounded_quiet : (table : Definitions) (lines : List (TokId × ℕ)) (n : ℕ) → Quiet (bounded table [] n) (bounded table lines n)
-bounded_quiet table lines zero = λ p ts h. (h, refl)
-bounded_quiet table lines (suc n) = λ p ts h. walked_quiet table lines (bounded table [] n) (bounded table lines n) (bounded_quiet table lines n) ts p h
+bounded_quiet : (table : Definitions) (few lines : List (TokId × ℕ)) → Tells few lines → (n : ℕ) → Quiet (bounded table few n) (bounded table lines n)
+bounded_quiet table few lines tells zero = λ p ts h. (h, refl)
+bounded_quiet table few lines tells (suc n) = λ p ts h. walked_quiet table few lines tells (bounded table few n) (bounded table lines n) (bounded_quiet table few lines tells n) ts p h
 
-expansion_quiet : (table : Definitions) (lines : List (TokId × ℕ)) (p : Progress) (ts : List Marked) → asks (expansion table [] p ts).progress ≡ false → expansion table [] p ts ≡ expansion table lines p ts
+expansion_quiet : (table : Definitions) (few lines : List (TokId × ℕ)) → Tells few lines → (p : Progress) (ts : List Marked) → asks (expansion table few p ts).progress ≡ false → expansion table few p ts ≡ expansion table lines p ts
 unfolding expansion
-expansion_quiet table lines p ts h = (bounded_quiet table lines (suc p.left) p ts h).1
+expansion_quiet table few lines tells p ts h = (bounded_quiet table few lines tells (suc p.left) p ts h).1
 
 told_asked : (budget : ℕ) (o : Outcome) (a : Option TokId) → (told_by budget o a).asked ≡ a
 told_asked budget o None = refl
 told_asked budget o (Some site) = refl
 
+pub expanded_by : (table : Definitions) (few lines : List (TokId × ℕ)) (budget : ℕ) (ts : List OutToken) → Tells few lines →
+    (expanded table few budget ts).asked ≡ None → expanded table few budget ts ≡ expanded table lines budget ts
+expanded_by table few lines budget ts tells h =
+    let o : Outcome = expansion table few (at_first budget) (map plain ts) in
+    ap (told budget) (expansion_quiet table few lines tells (at_first budget) (map plain ts) (ap is_some (sym (told_asked budget o o.progress.asked) ∙ h)))
+
+none_tells : (lines : List (TokId × ℕ)) → Tells [] lines
+none_tells lines site n e = absurd (subst (λ (o : Option ℕ). T (not (is_some o))) e tt)
+
 pub expanded_quiet : (table : Definitions) (lines : List (TokId × ℕ)) (budget : ℕ) (ts : List OutToken) → (expanded table [] budget ts).asked ≡ None → expanded table [] budget ts ≡ expanded table lines budget ts
-expanded_quiet table lines budget ts h =
-    let o : Outcome = expansion table [] (at_first budget) (map plain ts) in
-    ap (told budget) (expansion_quiet table lines (at_first budget) (map plain ts) (ap is_some (sym (told_asked budget o o.progress.asked) ∙ h)))
+expanded_quiet table lines budget ts h = expanded_by table [] lines budget ts (none_tells lines) h

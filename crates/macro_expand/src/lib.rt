@@ -26,5 +26,5 @@ mod tokens;
 mod types;
 
 pub use expanding::{expand, expand_within};
-pub use laws::lines_change_nothing;
+pub use laws::{lines_change_nothing, more_lines_change_nothing};
 pub use types::{Expanded, Within};
