@@ -33,6 +33,7 @@ fn member(alloc: Global, name: &str, ty: CType) -> Result<Member, AllocError> {
         width: None,
         align: None,
         value: None,
+        at: None,
     })
 }
 

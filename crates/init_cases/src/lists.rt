@@ -126,6 +126,7 @@ fn member(alloc: Global, number: u32) -> Result<Member, AllocError> {
         width: None,
         align: None,
         value: None,
+        at: None,
     })
 }
 

@@ -70,6 +70,7 @@ fn member(alloc: Global, word: &str) -> Result<Member, AllocError> {
         width: width_named(parts.next().unwrap_or("")),
         align: None,
         value: None,
+        at: None,
     })
 }
 

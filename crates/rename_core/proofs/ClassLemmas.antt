@@ -9,7 +9,8 @@ use Rattle.rename_core.specs.declared.mentions.Denoted.{Denoted}
 use Rattle.rename_core.specs.Classes.{IsClass}
 use Rattle.rename_core.specs.Found.{in_order, meanings_told, name_told, pasted_from}
 use Rattle.rename_core.specs.Mentions.{same_denoted, denoted_by, tolds, tokens_of}
-use Rattle.rename_core.specs.Occurrences.{same_tok, in_class, first_some}
+use Rattle.scope_tables.specs.Occurrences.{same_tok}
+use Rattle.rename_core.specs.Occurrences.{in_class, first_some}
 use Rattle.rename_core.specs.Showing.{external, pasted, spelled, spelled_in, two}
 use Rattle.rename_core.specs.Steps.{Seen}
 use Rattle.rename_core.specs.Walked.{IsWalked}

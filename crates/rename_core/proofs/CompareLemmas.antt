@@ -16,7 +16,8 @@ use Rattle.rename_core.specs.declared.class.Plan.{Plan}
 use Rattle.rename_core.specs.Classes.{Has}
 use Rattle.rename_core.specs.Clashes.{names, renamed, moved, same_occ, same_kind, same_kinds, has_other_kinds, first_other, other_since, other_in, external_taken, clash_of_kinds, clash_of_bindings, effect}
 use Rattle.rename_core.specs.Kept.{IsKept, is_text, other_kinds_at}
-use Rattle.rename_core.specs.Occurrences.{same_anchor, same_tok, in_class, or_later, first_some}
+use Rattle.scope_tables.specs.Occurrences.{same_anchor, same_tok}
+use Rattle.rename_core.specs.Occurrences.{in_class, or_later, first_some}
 use Rattle.rename_core.specs.Views.{View, kinds_in}
 use Rattle.rename_core.proofs.LinkLemmas.{both}
 use Rattle.rename_core.proofs.LookupLemmas.{text_exact}

@@ -5,7 +5,7 @@ use Rattle.tok_data.specs.declared.sources.TokId.{TokId}
 use Rattle.rename_core.specs.declared.mentions.Told.{Told}
 use Rattle.rename_core.specs.declared.mentions.Denoted.{Denoted}
 use Rattle.rename_core.specs.Mentions.{same_denoted, denoted_by}
-use Rattle.rename_core.specs.Occurrences.{same_tok}
+use Rattle.scope_tables.specs.Occurrences.{same_tok}
 use Rattle.rename_core.specs.Steps.{Seen, steps}
 use Rattle.rename_core.specs.Walked.{IsWalked}
 use Rattle.rename_core.proofs.MentionLemmas.{tok_exact, denoted_exact}

@@ -12,7 +12,8 @@ use Rattle.rename_core.specs.declared.mentions.Told.{Told}
 use Rattle.rename_core.specs.declared.mentions.Denoted.{Denoted}
 use Rattle.rename_core.specs.Found.{pasted_at, pasted_from}
 use Rattle.rename_core.specs.Mentions.{same_denoted, told_in, is_of, tolds, tokens_in, tokens_of}
-use Rattle.rename_core.specs.Occurrences.{same_tok, same_anchor, is_at, anchors_at, or_later}
+use Rattle.scope_tables.specs.Occurrences.{same_tok, same_anchor, is_at}
+use Rattle.rename_core.specs.Occurrences.{anchors_at, or_later}
 use Rattle.rename_core.specs.Showing.{is_spelled_at, spelled_in}
 
 pub tok_exact : (s t : TokId) → Decides (same_tok s t) (s ≡ t)

@@ -13,7 +13,8 @@ use Rattle.tok_data.specs.declared.sources.TokId.{TokId}
 use Rattle.tok_data.specs.contracts.sources.TokIdOrd.TheImpl.Laws.{total-law}
 use Rattle.rename_core.specs.Classes.{tok_cmp}
 use Rattle.rename_core.specs.Found.{in_order, put_all}
-use Rattle.rename_core.specs.Occurrences.{in_class, same_tok}
+use Rattle.scope_tables.specs.Occurrences.{same_tok}
+use Rattle.rename_core.specs.Occurrences.{in_class}
 
 -- ---- insertions
 

@@ -10,7 +10,8 @@ use Rattle.rename_core.specs.declared.mentions.Denoted.{Denoted}
 use Rattle.rename_core.specs.Classes.{Has}
 use Rattle.rename_core.specs.Found.{is_pasted_as, pasted_from}
 use Rattle.rename_core.specs.Mentions.{same_denoted, denoted_in}
-use Rattle.rename_core.specs.Occurrences.{same_tok, same_anchor, counts, in_class, or_later, first_some}
+use Rattle.scope_tables.specs.Occurrences.{same_tok, same_anchor, counts}
+use Rattle.rename_core.specs.Occurrences.{in_class, or_later, first_some}
 use Rattle.rename_core.specs.Showing.{across, has_anchor, class_has, is_pasted, is_pasted_of, pasted_in}
 use Rattle.rename_core.specs.Steps.{Seen}
 use Rattle.rename_core.specs.Walked.{Chain, first, From, IsWalked}

@@ -8,7 +8,8 @@ use Rattle.scope_tables.specs.declared.entities.Occ.{Occ}
 use Rattle.rename_core.specs.declared.mentions.Told.{Told}
 use Rattle.rename_core.specs.Found.{other_told, two_told, name_told}
 use Rattle.rename_core.specs.Mentions.{told_in, tolds}
-use Rattle.rename_core.specs.Occurrences.{same_anchor, anchors_at, or_later, first_some}
+use Rattle.scope_tables.specs.Occurrences.{same_anchor}
+use Rattle.rename_core.specs.Occurrences.{anchors_at, or_later, first_some}
 use Rattle.rename_core.specs.Showing.{other_than, two_of, two_in, external_name, name_in}
 
 -- ---- two anchors in one unit

@@ -13,7 +13,8 @@ use Rattle.rename_core.specs.declared.confirming.Edits.{Edits}
 use Rattle.rename_core.specs.declared.error.RenameError.{RenameError}
 use Rattle.rename_core.specs.declared.error.RenameError.TheVariants.{ExternalTaken, Clash}
 use Rattle.rename_core.specs.declared.class.Plan.{Plan}
-use Rattle.rename_core.specs.Occurrences.{same_tok, same_anchor, first_some}
+use Rattle.scope_tables.specs.Occurrences.{same_tok, same_anchor}
+use Rattle.rename_core.specs.Occurrences.{first_some}
 use Rattle.rename_core.specs.Refusals.{first_of, outcome}
 use Rattle.rename_core.specs.Views.{View, same_text, kinds_in, occs_in}
 

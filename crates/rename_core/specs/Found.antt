@@ -11,7 +11,8 @@ use Rattle.rename_core.specs.declared.mentions.Told.{Told}
 use Rattle.rename_core.specs.declared.mentions.Denoted.{Denoted}
 use Rattle.rename_core.specs.Classes.{tok_cmp}
 use Rattle.rename_core.specs.Mentions.{same_denoted, denoted_in}
-use Rattle.rename_core.specs.Occurrences.{same_tok, same_anchor, or_later, first_some}
+use Rattle.scope_tables.specs.Occurrences.{same_tok, same_anchor}
+use Rattle.rename_core.specs.Occurrences.{or_later, first_some}
 use Rattle.rename_core.specs.Showing.{external_name, is_pasted}
 
 -- ---- in order

@@ -8,7 +8,8 @@ use Rattle.rename_core.specs.declared.mentions.Told.{Told}
 use Rattle.rename_core.specs.declared.mentions.Denoted.{Denoted}
 use Rattle.rename_core.specs.declared.mentions.Denoted.TheVariants.{Everywhere, Within}
 use Rattle.rename_core.specs.contracts.mentions.DenotedPartialEq.TheImpl as denoteds
-use Rattle.rename_core.specs.Occurrences.{counts, anchors_at}
+use Rattle.scope_tables.specs.Occurrences.{counts}
+use Rattle.rename_core.specs.Occurrences.{anchors_at}
 
 abbrev pub same_denoted : Denoted → Denoted → Bool
 same_denoted a b = denoteds.eq-value.it a b

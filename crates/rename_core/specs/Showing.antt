@@ -8,7 +8,8 @@ use Rattle.scope_tables.specs.declared.entities.Occ.{Occ}
 use Rattle.scope_tables.specs.declared.entities.Role.{Role}
 use Rattle.scope_tables.specs.declared.entities.Role.TheVariants as role
 use Rattle.rename_core.specs.declared.class.TwoMeanings.{TwoMeanings}
-use Rattle.rename_core.specs.Occurrences.{same_tok, same_anchor, counts, anchors_at, in_class, first_some}
+use Rattle.scope_tables.specs.Occurrences.{same_tok, same_anchor, counts}
+use Rattle.rename_core.specs.Occurrences.{anchors_at, in_class, first_some}
 
 -- ---- a token of it stands in a library text, whose name begins with `<`
 abbrev pub is_library : List ℕ → Bool

@@ -3,7 +3,7 @@ ghost use Rattle.std.specs.Prelude.{◌≡◌, ◌||◌, false, map, IfOk, OnOk}
 ghost use Rattle.std.specs.List.{list_any};
 ghost use Rattle.tok_data.specs.declared.sources.TokId.{TokId as Token};
 ghost use Rattle.rename_core.specs.Found as spec;
-ghost use Rattle.rename_core.specs.Occurrences.{same_tok};
+ghost use Rattle.scope_tables.specs.Occurrences.{same_tok};
 ghost use Rattle.rename_core.specs.Showing;
 
 use crate::mentions::denoted_in;

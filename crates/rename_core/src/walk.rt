@@ -6,7 +6,7 @@ ghost use Rattle.tok_data.specs.declared.sources.TokId.{TokId as Token};
 ghost use Rattle.rename_core.specs.declared.mentions.Denoted.{Denoted as Key};
 ghost use Rattle.rename_core.specs.Lists.{listed};
 ghost use Rattle.rename_core.specs.Mentions.{denoted_by, same_denoted};
-ghost use Rattle.rename_core.specs.Occurrences.{same_tok};
+ghost use Rattle.scope_tables.specs.Occurrences.{same_tok};
 ghost use Rattle.rename_core.specs.Steps as spec;
 ghost use Rattle.rename_core.specs.Walked.{IsWalked};
 

@@ -5,7 +5,7 @@ use Rattle.std.proofs.lemmas.List.{take-append-drop, take_all, take_at, drop_all
 use Rattle.type_data.specs.declared.members.Space.{Space}
 use Rattle.scope_tables.specs.Marks.{cut_at, IsOnce, AreMarks}
 use Rattle.scope_tables.specs.Places.{newest, or_here, entity_in, with_entity}
-use Rattle.scope_tables.specs.Scopes.{binds, bound, put, or_outside, found, here, declared_in, before, entered}
+use Rattle.scope_tables.specs.Scopes.{binds, bound, put, or_outside, found, here, innermost_kind, declared_in, before, entered}
 use Rattle.scope_tables.specs.declared.bindings.Binding.{Binding}
 use Rattle.scope_tables.specs.declared.entities.Entity.{Entity}
 use Rattle.scope_tables.specs.declared.entities.ScopeKind.{ScopeKind}
@@ -332,3 +332,11 @@ here_new s q marks m old some last are outside =
 pub here_none : (s : Space) (q : List ℕ) (marks : List Mark) (old : List Binding) → length marks ≡ 0 → None ≡ here s q (cut_at (reverse marks) old)
 here_none s q [] old none = refl
 here_none s q (m ∷ marks) old none = let bad : ⊥ = omega (arith, none) in absurd bad
+
+pub kind_some : (marks : List Mark) (m : Mark) (old : List Binding) → length marks - 1 < length marks → m ≡ get_or marks (length marks - 1) m
+    → Some m.kind ≡ innermost_kind (cut_at (reverse marks) old)
+kind_some marks m old some last = sym (ap (λ ms. innermost_kind (cut_at ms old)) (innermost marks m some last))
+
+pub kind_none : (marks : List Mark) (old : List Binding) → length marks ≡ 0 → None ≡ innermost_kind (cut_at (reverse marks) old)
+kind_none [] old none = refl
+kind_none (m ∷ marks) old none = let bad : ⊥ = omega (arith, none) in absurd bad

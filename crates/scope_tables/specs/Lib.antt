@@ -3,3 +3,4 @@ pub mod Indexed
 pub mod Marks
 pub mod Places
 pub mod Scopes
+pub mod Occurrences

@@ -54,6 +54,11 @@ abbrev pub linked : List ℕ → List Scope → Option Entity
 linked name [] = None
 linked name (s ∷ outside) = or_outside (if_linked (bound Ordinary name s.bindings)) (linked name outside)
 
+-- the kind of the innermost scope
+abbrev pub innermost_kind : List Scope → Option ScopeKind
+innermost_kind [] = None
+innermost_kind (s ∷ outside) = Some s.kind
+
 abbrev pub entered : ScopeKind → List Scope → List Scope
 entered kind scopes = record { kind = kind; bindings = [] } ∷ scopes
 

@@ -95,6 +95,7 @@ impl Laying {
             width,
             align,
             value: None,
+            at: None,
         })?;
         Ok(true)
     }

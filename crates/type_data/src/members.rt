@@ -19,6 +19,8 @@ pub struct Member {
     pub align: Option<u64>,
     /// The value, of an enumerator.
     pub value: Option<Value>,
+    /// The token of its name, by its item and its number there; none where it has no name.
+    pub at: Option<TagId>,
 }
 
 /// What a tag names (ISO C11 6.2.3).

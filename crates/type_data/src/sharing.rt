@@ -4,6 +4,7 @@ ghost use Rattle.std.specs.Prelude.{◌≡◌, IfOk};
 use crate::judged::{Fault, Judged};
 use crate::layouts::Layout;
 use crate::members::{Member, TagInfo};
+use crate::names::TagId;
 use crate::types::CType;
 use shared_list::Listing;
 use shared_text::Name;
@@ -16,6 +17,18 @@ fn share_name(name: &Option<Name>) -> Result<Option<Name>, AllocError>
         Some(name) => {
             let name = name.share()?;
             Ok(Some(name))
+        }
+        None => Ok(None),
+    }
+}
+
+fn share_tag(tag: &Option<TagId>) -> Result<Option<TagId>, AllocError>
+    ensures { IfOk result (λ copy. copy ≡ tag.now) }
+{
+    match tag {
+        Some(tag) => {
+            let tag = tag.share()?;
+            Ok(Some(tag))
         }
         None => Ok(None),
     }
@@ -65,13 +78,14 @@ impl Layout {
 }
 
 impl Member {
-    /// The same member, whose name and type are shared. It takes no memory, but may be refused where one of them is shared
+    /// The same member, whose names and type are shared. It takes no memory, but may be refused where one of them is shared
     /// 2^64 times.
     pub fn share(&self) -> Result<Member, AllocError>
         ensures { IfOk result (λ copy. copy ≡ self.now) }
     {
         let name = share_name(&self.name)?;
         let ty = self.ty.share()?;
+        let at = share_tag(&self.at)?;
         Ok(Member {
             name,
             ty,
@@ -79,6 +93,7 @@ impl Member {
             width: self.width,
             align: self.align,
             value: self.value,
+            at,
         })
     }
 }

@@ -9,7 +9,8 @@ use Rattle.unit_index.specs.Files.{introduces_in}
 use Rattle.unit_index.specs.Groups.{same_file, is_in}
 use Rattle.unit_index.specs.Introduced.{brings, is_left}
 use Rattle.unit_index.specs.Known.{Known}
-use Rattle.unit_index.specs.Occurrences.{same_tok, counts, is_at, occs_of}
+use Rattle.scope_tables.specs.Occurrences.{same_tok, counts, is_at}
+use Rattle.unit_index.specs.Occurrences.{occs_of}
 use Rattle.unit_index.specs.References.{introduces, is_introduced, introduced, is_wanted}
 use Rattle.unit_index.specs.Tokens.{is_outside}
 use Rattle.unit_index.proofs.SharedLemmas.{any_filter, any_same, any_or, none_of}

@@ -8,7 +8,8 @@ use Rattle.scope_tables.specs.declared.entities.Occ.{Occ}
 use Rattle.scope_tables.specs.declared.units.UnitMeaning.{UnitMeaning}
 use Rattle.unit_index.specs.Chains.{first_from, nexts, left, by_token, by_anchor}
 use Rattle.unit_index.specs.Kept.{IsKept}
-use Rattle.unit_index.specs.Occurrences.{is_at, is_of}
+use Rattle.scope_tables.specs.Occurrences.{is_at}
+use Rattle.unit_index.specs.Occurrences.{is_of}
 use Rattle.unit_index.specs.Walks.{IsOnTheWay, Stands}
 use Rattle.unit_index.proofs.WalkLemmas.{leads, is_token, is_anchor, slice_at}
 

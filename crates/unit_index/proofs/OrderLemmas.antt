@@ -14,7 +14,7 @@ use Rattle.std.specs.Ordering.{nat_cmp}
 use Rattle.std.proofs.lemmas.Map.Lookups.{btree_set_from_contains, exact_pairs, exact_bytes, exact_unsigned}
 use Rattle.tok_data.specs.declared.sources.TokId.{TokId}
 use Rattle.tok_data.specs.contracts.sources.TokIdOrd.TheImpl.Laws.{total-law}
-use Rattle.unit_index.specs.Occurrences.{same_tok}
+use Rattle.scope_tables.specs.Occurrences.{same_tok}
 use Rattle.unit_index.specs.Sets.{has_tok}
 use Rattle.unit_index.specs.Tokens.{tok_cmp, in_order}
 use Rattle.unit_index.proofs.WalkLemmas.{tok_exact}

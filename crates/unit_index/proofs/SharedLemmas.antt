@@ -10,7 +10,8 @@ use Rattle.scope_tables.specs.declared.entities.Occ.{Occ}
 use Rattle.unit_index.specs.declared.shared.Asked.{Asked}
 use Rattle.unit_index.specs.Definition.{toks_that}
 use Rattle.unit_index.specs.Known.{Known}
-use Rattle.unit_index.specs.Occurrences.{same_tok, same_anchor, counts, is_at, is_of, occs_of, all_occs, anchors_of, has_anchor, shared}
+use Rattle.scope_tables.specs.Occurrences.{same_tok, same_anchor, counts, is_at}
+use Rattle.unit_index.specs.Occurrences.{is_of, occs_of, all_occs, anchors_of, has_anchor, shared}
 use Rattle.unit_index.specs.Sets as sets
 use Rattle.unit_index.specs.Shared.{is_asked, is_under, gives}
 use Rattle.unit_index.proofs.WalkLemmas.{anchor_exact}

@@ -4,7 +4,7 @@ use Rattle.std.specs.Prelude.{map}
 use Rattle.std.specs.List.{filter, list_any}
 use Rattle.tok_data.specs.declared.sources.TokId.{TokId}
 use Rattle.scope_tables.specs.declared.units.Symbol.{Symbol}
-use Rattle.unit_index.specs.Occurrences.{same_tok}
+use Rattle.scope_tables.specs.Occurrences.{same_tok}
 use Rattle.unit_index.specs.Symbols.{in_file}
 use Rattle.unit_index.proofs.SharedLemmas.{any_map, any_filter, any_same}
 

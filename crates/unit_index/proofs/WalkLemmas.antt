@@ -8,7 +8,8 @@ use Rattle.scope_tables.specs.declared.entities.Anchor.{Anchor}
 use Rattle.scope_tables.specs.declared.entities.Occ.{Occ}
 use Rattle.unit_index.specs.declared.chains.By.{By}
 use Rattle.unit_index.specs.declared.chains.By.TheVariants as by
-use Rattle.unit_index.specs.Occurrences.{same_tok, same_anchor, counts, is_at, is_of}
+use Rattle.scope_tables.specs.Occurrences.{same_tok, same_anchor, counts, is_at}
+use Rattle.unit_index.specs.Occurrences.{is_of}
 use Rattle.unit_index.specs.Chains.{first_from, nexts, alike, chained, left, by_token, by_anchor}
 use Rattle.unit_index.specs.Walks.{IsThere, Stands, IsOnTheWay}
 

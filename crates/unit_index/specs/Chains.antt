@@ -7,7 +7,8 @@ use Rattle.scope_tables.specs.declared.entities.Anchor.{Anchor}
 use Rattle.scope_tables.specs.declared.entities.Occ.{Occ}
 use Rattle.unit_index.specs.declared.chains.By.{By}
 use Rattle.unit_index.specs.declared.chains.By.TheVariants as by
-use Rattle.unit_index.specs.Occurrences.{same_tok, same_anchor, is_at, is_of}
+use Rattle.scope_tables.specs.Occurrences.{same_tok, same_anchor, is_at}
+use Rattle.unit_index.specs.Occurrences.{is_of}
 
 -- the place of the first that passes, the list's own first being at n
 abbrev pub first_from : {A : Type 0} → (A → Bool) → ℕ → List A → Option ℕ

@@ -3,7 +3,8 @@ use Rattle.std.specs.Prelude.{Bool, not, ◌&&◌}
 use Rattle.std.specs.List.{list_any}
 use Rattle.tok_data.specs.declared.sources.TokId.{TokId}
 use Rattle.unit_index.specs.Known.{Known}
-use Rattle.unit_index.specs.Occurrences.{same_tok, occs_of}
+use Rattle.scope_tables.specs.Occurrences.{same_tok}
+use Rattle.unit_index.specs.Occurrences.{occs_of}
 use Rattle.unit_index.specs.References.{is_introduced}
 use Rattle.unit_index.specs.Tokens.{is_outside}
 

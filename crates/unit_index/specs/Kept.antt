@@ -6,7 +6,8 @@ use Rattle.scope_tables.specs.declared.entities.Anchor.{Anchor}
 use Rattle.scope_tables.specs.declared.units.UnitMeaning.{UnitMeaning}
 use Rattle.unit_index.specs.Chains.{first_from, nexts, by_token, by_anchor}
 use Rattle.unit_index.specs.Files.{introduces_in}
-use Rattle.unit_index.specs.Occurrences.{is_at, is_of}
+use Rattle.scope_tables.specs.Occurrences.{is_at}
+use Rattle.unit_index.specs.Occurrences.{is_of}
 use Rattle.unit_index.specs.Speaking.{is_named}
 
 pub record IsKept (m : UnitMeaning) (at : TokId → Option ℕ) (next_at : List (Option ℕ)) (of : Anchor → Option ℕ) (next_of : List (Option ℕ)) (named : Anchor → Option ℕ) (in_file : List ℕ → Bool) : Type 0 where

@@ -6,7 +6,8 @@ use Rattle.scope_tables.specs.declared.entities.Occ.{Occ}
 use Rattle.scope_tables.specs.declared.entities.Role.{Role}
 use Rattle.scope_tables.specs.declared.entities.Role.TheVariants as role
 use Rattle.unit_index.specs.Known.{Known}
-use Rattle.unit_index.specs.Occurrences.{is_at, occs_of, shared}
+use Rattle.scope_tables.specs.Occurrences.{is_at}
+use Rattle.unit_index.specs.Occurrences.{occs_of, shared}
 use Rattle.unit_index.specs.Tokens.{in_order, is_outside}
 
 abbrev pub introduces : Role → Bool

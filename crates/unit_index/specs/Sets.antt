@@ -5,7 +5,7 @@ use Rattle.std.specs.BTreeSet as sorted
 use Rattle.indexmap.specs.IndexSet.{IndexSet, contains}
 use Rattle.tok_data.specs.declared.sources.TokId.{TokId}
 use Rattle.scope_tables.specs.declared.entities.Anchor.{Anchor}
-use Rattle.unit_index.specs.Occurrences.{same_anchor}
+use Rattle.scope_tables.specs.Occurrences.{same_anchor}
 use Rattle.unit_index.specs.Tokens.{tok_cmp}
 
 unfoldable pub has_anchor : {S : Type 0} → IndexSet Anchor S → Anchor → Bool

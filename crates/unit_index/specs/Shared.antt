@@ -8,7 +8,8 @@ use Rattle.unit_index.specs.declared.shared.Asked.{Asked}
 use Rattle.unit_index.specs.declared.shared.Asked.TheVariants as asked
 use Rattle.unit_index.specs.Definition.{defines, declares, toks_that}
 use Rattle.unit_index.specs.Known.{Known}
-use Rattle.unit_index.specs.Occurrences.{same_tok, same_anchor, shared}
+use Rattle.scope_tables.specs.Occurrences.{same_tok, same_anchor}
+use Rattle.unit_index.specs.Occurrences.{shared}
 use Rattle.unit_index.specs.Tokens.{in_order}
 
 abbrev pub any : Role → Bool

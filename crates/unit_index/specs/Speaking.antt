@@ -6,7 +6,8 @@ use Rattle.scope_tables.specs.declared.entities.Anchor.{Anchor}
 use Rattle.scope_tables.specs.declared.entities.Entity.{Entity}
 use Rattle.scope_tables.specs.declared.entities.Occ.{Occ}
 use Rattle.unit_index.specs.Known.{Known}
-use Rattle.unit_index.specs.Occurrences.{is_at, occs_of, same_anchor}
+use Rattle.scope_tables.specs.Occurrences.{is_at, same_anchor}
+use Rattle.unit_index.specs.Occurrences.{occs_of}
 
 -- the entity has this anchor
 abbrev pub is_named : Anchor → Entity → Bool

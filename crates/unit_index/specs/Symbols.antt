@@ -6,7 +6,7 @@ use Rattle.scope_tables.specs.declared.units.Symbol.{Symbol}
 use Rattle.scope_tables.specs.declared.units.SymbolKind.{SymbolKind}
 use Rattle.scope_tables.specs.declared.units.SymbolKind.TheVariants as kind
 use Rattle.unit_index.specs.Known.{Known}
-use Rattle.unit_index.specs.Occurrences.{same_tok}
+use Rattle.scope_tables.specs.Occurrences.{same_tok}
 use Rattle.unit_index.specs.Tokens.{in_order}
 
 abbrev pub reads_it : List ℕ → Known → Bool

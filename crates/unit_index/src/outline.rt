@@ -3,7 +3,7 @@ ghost use Rattle.std.specs.Prelude.{◌≡◌, ◌&&◌, ◌||◌, ℕ, List, ma
 ghost use Rattle.std.specs.List.{filter, find, list_any, slice_get};
 ghost use Rattle.tok_data.specs.declared.sources.TokId.{TokId as Token};
 ghost use Rattle.unit_index.specs.Chains.{at_tok, first_from};
-ghost use Rattle.unit_index.specs.Occurrences.{same_tok};
+ghost use Rattle.scope_tables.specs.Occurrences.{same_tok};
 ghost use Rattle.unit_index.specs.Sets as sets;
 ghost use Rattle.unit_index.specs.Symbols as spec;
 ghost use Rattle.unit_index.specs.Tokens.{in_order};

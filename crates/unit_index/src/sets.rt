@@ -3,7 +3,7 @@ ghost use Rattle.std.specs.Prelude.{◌≡◌, ◌||◌, false, List, IfOk, OnOk
 ghost use Rattle.std.specs.List.{filter};
 ghost use Rattle.scope_tables.specs.declared.entities.Anchor.{Anchor as AnyAnchor};
 ghost use Rattle.tok_data.specs.declared.sources.TokId.{TokId as Token};
-ghost use Rattle.unit_index.specs.Occurrences.{same_anchor, same_tok};
+ghost use Rattle.scope_tables.specs.Occurrences.{same_anchor, same_tok};
 ghost use Rattle.unit_index.specs.Sets as spec;
 ghost use Rattle.unit_index.specs.Tokens;
 

@@ -3,6 +3,7 @@ ghost use Rattle.std.specs.Prelude.{◌≡◌, ◌||◌, ◌&&◌, Bool, List, m
 ghost use Rattle.std.specs.List.{filter, list_any};
 ghost use Rattle.scope_tables.specs.declared.entities.Anchor.{Anchor as AnyAnchor};
 ghost use Rattle.tok_data.specs.declared.sources.TokId.{TokId as Token};
+ghost use Rattle.scope_tables.specs.Occurrences.{is_at, same_tok};
 ghost use Rattle.unit_index.specs.Occurrences as spec;
 ghost use Rattle.unit_index.specs.Sets as sets;
 ghost use Rattle.unit_index.specs.Shared as found;
@@ -52,7 +53,7 @@ fn add_anchors(
     unit: &IndexedUnit,
     tok: &TokId,
 ) -> Result<(), AllocError>
-    ensures { OnOk result ((q : AnyAnchor) → sets.has_anchor anchors.new q ≡ sets.has_anchor anchors.old q || list_any (found.is_under q) (filter (spec.is_at tok.now) (spec.occs_of unit.now))) }
+    ensures { OnOk result ((q : AnyAnchor) → sets.has_anchor anchors.new q ≡ sets.has_anchor anchors.old q || list_any (found.is_under q) (filter (is_at tok.now) (spec.occs_of unit.now))) }
 {
     let mut walk = unit.at(tok);
     'occs: while let Some(occ) = walk.step() {
@@ -67,7 +68,7 @@ pub(crate) fn anchors_of(
     units: &[IndexedUnit],
     tok: &TokId,
 ) -> Result<IndexSet<Anchor>, AllocError>
-    ensures { IfOk result (λ anchors. (q : AnyAnchor) → sets.has_anchor anchors q ≡ list_any (λ u. list_any (found.is_under q) (filter (spec.is_at tok.now) (spec.occs_of u))) units.now) }
+    ensures { IfOk result (λ anchors. (q : AnyAnchor) → sets.has_anchor anchors q ≡ list_any (λ u. list_any (found.is_under q) (filter (is_at tok.now) (spec.occs_of u))) units.now) }
 {
     let mut anchors = no_anchors(alloc);
     let mut rest = units;
@@ -137,7 +138,7 @@ fn mentions(
 
 /// The tokens of a set, ascending.
 pub(crate) fn listed(alloc: Global, tokens: BTreeSet<TokId>) -> Result<Vec<TokId>, AllocError>
-    ensures { IfOk result (λ list. (ts : List Token) → ((q : Token) → sets.has_tok tokens q ≡ list_any (λ t. spec.same_tok t q) ts) → list.items ≡ in_order ts) }
+    ensures { IfOk result (λ list. (ts : List Token) → ((q : Token) → sets.has_tok tokens q ≡ list_any (λ t. same_tok t q) ts) → list.items ≡ in_order ts) }
 {
     let mut list = Vec::with_capacity(alloc, tokens.len())?;
     let mut rest = tokens;
@@ -156,7 +157,7 @@ pub(crate) fn tokens_of(
     tok: &TokId,
     anchors: &IndexSet<Anchor>,
 ) -> Result<Vec<TokId>, AllocError>
-    requires { (q : AnyAnchor) → sets.has_anchor anchors.now q ≡ list_any (λ u. list_any (found.is_under q) (filter (spec.is_at tok.now) (spec.occs_of u))) units.now }
+    requires { (q : AnyAnchor) → sets.has_anchor anchors.now q ≡ list_any (λ u. list_any (found.is_under q) (filter (is_at tok.now) (spec.occs_of u))) units.now }
     ensures { IfOk result (λ tokens. tokens.items ≡ found.tokens_of asked units.now tok.now) }
 {
     let tokens = mentions(alloc, asked, units, anchors.as_slice())?;

@@ -3,6 +3,7 @@ ghost use Rattle.std.specs.Prelude.{◌≡◌, ℕ, List, option_map, IfOk};
 ghost use Rattle.std.specs.List.{filter, find, list_any};
 ghost use Rattle.unit_index.specs.Files.{introduces_in};
 ghost use Rattle.unit_index.specs.Groups.{same_file};
+ghost use Rattle.scope_tables.specs.Occurrences.{is_at};
 ghost use Rattle.unit_index.specs.Occurrences as spec;
 ghost use Rattle.unit_index.specs.Speaking.{is_named};
 
@@ -74,7 +75,7 @@ impl IndexedUnit {
 
     /// The occurrences of a token that denote an entity, in order.
     pub(crate) fn at(&self, tok: &TokId) -> Walk<'_>
-        ensures { result ≡ filter (spec.is_at tok.now) self.now.meaning.occs }
+        ensures { result ≡ filter (is_at tok.now) self.now.meaning.occs }
     {
         self.inside.at(tok)
     }
@@ -88,7 +89,7 @@ impl IndexedUnit {
 
     /// The first occurrence of a token that denotes an entity.
     pub(crate) fn first(&self, tok: &TokId) -> Option<&Occ>
-        ensures { option_map (λ o. o.now) result ≡ find (spec.is_at tok.now) self.now.meaning.occs }
+        ensures { option_map (λ o. o.now) result ≡ find (is_at tok.now) self.now.meaning.occs }
     {
         self.inside.first(tok)
     }

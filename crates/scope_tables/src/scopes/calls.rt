@@ -28,6 +28,16 @@ impl Scopes {
         self.marks.len()
     }
 
+    /// The kind of the innermost scope; none where no scope is entered.
+    pub fn kind(&self) -> Option<ScopeKind>
+        ensures { result ≡ spec.innermost_kind self.now }
+    {
+        match self.marks.last() {
+            Some(mark) => Some(mark.kind),
+            None => None,
+        }
+    }
+
     /// A scope within the others. Where memory is refused the scopes are as before.
     pub fn enter(&mut self, kind: ScopeKind) -> Result<(), AllocError>
         ensures entered { OnOk result (self.new ≡ spec.entered kind self.old) }

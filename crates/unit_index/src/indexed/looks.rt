@@ -3,6 +3,7 @@ ghost use Rattle.std.specs.Prelude.{◌≡◌, ℕ, List, option_map, IfOk};
 ghost use Rattle.std.specs.List.{filter, find, list_any, slice_get};
 ghost use Rattle.unit_index.specs.Files.{introduces_in};
 ghost use Rattle.unit_index.specs.Groups.{same_file};
+ghost use Rattle.scope_tables.specs.Occurrences.{is_at};
 ghost use Rattle.unit_index.specs.Occurrences as spec;
 ghost use Rattle.unit_index.specs.Speaking.{is_named};
 
@@ -79,7 +80,7 @@ impl Indexed {
 
     /// The occurrences of a token that denote an entity, in order.
     pub(crate) fn at(&self, tok: &TokId) -> Walk<'_>
-        ensures { result ≡ filter (spec.is_at tok.now) self.now.meaning.occs }
+        ensures { result ≡ filter (is_at tok.now) self.now.meaning.occs }
     {
         Walk::new(
             By::Token,
@@ -103,7 +104,7 @@ impl Indexed {
 
     /// The first occurrence of a token that denotes an entity.
     pub(crate) fn first(&self, tok: &TokId) -> Option<&Occ>
-        ensures { option_map (λ o. o.now) result ≡ find (spec.is_at tok.now) self.now.meaning.occs }
+        ensures { option_map (λ o. o.now) result ≡ find (is_at tok.now) self.now.meaning.occs }
     {
         match first_at(&self.tokens, tok) {
             Some(place) => occ_at(self.meaning.occs.as_slice(), place),

@@ -3,7 +3,8 @@ use Rattle.std.specs.List.{find}
 use Rattle.rename_core.specs.Found.{has_tok, in_order, meanings_told, name_told}
 use Rattle.rename_core.specs.Lists.{listed}
 use Rattle.rename_core.specs.Mentions.{same_denoted}
-use Rattle.rename_core.specs.Occurrences.{same_tok, first_some}
+use Rattle.scope_tables.specs.Occurrences.{same_tok}
+use Rattle.rename_core.specs.Occurrences.{first_some}
 use Rattle.rename_core.proofs.ClassLemmas.{class_is, external_is, pasted_is, spelled_is, two_is}
 use Rattle.rename_core.proofs.finding.class_of.Goals as goal
 

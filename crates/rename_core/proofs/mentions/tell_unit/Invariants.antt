@@ -2,7 +2,8 @@ use Rattle.std.proofs.Common.{◌≡◌, ◌++◌, length, map}
 use Rattle.tok_data.specs.declared.sources.TokId.{TokId}
 use Rattle.rename_core.specs.Lists.{listed}
 use Rattle.rename_core.specs.Mentions.{told_in}
-use Rattle.rename_core.specs.Occurrences.{same_tok, anchors_at}
+use Rattle.scope_tables.specs.Occurrences.{same_tok}
+use Rattle.rename_core.specs.Occurrences.{anchors_at}
 use Rattle.rename_core.proofs.mentions.tell_unit.Given as goal
 
 abbrev pub invariant-occs : goal.invariant-occs

@@ -1,7 +1,8 @@
 use Rattle.std.proofs.Common.{◌≡◌, length}
 use Rattle.rename_core.specs.Found.{name_told}
 use Rattle.rename_core.specs.Lists.{listed}
-use Rattle.rename_core.specs.Occurrences.{same_tok, first_some}
+use Rattle.scope_tables.specs.Occurrences.{same_tok}
+use Rattle.rename_core.specs.Occurrences.{first_some}
 use Rattle.rename_core.proofs.showing.external.Given as goal
 
 abbrev pub invariant-toks : goal.invariant-toks

@@ -1,5 +1,5 @@
 use Rattle.std.proofs.Common.{◌≡◌, length}
-use Rattle.rename_core.specs.Occurrences.{same_tok}
+use Rattle.scope_tables.specs.Occurrences.{same_tok}
 use Rattle.rename_core.specs.Steps.{noted_all}
 use Rattle.rename_core.proofs.walk.note_all.Given as goal
 

@@ -1,7 +1,7 @@
 use Rattle.std.proofs.Common.{◌-◌}
 use Rattle.rename_core.specs.Lists.{listed}
 use Rattle.rename_core.specs.Mentions.{same_denoted}
-use Rattle.rename_core.specs.Occurrences.{same_tok}
+use Rattle.scope_tables.specs.Occurrences.{same_tok}
 use Rattle.rename_core.proofs.GoingLemmas.{GoingOn}
 use Rattle.rename_core.proofs.walk.walk_from.Given as goal
 

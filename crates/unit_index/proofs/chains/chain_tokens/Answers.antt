@@ -1,6 +1,6 @@
 use Rattle.std.proofs.Common.{refl, ◌∙◌}
 use Rattle.unit_index.specs.Chains.{by_token}
-use Rattle.unit_index.specs.Occurrences.{is_at}
+use Rattle.scope_tables.specs.Occurrences.{is_at}
 use Rattle.unit_index.proofs.ChainLemmas.{links_begin, links_turn, links_end}
 use Rattle.unit_index.proofs.chains.chain_tokens.Goals as goal
 

@@ -1,6 +1,6 @@
 use Rattle.std.proofs.Common.{length}
 use Rattle.unit_index.specs.Chains.{at_tok, by_token}
-use Rattle.unit_index.specs.Occurrences.{is_at}
+use Rattle.scope_tables.specs.Occurrences.{is_at}
 use Rattle.unit_index.proofs.ChainLemmas.{AreLinked}
 use Rattle.unit_index.proofs.chains.chain_tokens.Given as goal
 

@@ -1,5 +1,6 @@
 use Rattle.std.proofs.Common.{sym, ◌∙◌}
-use Rattle.unit_index.specs.Occurrences.{is_at, occs_of}
+use Rattle.scope_tables.specs.Occurrences.{is_at}
+use Rattle.unit_index.specs.Occurrences.{occs_of}
 use Rattle.unit_index.specs.References.{introduces}
 use Rattle.unit_index.proofs.SharedLemmas.{any_filter, any_here, any_nowhere}
 use Rattle.unit_index.proofs.introduced.introduces_here.Goals as goal

@@ -1,6 +1,7 @@
 use Rattle.std.proofs.Common.{◌≡◌, length}
 use Rattle.std.specs.List.{filter, list_any}
-use Rattle.unit_index.specs.Occurrences.{is_at, occs_of}
+use Rattle.scope_tables.specs.Occurrences.{is_at}
+use Rattle.unit_index.specs.Occurrences.{occs_of}
 use Rattle.unit_index.specs.References.{introduces}
 use Rattle.unit_index.proofs.introduced.introduces_here.Given as goal
 

@@ -1,7 +1,7 @@
 use Rattle.std.proofs.Common.{◌≡◌, ◌||◌, ◌&&◌, length}
 use Rattle.std.specs.List.{list_any}
 use Rattle.tok_data.specs.declared.sources.TokId.{TokId}
-use Rattle.unit_index.specs.Occurrences.{same_tok}
+use Rattle.scope_tables.specs.Occurrences.{same_tok}
 use Rattle.unit_index.specs.Sets.{has_tok}
 use Rattle.unit_index.specs.Symbols.{in_file}
 use Rattle.unit_index.proofs.outline.tokens_in.Given as goal

@@ -1,5 +1,5 @@
 use Rattle.std.proofs.Common.{◌||◌, ap, ◌∙◌}
-use Rattle.unit_index.specs.Occurrences.{same_tok}
+use Rattle.scope_tables.specs.Occurrences.{same_tok}
 use Rattle.unit_index.specs.Sets.{has_tok}
 use Rattle.unit_index.proofs.OrderLemmas.{added}
 use Rattle.unit_index.proofs.sets.add_token.Goals as goal

@@ -1,7 +1,8 @@
 use Rattle.std.proofs.Common.{◌≡◌, ◌||◌, length}
 use Rattle.std.specs.List.{filter, list_any}
 use Rattle.scope_tables.specs.declared.entities.Anchor.{Anchor}
-use Rattle.unit_index.specs.Occurrences.{is_at, occs_of}
+use Rattle.scope_tables.specs.Occurrences.{is_at}
+use Rattle.unit_index.specs.Occurrences.{occs_of}
 use Rattle.unit_index.specs.Sets.{has_anchor}
 use Rattle.unit_index.specs.Shared.{is_under}
 use Rattle.unit_index.proofs.shared.add_anchors.Given as goal

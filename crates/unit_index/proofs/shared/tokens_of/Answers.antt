@@ -1,7 +1,8 @@
 use Rattle.std.proofs.Common.{ap, ◌∙◌}
 use Rattle.std.specs.List.{list_any}
 use Rattle.unit_index.specs.Definition.{toks_that}
-use Rattle.unit_index.specs.Occurrences.{same_anchor, shared}
+use Rattle.scope_tables.specs.Occurrences.{same_anchor}
+use Rattle.unit_index.specs.Occurrences.{shared}
 use Rattle.unit_index.specs.Shared.{is_asked}
 use Rattle.unit_index.proofs.SharedLemmas.{keys_alike, mentioned}
 use Rattle.unit_index.proofs.shared.tokens_of.Goals as goal

@@ -1,6 +1,6 @@
 use Rattle.std.proofs.Common.{ap, ◌∙◌}
 use Rattle.std.specs.List.{filter}
-use Rattle.unit_index.specs.Occurrences.{is_at}
+use Rattle.scope_tables.specs.Occurrences.{is_at}
 use Rattle.unit_index.proofs.LookLemmas.{tokens_lead, tokens_left}
 use Rattle.unit_index.proofs.indexed.Indexed.at.Goals as goal
 

@@ -1,6 +1,6 @@
 use Rattle.std.proofs.Common.{ap, Some, None, ◌∙◌}
 use Rattle.std.specs.List.{find, slice_get}
-use Rattle.unit_index.specs.Occurrences.{is_at}
+use Rattle.scope_tables.specs.Occurrences.{is_at}
 use Rattle.unit_index.proofs.LookLemmas.{found}
 use Rattle.unit_index.proofs.indexed.Indexed.first.Goals as goal
 
