@@ -12,8 +12,8 @@ use Rattle.rename_core.specs.Mentions.{same_denoted, denoted_by, tolds, tokens_o
 use Rattle.scope_tables.specs.Occurrences.{same_tok}
 use Rattle.rename_core.specs.Occurrences.{in_class, first_some}
 use Rattle.rename_core.specs.Showing.{external, pasted, spelled, spelled_in, two}
-use Rattle.rename_core.specs.Steps.{Seen}
-use Rattle.rename_core.specs.Walked.{IsWalked}
+use Rattle.rename_core.specs.Ties.Steps.{Seen}
+use Rattle.rename_core.specs.Ties.Walked.{IsWalked}
 use Rattle.rename_core.proofs.LinkLemmas.{keys, tokens, chain_reaches, reaches_chain}
 use Rattle.rename_core.proofs.OrderLemmas.{has_same, ordered}
 use Rattle.rename_core.proofs.PastedLemmas.{pasted_are}

@@ -6,8 +6,8 @@ use Rattle.rename_core.specs.declared.mentions.Told.{Told}
 use Rattle.rename_core.specs.declared.mentions.Denoted.{Denoted}
 use Rattle.rename_core.specs.Mentions.{same_denoted, denoted_by}
 use Rattle.scope_tables.specs.Occurrences.{same_tok}
-use Rattle.rename_core.specs.Steps.{Seen, steps}
-use Rattle.rename_core.specs.Walked.{IsWalked}
+use Rattle.rename_core.specs.Ties.Steps.{Seen, steps}
+use Rattle.rename_core.specs.Ties.Walked.{IsWalked}
 use Rattle.rename_core.proofs.MentionLemmas.{tok_exact, denoted_exact}
 use Rattle.rename_core.proofs.WalkLemmas.{Going, going_begins, going_turns, going_ends}
 

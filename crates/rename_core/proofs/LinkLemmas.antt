@@ -13,7 +13,7 @@ use Rattle.rename_core.specs.Classes.{Has, Linked, in_a_unit, by_name, Reaches, 
 use Rattle.rename_core.specs.Mentions.{same_denoted, denoted_in, denoted_by, told_in, is_of, tolds, tokens_in, tokens_of}
 use Rattle.scope_tables.specs.Occurrences.{same_tok, same_anchor, counts, is_at}
 use Rattle.rename_core.specs.Occurrences.{anchors_at, denotes}
-use Rattle.rename_core.specs.Walked.{Shares, Chain, first, further}
+use Rattle.rename_core.specs.Ties.Walked.{Shares, Chain, first, further}
 use Rattle.rename_core.proofs.MentionLemmas.{tok_exact, anchor_exact, denoted_exact}
 use Rattle.rename_core.proofs.WalkLemmas.{either_true, has_front, has_back, has_parts, or_first, or_later}
 

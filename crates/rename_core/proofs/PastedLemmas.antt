@@ -13,8 +13,8 @@ use Rattle.rename_core.specs.Mentions.{same_denoted, denoted_in}
 use Rattle.scope_tables.specs.Occurrences.{same_tok, same_anchor, counts}
 use Rattle.rename_core.specs.Occurrences.{in_class, or_later, first_some}
 use Rattle.rename_core.specs.Showing.{across, has_anchor, class_has, is_pasted, is_pasted_of, pasted_in}
-use Rattle.rename_core.specs.Steps.{Seen}
-use Rattle.rename_core.specs.Walked.{Chain, first, From, IsWalked}
+use Rattle.rename_core.specs.Ties.Steps.{Seen}
+use Rattle.rename_core.specs.Ties.Walked.{Chain, first, From, IsWalked}
 use Rattle.rename_core.proofs.LinkLemmas.{Says, both, and_true, keys_say, says_keys, says_tokens, keys, tokens, get_has, has_get, same_unit, anchor_is_same, some_unit}
 use Rattle.rename_core.proofs.MentionLemmas.{anchor_exact}
 use Rattle.rename_core.proofs.WalkLemmas.{either_true, or_first, or_later as or_second}

@@ -4,8 +4,8 @@ use Rattle.std.specs.Bool.{Decides}
 use Rattle.std.specs.List.{list_any, slice_get}
 use Rattle.std.specs.Prelude.{if◌then◌else◌, ◌⊎◌}
 use Rattle.indexmap.specs.IndexSet.{insert_key}
-use Rattle.rename_core.specs.Steps.{Seen, noted_all, step, steps}
-use Rattle.rename_core.specs.Walked.{Chain, first, further, From, IsWalked}
+use Rattle.rename_core.specs.Ties.Steps.{Seen, noted_all, step, steps}
+use Rattle.rename_core.specs.Ties.Walked.{Chain, first, further, From, IsWalked}
 
 no : {b : Bool} → b ≡ true → b ≡ false → ⊥
 no t f = cc

@@ -3,11 +3,9 @@ pub mod Clashes
 pub mod Classes
 pub mod Found
 pub mod Kept
-pub mod Lists
 pub mod Mentions
 pub mod Occurrences
 pub mod Refusals
 pub mod Showing
-pub mod Steps
 pub mod Views
-pub mod Walked
+pub mod Ties

@@ -1,6 +1,6 @@
 // Lists by keys.
 ghost use Rattle.std.specs.Prelude.{◌≡◌, ◌∷◌, [], ◌++◌, OnOk, if◌then◌else◌};
-ghost use Rattle.rename_core.specs.Lists.{listed};
+ghost use Rattle.rename_core.specs.Ties.Lists.{listed};
 
 use crate::grown::Grown;
 use std::alloc::{AllocError, Global};
@@ -8,7 +8,7 @@ use std::collections::HashMap;
 use std::hash::Hash;
 
 /// No lists.
-#[tactic(auto, unfolding(crate::specs::Lists::listed))]
+#[tactic(auto, unfolding(crate::specs::Ties::Lists::listed))]
 pub(crate) fn no_lists<K: Eq + Hash + Drop, V: Drop>(alloc: Global) -> HashMap<K, Grown<V>>
     ensures { (q : K) → listed K.eq result q ≡ [] }
 {
@@ -16,7 +16,7 @@ pub(crate) fn no_lists<K: Eq + Hash + Drop, V: Drop>(alloc: Global) -> HashMap<K
 }
 
 /// The list of a key, empty where it has none.
-#[tactic(auto, unfolding(crate::specs::Lists::listed))]
+#[tactic(auto, unfolding(crate::specs::Ties::Lists::listed))]
 pub(crate) fn list_of<'a, K: Eq + Hash + Drop, V: Drop>(
     lists: &'a HashMap<K, Grown<V>>,
     key: &K,
@@ -30,7 +30,7 @@ pub(crate) fn list_of<'a, K: Eq + Hash + Drop, V: Drop>(
 }
 
 /// Puts a value behind those of its key.
-#[tactic(auto, unfolding(crate::specs::Lists::listed))]
+#[tactic(auto, unfolding(crate::specs::Ties::Lists::listed))]
 pub(crate) fn add_to<K: Eq + Hash + Drop, V: Drop>(
     alloc: Global,
     lists: &mut HashMap<K, Grown<V>>,

@@ -2,7 +2,7 @@
 ghost use Rattle.std.specs.Prelude.{◌≡◌, ◌∷◌, [], ◌++◌, List, map, IfOk, OnOk, if◌then◌else◌};
 ghost use Rattle.tok_data.specs.declared.sources.TokId.{TokId as Token};
 ghost use Rattle.rename_core.specs.declared.mentions.Denoted.{Denoted as Key};
-ghost use Rattle.rename_core.specs.Lists.{listed};
+ghost use Rattle.rename_core.specs.Ties.Lists.{listed};
 ghost use Rattle.rename_core.specs.Mentions as spec;
 ghost use Rattle.rename_core.specs.Occurrences;
 

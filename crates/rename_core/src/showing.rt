@@ -2,7 +2,7 @@
 ghost use Rattle.std.specs.Prelude.{◌≡◌, option_map, IfOk};
 ghost use Rattle.std.specs.List.{find};
 ghost use Rattle.rename_core.specs.Found as spec;
-ghost use Rattle.rename_core.specs.Lists.{listed};
+ghost use Rattle.rename_core.specs.Ties.Lists.{listed};
 ghost use Rattle.scope_tables.specs.Occurrences.{same_tok};
 ghost use Rattle.rename_core.specs.Occurrences.{first_some};
 ghost use Rattle.rename_core.specs.Showing;

@@ -4,11 +4,11 @@ ghost use Rattle.std.specs.List.{list_any};
 ghost use Rattle.indexmap.specs.IndexSet.{insert_key};
 ghost use Rattle.tok_data.specs.declared.sources.TokId.{TokId as Token};
 ghost use Rattle.rename_core.specs.declared.mentions.Denoted.{Denoted as Key};
-ghost use Rattle.rename_core.specs.Lists.{listed};
+ghost use Rattle.rename_core.specs.Ties.Lists.{listed};
 ghost use Rattle.rename_core.specs.Mentions.{denoted_by, same_denoted};
 ghost use Rattle.scope_tables.specs.Occurrences.{same_tok};
-ghost use Rattle.rename_core.specs.Steps as spec;
-ghost use Rattle.rename_core.specs.Walked.{IsWalked};
+ghost use Rattle.rename_core.specs.Ties.Steps as spec;
+ghost use Rattle.rename_core.specs.Ties.Walked.{IsWalked};
 
 use crate::grown::Grown;
 use crate::lists::list_of;
@@ -29,7 +29,7 @@ pub(crate) struct Walk {
 impl Model for Walk {
     ghost use Rattle.tok_data.specs.declared.sources.TokId.{TokId};
     ghost use Rattle.rename_core.specs.declared.mentions.Denoted.{Denoted};
-    ghost use Rattle.rename_core.specs.Steps.{Seen};
+    ghost use Rattle.rename_core.specs.Ties.Steps.{Seen};
 
     ghost Value = { Seen TokId Denoted };
 

@@ -1,7 +1,7 @@
 use Rattle.std.proofs.Common.{ap, map, sym, ◌∙◌}
 use Rattle.std.specs.List.{find}
 use Rattle.rename_core.specs.Found.{has_tok, in_order, meanings_told, name_told}
-use Rattle.rename_core.specs.Lists.{listed}
+use Rattle.rename_core.specs.Ties.Lists.{listed}
 use Rattle.rename_core.specs.Mentions.{same_denoted}
 use Rattle.scope_tables.specs.Occurrences.{same_tok}
 use Rattle.rename_core.specs.Occurrences.{first_some}

@@ -1,6 +1,6 @@
 use Rattle.std.proofs.Common.{◌≡◌, ◌++◌, length}
 use Rattle.rename_core.specs.declared.mentions.Denoted.{Denoted}
-use Rattle.rename_core.specs.Lists.{listed}
+use Rattle.rename_core.specs.Ties.Lists.{listed}
 use Rattle.rename_core.specs.Mentions.{same_denoted, tokens_in}
 use Rattle.rename_core.proofs.mentions.mention_unit.Given as goal
 

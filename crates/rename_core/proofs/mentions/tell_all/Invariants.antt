@@ -1,6 +1,6 @@
 use Rattle.std.proofs.Common.{◌≡◌, ◌-◌, ◌++◌, length, drop, map}
 use Rattle.tok_data.specs.declared.sources.TokId.{TokId}
-use Rattle.rename_core.specs.Lists.{listed}
+use Rattle.rename_core.specs.Ties.Lists.{listed}
 use Rattle.rename_core.specs.Mentions.{tolds}
 use Rattle.scope_tables.specs.Occurrences.{same_tok}
 use Rattle.rename_core.proofs.mentions.tell_all.Given as goal

@@ -1,6 +1,6 @@
 use Rattle.std.proofs.Common.{◌≡◌, ◌++◌, length, map}
 use Rattle.tok_data.specs.declared.sources.TokId.{TokId}
-use Rattle.rename_core.specs.Lists.{listed}
+use Rattle.rename_core.specs.Ties.Lists.{listed}
 use Rattle.rename_core.specs.Mentions.{told_in}
 use Rattle.scope_tables.specs.Occurrences.{same_tok}
 use Rattle.rename_core.specs.Occurrences.{anchors_at}

@@ -1,6 +1,6 @@
 use Rattle.std.proofs.Common.{◌≡◌, length}
 use Rattle.rename_core.specs.Found.{name_told}
-use Rattle.rename_core.specs.Lists.{listed}
+use Rattle.rename_core.specs.Ties.Lists.{listed}
 use Rattle.scope_tables.specs.Occurrences.{same_tok}
 use Rattle.rename_core.specs.Occurrences.{first_some}
 use Rattle.rename_core.proofs.showing.external.Given as goal

@@ -1,6 +1,6 @@
 use Rattle.std.proofs.Common.{◌≡◌, length}
 use Rattle.scope_tables.specs.Occurrences.{same_tok}
-use Rattle.rename_core.specs.Steps.{noted_all}
+use Rattle.rename_core.specs.Ties.Steps.{noted_all}
 use Rattle.rename_core.proofs.walk.note_all.Given as goal
 
 abbrev pub invariant-found : goal.invariant-found

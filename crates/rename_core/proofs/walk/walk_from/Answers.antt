@@ -1,6 +1,6 @@
 use Rattle.std.proofs.Common.{rules, ◌≡◌, Some, None}
 use Rattle.std.specs.List.{slice_get}
-use Rattle.rename_core.specs.Lists.{listed}
+use Rattle.rename_core.specs.Ties.Lists.{listed}
 use Rattle.rename_core.specs.Mentions.{same_denoted}
 use Rattle.scope_tables.specs.Occurrences.{same_tok}
 use Rattle.rename_core.proofs.GoingLemmas.{begins_so, turns_so, ends_so}

@@ -1,5 +1,5 @@
 use Rattle.std.proofs.Common.{◌-◌}
-use Rattle.rename_core.specs.Lists.{listed}
+use Rattle.rename_core.specs.Ties.Lists.{listed}
 use Rattle.rename_core.specs.Mentions.{same_denoted}
 use Rattle.scope_tables.specs.Occurrences.{same_tok}
 use Rattle.rename_core.proofs.GoingLemmas.{GoingOn}

@@ -1,8 +1,8 @@
 use Rattle.std.proofs.Common.{◌≡◌, length, map}
-use Rattle.rename_core.specs.Lists.{listed}
+use Rattle.rename_core.specs.Ties.Lists.{listed}
 use Rattle.rename_core.specs.Mentions.{denoted_by, same_denoted}
 use Rattle.scope_tables.specs.Occurrences.{same_tok}
-use Rattle.rename_core.specs.Steps.{steps}
+use Rattle.rename_core.specs.Ties.Steps.{steps}
 use Rattle.rename_core.proofs.walk.Walk.steps.Given as goal
 
 abbrev pub invariant-told : goal.invariant-told

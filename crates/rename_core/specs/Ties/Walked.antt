@@ -1,7 +1,7 @@
 -- What a walk has come to when it ends, told by the lists that it goes along: of each token what it denotes, and of that the tokens.
 use Rattle.std.specs.Prelude.{◌≡◌, Bool, true, List, ◌⊎◌, ◌↔◌}
 use Rattle.std.specs.List.{list_any}
-use Rattle.rename_core.specs.Steps.{Seen}
+use Rattle.rename_core.specs.Ties.Steps.{Seen}
 
 module _ {A B : Type 0} (same : A → A → Bool) (alike : B → B → Bool) (keys : A → List B) (tokens : B → List A) where
   -- something that x denotes has y among its tokens
