@@ -8,6 +8,7 @@ use Rattle.doc_texts.specs.Docs.{loaded, is_outside}
 use Rattle.doc_texts.specs.declared.error.DocError.{DocError}
 use Rattle.doc_texts.specs.declared.error.DocError.TheVariants.{OutsideRoot}
 use Rattle.project_conf.specs.Entries.{entry_of, is_source, is_unit}
+use Rattle.project_conf.specs.declared.conf.Conf.{Conf}
 use Rattle.project_conf.specs.declared.conf.UnitConf.{UnitConf}
 use Rattle.c_session.specs.Asking.{Gives}
 use Rattle.c_session.specs.Files.{with_found}
@@ -15,7 +16,7 @@ use Rattle.c_session.specs.Handled.{Reached}
 use Rattle.c_session.specs.Loading.{Loading, with_log, settles, load_log, is_read, read_back, watched_log, updates, updates_at, updates_all}
 use Rattle.c_session.specs.Params.{FileChange}
 use Rattle.c_session.specs.Reasons.{Reason, ByTexts, by_uri}
-use Rattle.c_session.specs.Ties.Sessions.{SameOpen, Shifts, is_hinged}
+use Rattle.c_session.specs.Ties.Sessions.{SameOpen, Shifts, is_hinged, turns}
 use Rattle.c_session.specs.declared.params.FileChangeKind.{FileChangeKind}
 use Rattle.c_session.specs.declared.params.FileChangeKind.TheVariants.{Created, Changed, Deleted}
 use Rattle.c_session.proofs.Priors.{loaded_open, found_open}
@@ -63,6 +64,14 @@ pub other_hinged : (database : Option (List UnitConf)) (units : List UnitConf) (
     false ≡ is_hinged database path
 other_hinged database units path source some ends is =
     ap (λ b. b && not (list_any (λ unit. bytes_eq unit.file path) units)) (sym is ∙ ends) ∙ hinged_source database units path some
+
+not_hinged : (database : Option (List UnitConf)) (path : List ℕ) → is_source path ≡ false → false ≡ is_hinged database path
+not_hinged None path other = never_hinged None path refl
+not_hinged (Some units) path other = other_hinged (Some units) units path (is_source path) refl refl other
+
+-- what isn't a C source is a unit by the database alone
+pub no_source_turns : (conf : Conf) (path : List ℕ) (source : Bool) → source ≡ is_source path → source ≡ false → false ≡ turns conf (Some path)
+no_source_turns conf path source is other = not_hinged conf.database path (sym is ∙ other)
 
 unhinged_by : (entry source b c : Bool) → ((entry || true && source) && not (entry || false && source)) ≡ false → (entry || b && source) ≡ (entry || c && source)
 unhinged_by true source b c h = refl

@@ -342,13 +342,18 @@ impl Current {
         Ok(out)
     }
 
-    /// Whether the document that was opened or closed, if one was, is a unit by that, or none. It costs the database's text.
+    /// Whether the document that was opened or closed, if one was, is a unit by that, or none. For a C source it costs the
+    /// database's text.
+    #[tactic(auto, using(crate::proofs::Turning::no_source_turns))]
     fn turns(&self, shifted: Option<&Path>) -> Result<bool, AllocError>
         ensures { IfOk result (λ b. b ≡ turns (conf_in (current_state self.now)) (option_map (λ p. p.now) shifted.entry)) }
     {
         let Some(path) = shifted else {
             return Ok(false);
         };
+        if !is_source(path) {
+            return Ok(false);
+        }
         let conf = self.conf_now()?;
         Ok(is_hinged(&conf, path))
     }
