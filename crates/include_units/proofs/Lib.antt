@@ -1,5 +1,6 @@
 pub mod CommandLemmas
 pub mod FaultLemmas
+pub mod FewLemmas
 pub mod FirstLemmas
 pub mod HeaderLemmas
 pub mod Lawful

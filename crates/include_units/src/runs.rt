@@ -16,7 +16,9 @@ use crate::tokens::{is_mark, is_word};
 use crate::told::{Told, places_at};
 use crate::types::Want;
 use c_tokens::Places;
-use macro_expand::{Expanded, Within, expand, expand_within, lines_change_nothing};
+use macro_expand::{
+    Expanded, Within, expand, expand_within, lines_change_nothing, more_lines_change_nothing,
+};
 use std::alloc::{AllocError, Global};
 use tok_data::{OutToken, OutTokens, PpKind, TokId};
 
@@ -426,6 +428,89 @@ fn within_told(
     }
 }
 
+// The lines of the tokens that spell `__LINE__`.
+fn few_lines(
+    alloc: Global,
+    places: &Places,
+    tokens: &[OutToken],
+) -> Result<Vec<(TokId, u32)>, AllocError>
+    ensures { IfOk result (λ lines. lines.items ≡ rooms.few_lines places.now tokens.now) }
+{
+    let mut lines = Vec::new(alloc);
+    let mut rest = tokens;
+    while let Some((token, behind)) = rest.split_first() {
+        rest = behind;
+        if is_word("__LINE__", token) {
+            let site = token.site.copy()?;
+            lines.push((site, line_of(places, token.site.at)))?;
+            continue;
+        }
+    }
+    Ok(lines)
+}
+
+// The lines of those tokens of a text that spell `__LINE__`, where they are told.
+fn told_few(
+    alloc: Global,
+    files: &Told,
+    source: &Source,
+    tokens: &[OutToken],
+) -> Result<Option<Vec<(TokId, u32)>>, AllocError>
+    ensures { IfOk result (λ told. IfSome told (λ lines. rooms.AreFew files.now source.now tokens.now lines.items)) }
+{
+    match source {
+        Source::Own(text) => {
+            let lines = few_lines(alloc, text.places().as_places(), tokens)?;
+            Ok(Some(lines))
+        }
+        Source::File(path) => match places_at(files, path) {
+            Some(places) => {
+                let lines = few_lines(alloc, places.as_places(), tokens)?;
+                Ok(Some(lines))
+            }
+            None => Ok(None),
+        },
+    }
+}
+
+// With these lines at first: where no other is wanted, all of them make no difference.
+fn within_few(
+    alloc: Global,
+    files: &Told,
+    text: &Text,
+    tokens: &[OutToken],
+    few: &[(TokId, u32)],
+    room: usize,
+    made: &Made,
+) -> Result<Within, Stop>
+    requires { rooms.AreFew files.now text.now.source tokens.now few.now }
+    ensures { Comes files.now (rooms.within_in text.now tokens.now room made.now) (λ w. w) result }
+{
+    more_lines_change_nothing();
+    let first = expand_within(alloc, tokens, &made.table, few, made.left, room)?;
+    let None = first.expanded.asked else {
+        return within_told(alloc, files, text, tokens, room, made);
+    };
+    Ok(first)
+}
+
+fn within_line(
+    alloc: Global,
+    files: &Told,
+    text: &Text,
+    tokens: &[OutToken],
+    room: usize,
+    made: &Made,
+) -> Result<Within, Stop>
+    ensures { Comes files.now (rooms.within_in text.now tokens.now room made.now) (λ w. w) result }
+{
+    let told = told_few(alloc, files, &text.source, tokens)?;
+    match told {
+        Some(few) => within_few(alloc, files, text, tokens, few.as_slice(), room, made),
+        None => within_asked(alloc, files, text, tokens, room, made),
+    }
+}
+
 // `__LINE__` stands there.
 fn has_line(tokens: &[OutToken]) -> bool
     ensures { result ≡ list_any (is_word (codes "__LINE__")) tokens.now }
@@ -445,7 +530,7 @@ fn within_in(
     ensures { Comes files.now (rooms.within_in text.now tokens.now room made.now) (λ w. w) result }
 {
     if has_line(tokens) {
-        return within_told(alloc, files, text, tokens, room, made);
+        return within_line(alloc, files, text, tokens, room, made);
     }
     within_asked(alloc, files, text, tokens, room, made)
 }
