@@ -1,7 +1,6 @@
 pub mod Asking
 pub mod Counting
 pub mod Elements
-pub mod Floats
 pub mod Loads
 pub mod Nothing
 pub mod PathSets

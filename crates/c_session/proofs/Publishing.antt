@@ -1,12 +1,12 @@
 -- The text of a notification is what is written piece by piece.
-use Rattle.std.proofs.Common.{◌≡◌, ℕ, ℤ, List, ◌++◌, Option, None, Some, false, refl, sym, ap, ◌∙◌, append_assoc, codes, length}
+use Rattle.std.proofs.Common.{◌≡◌, ℕ, ℤ, List, ◌++◌, Option, None, Some, false, refl, sym, ap, ◌∙◌, append_assoc, codes}
 use Rattle.serde_json.specs.Data.{Data, string}
 use Rattle.serde_json.specs.View.{items_of}
 use Rattle.serde_json.specs.Written.{compact_text, items_text}
 use Rattle.serde_json.proofs.OnLiterals.{serde_json_on_literals}
 use Rattle.c_session.specs.Ties.Published.{number_data, publish_start, publish_end, version_part}
-use Rattle.frame_form.specs.Written.{header_of, framed}
-use Rattle.c_session.specs.Replies.{publish, publish_data}
+use Rattle.frame_form.specs.Written.{framed}
+use Rattle.c_session.specs.Diagnostics.{publish, publish_data}
 
 -- the text as it is made of its members
 spelled_out : (items uri version : List ℕ) → List ℕ
@@ -40,13 +40,3 @@ published uri version diagnostics content is =
 pub versioned : (body text : List ℕ) (z : ℤ) (version : Option ℤ) → {new : List ℕ} → version ≡ Some z → text ≡ compact_text (number_data z) →
     new ≡ (body ++ codes ",\"version\":") ++ text → new ≡ body ++ version_part version
 versioned body text z version is written made = made ∙ rw (is, written) (append_assoc body (codes ",\"version\":") (compact_text (number_data z)))
-
--- ---- a content behind its header
-
-framed_is : (content : List ℕ) → header_of (length content) ++ content ≡ framed content
-unfolding framed
-framed_is content = refl
-
-pub framed_behind : (old mid new content : List ℕ) → mid ≡ old ++ header_of (length content) → new ≡ mid ++ content → new ≡ old ++ framed content
-framed_behind old mid new content first then =
-    then ∙ ap (λ m. m ++ content) first ∙ append_assoc old (header_of (length content)) content ∙ ap (λ f. old ++ f) (framed_is content)

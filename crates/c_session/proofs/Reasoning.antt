@@ -9,7 +9,7 @@ use Rattle.doc_texts.specs.declared.error.DocError.TheVariants as doc
 use Rattle.c_session.specs.Loading.{settles, watched_log}
 use Rattle.c_session.specs.Reasons.{Reason, ByTexts, by_params}
 use Rattle.c_session.specs.Ties.Refused.{reason, of_params, of_texts}
-use Rattle.c_session.specs.Replies.{log}
+use Rattle.lsp_answers.specs.Replies.{log}
 use Rattle.c_session.specs.Ties.Sessions.{loading}
 use Rattle.c_session.specs.declared.reasons.Refusal.{Refusal}
 use Rattle.c_session.specs.declared.reasons.Refusal.TheVariants.{NoMemory}

@@ -21,7 +21,7 @@ use Rattle.c_session.specs.Params.{FileChange}
 use Rattle.c_session.specs.declared.params.FileChangeKind.{FileChangeKind}
 use Rattle.c_session.specs.declared.params.FileChangeKind.TheVariants.{Created, Changed, Deleted}
 use Rattle.c_session.specs.Reasons.{Reason, ByTexts, by_uri}
-use Rattle.c_session.specs.Replies.{log}
+use Rattle.lsp_answers.specs.Replies.{log}
 use Rattle.c_session.specs.Responses.{IsNotice, Logs, Publishes, AreNotices}
 use Rattle.project_conf.specs.Entries.{refusal}
 use Rattle.project_conf.specs.declared.database.ConfError.{ConfError}

@@ -16,7 +16,7 @@ use Rattle.c_session.specs.Params.{FileChange, watching_in}
 use Rattle.c_session.specs.declared.params.FileChangeKind.{FileChangeKind}
 use Rattle.c_session.specs.React.{Outcome, tells, is_quiet, has_texts, invalid_request, method_not_found, invalid_params, server_not_initialized, rejects, refuses, did_open, did_change, did_close, Edited, opened_by, changed_by, closed_by, edits, closes, watches, Beginning, beginning_by, begins, starts, is_running, exit_status, fresh_request, running_request, on_request, running_notification, on_notification, on_message, asks, Reaction, Replies, Wants, reaction, react}
 use Rattle.c_session.specs.Reasons.{Reason, reason_text, by_params}
-use Rattle.c_session.specs.Replies.{response, error, log, initialize_result}
+use Rattle.lsp_answers.specs.Replies.{response, error, log, initialize_result}
 use Rattle.c_session.specs.Responses.{IsResponse, HasResult, HasError, AreNotices, IsResponded, IsAnswered, IsExit, is_edit, IsRefusal, Fails, Logs}
 use Rattle.c_session.specs.Shown.{publications, database_logs}
 use Rattle.c_session.specs.State.{State, in_phase, with_texts}

@@ -25,8 +25,8 @@ use Rattle.c_session.specs.Ties.Refused.{reason, Answers, Leaves, edited, IsRepl
 use Rattle.c_session.specs.Ties.Sessions.{Turned, SameOpen, Shifts, shifted_by, current_state, IsKept}
 use Rattle.c_session.specs.declared.current.Current.{Current}
 use Rattle.plain_mean.specs.Lists.{shown_in}
-use Rattle.c_session.specs.Replies as Replies
-use Rattle.c_session.specs.Replies.{log, initialize_result}
+use Rattle.lsp_answers.specs.Replies as Replies
+use Rattle.lsp_answers.specs.Replies.{log, initialize_result}
 use Rattle.c_session.specs.Shown.{shows}
 use Rattle.c_session.specs.State.{State, with_texts}
 use Rattle.c_session.specs.declared.phase.Phase.TheVariants.{Running}

@@ -19,7 +19,8 @@ use Rattle.c_session.specs.Shown.{uri_for, shows, publication, published_paths, 
 use Rattle.c_session.specs.State.{State}
 use Rattle.plain_mean.specs.declared.types.Shown.{Shown}
 use Rattle.frame_form.specs.Written.{framed}
-use Rattle.c_session.specs.Replies.{id_data, id_or_null, response_data, error_data, log_data, publish_data, response, error, log, publish}
+use Rattle.lsp_answers.specs.Replies.{id_data, id_or_null, response_data, error_data, log_data, response, error, log}
+use Rattle.c_session.specs.Diagnostics.{publish_data, publish}
 use Rattle.c_session.specs.Responses.{IsResponse, HasResult, HasError, IsNotice, Logs, Publishes, AreNotices, is_edit}
 
 -- what stands from the first brace on

@@ -8,7 +8,7 @@ use Rattle.io_edges.specs.declared.ends.Listed.TheVariants as listed
 use Rattle.io_edges.specs.declared.ends.Found.{Found}
 use Rattle.io_edges.specs.declared.ends.Found.TheVariants as found
 use Rattle.uri_paths.specs.Paths.{is_path, within}
-use Rattle.c_session.specs.Replies.{log}
+use Rattle.lsp_answers.specs.Replies.{log}
 use Rattle.doc_texts.specs.Texts.{Texts, path_set}
 use Rattle.doc_texts.specs.Docs.{loaded, is_outside}
 use Rattle.doc_texts.specs.declared.error.DocError.{DocError}

@@ -1,5 +1,6 @@
 pub mod Asking
 pub mod Counts
+pub mod Diagnostics
 pub mod Files
 pub mod Handled
 pub mod Loading
@@ -8,7 +9,6 @@ pub mod Params
 pub mod React
 pub mod Reasons
 pub mod Refusals
-pub mod Replies
 pub mod Responses
 pub mod Shown
 pub mod State

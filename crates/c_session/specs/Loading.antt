@@ -13,7 +13,7 @@ use Rattle.c_session.specs.Files.{is_loaded, to_load, unreadable_logs, with_foun
 use Rattle.c_session.specs.Params.{FileChange}
 use Rattle.c_session.specs.declared.params.FileChangeKind.{FileChangeKind}
 use Rattle.c_session.specs.declared.params.FileChangeKind.TheVariants.{Created, Changed, Deleted}
-use Rattle.c_session.specs.Replies.{log}
+use Rattle.lsp_answers.specs.Replies.{log}
 use Rattle.c_session.specs.Reasons.{Reason, ByTexts, reason_text, by_uri}
 
 -- the texts so far, and the log messages so far, each behind its header

@@ -14,7 +14,7 @@ use Rattle.c_session.specs.Message.{Message, NotJson, Batch, NotObject, Ignored,
 use Rattle.json_view.specs.declared.id.Id.{Id}
 use Rattle.c_session.specs.Params.{FileChange, opening_in, changing_in, closing_in, watching_in, starting_in}
 use Rattle.c_session.specs.Reasons.{Reason, reason_text, by_params, by_uri, by_texts, if_ok}
-use Rattle.c_session.specs.Replies.{response, error, log, initialize_result}
+use Rattle.lsp_answers.specs.Replies.{response, error, log, initialize_result}
 use Rattle.c_session.specs.Shown.{publications, database_logs}
 use Rattle.c_session.specs.State.{State, in_phase, with_texts}
 use Rattle.c_session.specs.declared.phase.Phase.{Phase}

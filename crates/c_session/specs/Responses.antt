@@ -5,7 +5,8 @@ use Rattle.std.specs.Str.{bytes_eq}
 use Rattle.serde_json.specs.Data.{Data}
 use Rattle.json_view.specs.declared.id.Id.{Id}
 use Rattle.c_session.specs.Message.{Message, NotJson, Batch, NotObject, Ignored, BadId, BadMethod, Notification, Request}
-use Rattle.c_session.specs.Replies.{response, error, log, publish}
+use Rattle.lsp_answers.specs.Replies.{response, error, log}
+use Rattle.c_session.specs.Diagnostics.{publish}
 
 -- The bytes are one response: a result for the id, or an error for it, or for null where no id is known.
 pub data IsResponse (id : Option Id) (bytes : List ℕ) : Type 0 where

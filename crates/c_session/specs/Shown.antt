@@ -12,7 +12,8 @@ use Rattle.project_conf.specs.declared.database.ConfError.{ConfError}
 use Rattle.plain_mean.specs.Confs.{conf_of, database_path, database_fault}
 use Rattle.plain_mean.specs.Shown.{shown, is_unit_of}
 use Rattle.plain_mean.specs.declared.types.Shown.{Shown}
-use Rattle.c_session.specs.Replies.{diagnostic, log, publish}
+use Rattle.lsp_answers.specs.Replies.{log}
+use Rattle.c_session.specs.Diagnostics.{diagnostic, publish}
 use Rattle.c_session.specs.State.{State}
 
 -- how the units are read

@@ -3,11 +3,12 @@ ghost use Rattle.std.specs.Prelude.{◌≡◌, ◌≤◌, ◌++◌, length, map,
 ghost use Rattle.serde_json.specs.View.{view, items_of};
 ghost use Rattle.serde_json.specs.Written.{compact_text, items_text, comma_if};
 ghost use Rattle.plain_mean.specs.Within.{AreWithin};
-ghost use Rattle.c_session.specs.Replies.{severity, pos_data, fault_data, diagnostic_data, diagnostic, publish};
+ghost use Rattle.lsp_answers.specs.Places.{pos_data};
+ghost use Rattle.c_session.specs.Diagnostics.{severity, fault_data, diagnostic_data, diagnostic, publish};
 ghost use Rattle.c_session.specs.Ties.Published.{number_data, publish_start, publish_end, version_part};
 ghost use Rattle.serde_json.specs.Data.{string};
 
-use crate::replies::push_framed;
+use lsp_answers::{pos_value, push_framed};
 use plain_mean::{Shown, is_warning};
 use serde_json::{Value, json};
 use std::alloc::{AllocError, Global};
@@ -17,14 +18,6 @@ fn severity(rule: u16) -> u8
     ensures { result ≡ severity rule }
 {
     if is_warning(rule) { 2 } else { 1 }
-}
-
-fn pos_value(alloc: Global, pos: Pos) -> Result<Value, AllocError>
-    ensures { IfOk result (λ v. view v ≡ pos_data pos) }
-{
-    let line = pos.line;
-    let character = pos.character;
-    json!(in alloc; {"character": character, "line": line})
 }
 
 fn with_range(
@@ -79,7 +72,7 @@ fn push_comma_if(body: &mut String, later: bool) -> Result<(), AllocError>
 }
 
 /// Writes the Diagnostic of a fault behind what is written.
-#[tactic(auto, unfolding(crate::specs::Replies::diagnostic))]
+#[tactic(auto, unfolding(crate::specs::Diagnostics::diagnostic))]
 fn push_diagnostic(
     alloc: Global,
     body: &mut String,
@@ -131,7 +124,7 @@ fn quoted(alloc: Global, text: &str) -> Result<String, AllocError>
 }
 
 /// The text of a number as JSON.
-#[tactic(auto, using(crate::proofs::Floats::integer_is_none))]
+#[tactic(auto, using(lsp_answers::proofs::Floats::integer_is_none))]
 fn digits(alloc: Global, number: i32) -> Result<String, AllocError>
     ensures { IfOk result (λ s. string_bytes s ≡ compact_text (number_data number)) }
 {

@@ -4,9 +4,9 @@ ghost use Rattle.c_session.specs.Files.{is_c_file, is_database, is_loaded, wante
 ghost use Rattle.c_session.specs.Loading.{is_read};
 ghost use Rattle.std.specs.Prelude.{option_map};
 
-use crate::replies::push_log;
 use doc_texts::PathSet;
 use io_edges::Listed;
+use lsp_answers::push_log;
 use std::alloc::{AllocError, Global};
 use uri_paths::{Path, within};
 

@@ -15,7 +15,6 @@ mod params;
 mod phase;
 mod reasons;
 mod refusals;
-mod replies;
 mod session;
 mod starting;
 mod watching;

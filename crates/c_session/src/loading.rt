@@ -8,14 +8,14 @@ ghost use Rattle.c_session.specs.Handled.{Reached};
 ghost use Rattle.c_session.specs.Ties.Interrupted.{Refused, IsFault, session_error};
 ghost use Rattle.c_session.specs.Loading.{with_file, loads, load_log, settles, read_back};
 ghost use Rattle.c_session.specs.Ties.News.{KeepsPrior};
-ghost use Rattle.c_session.specs.Replies.{log};
+ghost use Rattle.lsp_answers.specs.Replies.{log};
 ghost use Rattle.c_session.specs.Ties.Sessions.{loading};
 
 use crate::error::SessionError;
 use crate::files::is_read;
-use crate::replies::push_log;
 use doc_texts::{DocError, Docs, PriorTexts};
 use io_edges::{Found, Store, StoreFail};
+use lsp_answers::push_log;
 use std::alloc::{AllocError, Global};
 use uri_paths::Path;
 

@@ -7,12 +7,12 @@ ghost use Rattle.plain_mean.specs.Lists.{shown_in};
 ghost use Rattle.plain_mean.specs.Within.{AreWithin};
 ghost use Rattle.c_session.specs.Shown.{same_fault, same_list, has_news, uri_for, publication};
 ghost use Rattle.project_conf.specs.Entries.{refusal};
-ghost use Rattle.c_session.specs.Replies.{log};
+ghost use Rattle.lsp_answers.specs.Replies.{log};
 ghost use Rattle.c_session.specs.Ties.News.{IsPrior, any_changed, all_remembered, touched_by, is_told, news_of, may_have_news, news, other_database, database_news, tidings};
 
 use crate::diagnostics::{Showing, push_diagnostics_of};
-use crate::replies::push_log;
 use doc_texts::{Docs, PathSet, PriorTexts};
+use lsp_answers::push_log;
 use plain_mean::{Shown, ShownLists, database_fault, database_path};
 use project_conf::ConfError;
 use std::alloc::{AllocError, Global};

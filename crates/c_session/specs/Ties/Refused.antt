@@ -12,7 +12,7 @@ use Rattle.doc_texts.specs.Prior.{Prior}
 use Rattle.text_lines.specs.declared.encoding.Encoding.{Encoding}
 use Rattle.c_session.specs.React.{Edited}
 use Rattle.c_session.specs.Reasons.{Reason, ByParams, ByUri, ByTexts, reason_text}
-use Rattle.c_session.specs.Replies.{log}
+use Rattle.lsp_answers.specs.Replies.{log}
 use Rattle.c_session.specs.State.{State}
 use Rattle.c_session.specs.Ties.News.{ByPath, tidings}
 use Rattle.c_session.specs.Ties.Sessions.{current_state, shifted_by, is_due, IsKept, WereKept, worked}

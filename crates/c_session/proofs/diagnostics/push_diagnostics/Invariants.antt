@@ -2,7 +2,7 @@ use Rattle.std.proofs.Common.{◌≡◌, ◌++◌, false, length, map, string_by
 use Rattle.serde_json.specs.View.{items_of}
 use Rattle.serde_json.specs.Written.{items_text}
 use Rattle.plain_mean.specs.Within.{AreWithin}
-use Rattle.c_session.specs.Replies.{diagnostic}
+use Rattle.c_session.specs.Diagnostics.{diagnostic}
 use Rattle.c_session.proofs.diagnostics.push_diagnostics.Given as goal
 
 abbrev pub invariant-faults : goal.invariant-faults

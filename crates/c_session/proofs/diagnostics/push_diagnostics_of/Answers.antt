@@ -1,5 +1,5 @@
 use Rattle.std.proofs.Common.{map, string_bytes}
-use Rattle.c_session.specs.Replies.{diagnostic}
+use Rattle.c_session.specs.Diagnostics.{diagnostic}
 use Rattle.c_session.proofs.Publishing.{published}
 use Rattle.c_session.proofs.diagnostics.push_diagnostics_of.Goals as goal
 

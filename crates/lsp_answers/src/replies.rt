@@ -1,43 +1,17 @@
 // The bytes of each answer: a JSON-RPC 2.0 message behind its header (LSP 3.17, base protocol).
 ghost use Rattle.std.specs.Prelude.{◌≡◌, ◌++◌, false, option_map, IfOk, OnOk};
-ghost use Rattle.frame_form.specs.Written.{header_of, framed};
+ghost use Rattle.frame_form.specs.Written.{framed};
 ghost use Rattle.serde_json.specs.View.{view};
 ghost use Rattle.serde_json.specs.Written.{has_float, compact_text};
-ghost use Rattle.c_session.specs.Replies.{id_data, id_or_null, response_data, error_data, log_data, response, error, log, encoding_name, initialize_result};
+ghost use Rattle.lsp_answers.specs.Replies.{id_data, id_or_null, response_data, error_data, log_data, response, error, log, encoding_name, initialize_result};
 
+use crate::framing::{framed, push_framed};
 use json_view::Id;
 use serde_json::{Value, json};
 use std::alloc::{AllocError, Global};
 use text_lines::Encoding;
 
-/// Writes the header of a content of so many bytes behind what is written.
-fn push_header(alloc: Global, out: &mut Vec<u8>, length: usize) -> Result<(), AllocError>
-    ensures { OnOk result (out.new.items ≡ out.old.items ++ header_of length) }
-{
-    let header = format!(in alloc; "Content-Length: {length}\r\n\r\n")?;
-    out.extend_from_slice(header.as_bytes())?;
-    Ok(())
-}
-
-/// Writes a content behind its header, behind what is written.
-pub(crate) fn push_framed(alloc: Global, out: &mut Vec<u8>, content: &str) -> Result<(), AllocError>
-    ensures { OnOk result (out.new.items ≡ out.old.items ++ framed content.now) }
-{
-    push_header(alloc, out, content.len())?;
-    out.extend_from_slice(content.as_bytes())?;
-    Ok(())
-}
-
-/// A content behind its header.
-fn framed(alloc: Global, content: &str) -> Result<Vec<u8>, AllocError>
-    ensures { IfOk result (λ v. v.items ≡ framed content.now) }
-{
-    let mut out = Vec::new(alloc);
-    push_framed(alloc, &mut out, content)?;
-    Ok(out)
-}
-
-fn id_value(alloc: Global, id: &Id) -> Result<Value, AllocError>
+pub(crate) fn id_value(alloc: Global, id: &Id) -> Result<Value, AllocError>
     ensures { IfOk result (λ v. view v ≡ id_data id.now) }
 {
     match id {
@@ -80,7 +54,7 @@ fn response_value(alloc: Global, id: Value, answer: Value) -> Result<Value, Allo
 
 /// A response with a result.
 #[tactic(auto, unfolding(crate::specs::Replies::response), using(crate::proofs::Floats::response_has_none))]
-pub(crate) fn response(alloc: Global, id: &Id, answer: Value) -> Result<Vec<u8>, AllocError>
+pub fn response(alloc: Global, id: &Id, answer: Value) -> Result<Vec<u8>, AllocError>
     requires { has_float (view answer) ≡ false }
     ensures { IfOk result (λ v. v.items ≡ response id.now (view answer)) }
 {
@@ -97,12 +71,7 @@ fn error_value(alloc: Global, id: Value, code: i32, text: &str) -> Result<Value,
 
 /// A response with an error: its code and its text.
 #[tactic(auto, unfolding(crate::specs::Replies::error), using(crate::proofs::Floats::error_has_none))]
-pub(crate) fn error(
-    alloc: Global,
-    id: Option<&Id>,
-    code: i32,
-    text: &str,
-) -> Result<Vec<u8>, AllocError>
+pub fn error(alloc: Global, id: Option<&Id>, code: i32, text: &str) -> Result<Vec<u8>, AllocError>
     ensures { IfOk result (λ v. v.items ≡ error (option_map (λ i. i.now) id.entry) code text.now) }
 {
     let id = id_or_null(alloc, id)?;
@@ -118,7 +87,7 @@ fn log_value(alloc: Global, text: &str) -> Result<Value, AllocError>
 
 /// Writes the notification `window/logMessage` of type 1, an error, behind what is written.
 #[tactic(auto, unfolding(crate::specs::Replies::log))]
-pub(crate) fn push_log(alloc: Global, out: &mut Vec<u8>, text: &str) -> Result<(), AllocError>
+pub fn push_log(alloc: Global, out: &mut Vec<u8>, text: &str) -> Result<(), AllocError>
     ensures { OnOk result (out.new.items ≡ out.old.items ++ log text.now) }
 {
     let value = log_value(alloc, text)?;
@@ -128,7 +97,7 @@ pub(crate) fn push_log(alloc: Global, out: &mut Vec<u8>, text: &str) -> Result<(
 }
 
 /// The notification `window/logMessage` of type 1, an error.
-pub(crate) fn log(alloc: Global, text: &str) -> Result<Vec<u8>, AllocError>
+pub fn log(alloc: Global, text: &str) -> Result<Vec<u8>, AllocError>
     ensures { IfOk result (λ v. v.items ≡ log text.now) }
 {
     let mut out = Vec::new(alloc);
@@ -148,7 +117,7 @@ fn encoding_name(encoding: Encoding) -> &'static str
 }
 
 /// The result of `initialize` (LSP 3.17, InitializeResult).
-pub(crate) fn initialize_result(alloc: Global, encoding: Encoding) -> Result<Value, AllocError>
+pub fn initialize_result(alloc: Global, encoding: Encoding) -> Result<Value, AllocError>
     ensures { IfOk result (λ v. view v ≡ initialize_result encoding) }
 {
     let name = encoding_name(encoding);

@@ -5,7 +5,7 @@ use Rattle.serde_json.specs.Find.{of_integer, is_float}
 use Rattle.serde_json.specs.Written.{has_float}
 use Rattle.json_view.specs.declared.id.Id.{Id}
 use Rattle.json_view.specs.declared.id.Id.TheVariants.{Text, Int, Big}
-use Rattle.c_session.specs.Replies.{id_data, id_or_null, response_data, error_data}
+use Rattle.lsp_answers.specs.Replies.{id_data, id_or_null, response_data, error_data}
 
 pub integer_is_none : (z : ℤ) → is_float (of_integer z) ≡ false
 integer_is_none (pos n) = refl

@@ -1,6 +1,6 @@
 use Rattle.std.proofs.Common.{◌∙◌, ap, ◌++◌, ℕ, List}
-use Rattle.c_session.proofs.Publishing.{framed_behind}
-use Rattle.c_session.proofs.replies.push_framed.Goals as goal
+use Rattle.lsp_answers.proofs.Frames.{framed_behind}
+use Rattle.lsp_answers.proofs.framing.push_framed.Goals as goal
 
 pub returns : goal.returns
 returns c = framed_behind _ _ _ c.args.content.now c.in_ok-push_header.ensures

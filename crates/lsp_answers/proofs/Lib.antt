@@ -1,0 +1,4 @@
+pub mod Floats
+pub mod Frames
+pub mod Listing
+pub mod Responding

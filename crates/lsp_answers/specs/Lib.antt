@@ -1,0 +1,4 @@
+pub mod Located
+pub mod Places
+pub mod Replies
+pub mod Ties
