@@ -1,10 +1,12 @@
-// Tests of the crates on texts: positions and edits, paths and URIs, members of JSON, the current texts, options.
+// Tests of the crates on texts: edits, paths and URIs, members of JSON, the current texts, options.
 #![tactic(auto)]
 
 #[cfg(test)]
 mod document_script;
 #[cfg(test)]
 mod documents;
+#[cfg(test)]
+mod edits;
 #[cfg(test)]
 mod members;
 #[cfg(test)]
@@ -13,7 +15,3 @@ mod options;
 mod path_vectors;
 #[cfg(test)]
 mod paths;
-#[cfg(test)]
-mod position_vectors;
-#[cfg(test)]
-mod positions;
