@@ -1,10 +1,10 @@
-// Runs of the server over the ends in memory. What is expected is worked out from the protocol.
+// Runs of the server over the ends in memory: what the checks over the built program don't reach. What is expected is worked out from
+// the protocol.
 ghost use Rattle.std.specs.Prelude.{◌≡◌, ◌<◌};
 
 use crate::serve::serve;
 use crate::status::Status;
 use io_edges::{MemSink, MemStore, MemWire};
-use lsp_framing::FrameKind;
 use std::alloc::{AllocError, Global};
 use std::marker::Brand;
 use std::sync::ledger::{Blank, Ledger};
@@ -74,7 +74,6 @@ fn files_of(alloc: Global, files: Files) -> Result<Vec<(String, Vec<u8>)>, Alloc
 fn played<L: Ledger>(
     alloc: Global,
     blank: Blank,
-    words: &[String],
     client: Client<'_>,
 ) -> Result<Option<Outcome>, AllocError>
     requires name { blank.name ≡ L.name }
@@ -94,7 +93,7 @@ fn played<L: Ledger>(
     let mut errs = MemSink::new(alloc, 7, Vec::new(alloc))?;
     let files = files_of(alloc, client.files)?;
     let mut store = MemStore::new(alloc, files, client.failing_files.to_vec(alloc)?);
-    let status = serve(alloc, words, &mut wire, &mut errs, &mut store, &mut steps);
+    let status = serve(alloc, &[], &mut wire, &mut errs, &mut store, &mut steps);
     Ok(Some(Outcome {
         status,
         written: wire.sink().written().to_vec(alloc)?,
@@ -112,170 +111,38 @@ const WHOLE: Client<'static> = Client {
     failing_files: &[],
 };
 
-/// A whole number of replies, or a front of them, as the rows of a table: the client, the status, what is written, the
-/// line.
-fn rows() -> [(Client<'static>, Status, &'static [u8], &'static str); 12] {
-    let cut = "c11ls: bad frame at byte 291: Cut\n";
-    let behind = HANDSHAKE.split_at(HANDSHAKE.len() - 55).0;
-    let whole = HANDSHAKE.split_at(HANDSHAKE.len() - 1).0;
-    [
-        (WHOLE, Status::Done, REPLIES, ""),
-        (Client { piece: 1, ..WHOLE }, Status::Done, REPLIES, ""),
-        (
-            Client {
-                piece: 7,
-                most: 3,
-                ..WHOLE
-            },
-            Status::Done,
-            REPLIES,
-            "",
-        ),
-        (
-            Client {
-                bytes: behind,
-                ..WHOLE
-            },
-            Status::Unclean,
-            REPLIES,
-            "",
-        ),
-        (
-            Client {
-                bytes: whole,
-                ..WHOLE
-            },
-            Status::BadFrame {
-                place: 291,
-                kind: FrameKind::Cut,
-            },
-            REPLIES,
-            cut,
-        ),
-        (
-            Client {
-                bytes: b"content-length: 2\r\n\r\n",
-                ..WHOLE
-            },
-            Status::BadFrame {
-                place: 21,
-                kind: FrameKind::Cut,
-            },
-            b"",
-            "c11ls: bad frame at byte 21: Cut\n",
-        ),
-        (
-            Client {
-                bytes: b"Content-Length: x\r\n",
-                ..WHOLE
-            },
-            Status::BadFrame {
-                place: 0,
-                kind: FrameKind::BadLength,
-            },
-            b"",
-            "c11ls: bad frame at byte 0: BadLength\n",
-        ),
-        (
-            Client {
-                bytes: b"\r\n",
-                ..WHOLE
-            },
-            Status::BadFrame {
-                place: 2,
-                kind: FrameKind::NoLength,
-            },
-            b"",
-            "c11ls: bad frame at byte 2: NoLength\n",
-        ),
-        (
-            Client {
-                most: 50,
-                failing_writes: &[3],
-                ..WHOLE
-            },
-            Status::WriteFault,
-            REPLIES.split_at(100).0,
-            "c11ls: write fault\n",
-        ),
-        (
-            Client {
-                bytes: b"content-length: 2\r\n\r\n{}",
-                ..WHOLE
-            },
-            Status::Unclean,
-            b"",
-            "",
-        ),
-        (
-            Client {
-                bytes: ROOTED,
-                files: SOURCES,
-                failing_files: &[2],
-                ..WHOLE
-            },
-            Status::StoreFault,
-            b"",
-            "c11ls: store fault\n",
-        ),
-        (
-            Client {
-                failing_reads: &[1],
-                ..WHOLE
-            },
-            Status::ReadFault,
-            b"",
-            "c11ls: read fault\n",
-        ),
-    ]
-}
-
 #[test]
-fn serves_the_handshake(rt: HostRuntime) -> Result<(), Fail> {
-    for (client, status, written, line) in rows() {
-        let found = played::<Brand>(rt.alloc(), Blank::new(1), &[], client)?;
-        assert!(rt; found.is_some());
-        if let Some(found) = found {
-            assert_eq!(rt; found.status, status);
-            assert_eq!(rt; found.written.as_slice(), written);
-            assert_eq!(rt; found.line.as_slice(), line.as_bytes());
-        }
-    }
-    Ok(())
-}
-
-#[test]
-fn takes_no_words(rt: HostRuntime) -> Result<(), Fail> {
-    let words = [String::from_str(rt.alloc(), "--help")?];
-    let found = played::<Brand>(rt.alloc(), Blank::new(1), words.as_slice(), WHOLE)?;
-    assert!(rt; found.is_some());
-    if let Some(found) = found {
-        assert_eq!(rt; found.status, Status::Usage);
-        assert!(rt; found.written.is_empty());
-        assert_eq!(rt;
-            found.line.as_slice(),
-            b"c11ls: usage: c11ls [--include LIST] [--define LIST] [--generate N]\n".as_slice()
-        );
-    }
-    Ok(())
-}
-
-// Nothing is checked of an undeclared name yet, so that no file shows a fault.
-#[test]
-fn plays_a_generated_session(rt: HostRuntime) -> Result<(), Fail> {
-    let words = [
-        String::from_str(rt.alloc(), "--generate")?,
-        String::from_str(rt.alloc(), "1")?,
-    ];
-    let found = played::<Brand>(rt.alloc(), Blank::new(1), words.as_slice(), WHOLE)?;
+fn serves_the_handshake_in_pieces(rt: HostRuntime) -> Result<(), Fail> {
+    let client = Client {
+        piece: 7,
+        most: 3,
+        ..WHOLE
+    };
+    let found = played::<Brand>(rt.alloc(), Blank::new(1), client)?;
     assert!(rt; found.is_some());
     if let Some(found) = found {
         assert_eq!(rt; found.status, Status::Done);
-        assert_eq!(rt;
-            found.written.as_slice(),
-            b"messages 7\nunits 1\nfaults 0\n".as_slice()
-        );
+        assert_eq!(rt; found.written.as_slice(), REPLIES);
         assert!(rt; found.line.is_empty());
+    }
+    Ok(())
+}
+
+// The second read of the store fails, so that nothing is answered.
+#[test]
+fn ends_at_a_store_fault(rt: HostRuntime) -> Result<(), Fail> {
+    let client = Client {
+        bytes: ROOTED,
+        files: SOURCES,
+        failing_files: &[2],
+        ..WHOLE
+    };
+    let found = played::<Brand>(rt.alloc(), Blank::new(1), client)?;
+    assert!(rt; found.is_some());
+    if let Some(found) = found {
+        assert_eq!(rt; found.status, Status::StoreFault);
+        assert!(rt; found.written.is_empty());
+        assert_eq!(rt; found.line.as_slice(), b"c11ls: store fault\n".as_slice());
     }
     Ok(())
 }
