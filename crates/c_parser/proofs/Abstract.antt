@@ -13,7 +13,7 @@ use Rattle.c_parser.specs.Kinds.{kind_at, ends_type, is_deriving, any_size_at, i
 use Rattle.c_parser.specs.Reading.{HoldQualifiers, HoldPointers, HoldsDeclaring, HoldsGrouping, HoldsDeriving, HoldDerivings, HoldsBound, HoldParameters, Reads, Found, IsWant}
 use Rattle.c_parser.specs.TypeNames.{FoundQualifiers, FoundPointers, FoundDeclaring, FoundGrouping, FoundDeriving, FoundDerivings, FoundBound, FoundParameters}
 use Rattle.c_parser.proofs.Marks.{clash, stops_at}
-use Rattle.c_parser.proofs.OneReading.{Only}
+use Rattle.c_parser.proofs.SameParts.{Only}
 use Rattle.c_parser.proofs.Parsing.{Fails}
 use Rattle.c_parser.proofs.TypeReading.{everywhere, Bounding, first_static, first_others, Behind, nothing, a_star, a_size, a_static, bound_view, bound_only, no_start, no_star, no_qualifier, grouping_begins, parameters_next, written_begins, no_name_next, deriving_only}
 use Rattle.c_parser.proofs.Types.{between, pointers_only, qualifiers_only}

@@ -5,7 +5,8 @@ use Rattle.c_parser.specs.declared.kinds.Kind.{Kind}
 use Rattle.c_parser.specs.Grammar.{spell, spell_behind, spell_front, spell_fronts, spell_piece, spell_designator, spell_designators, spell_association, spell_specifyings, spell_type, spell_declaring, spell_grouping, spell_deriving, spell_bound}
 use Rattle.c_parser.specs.Reading.{Holds, HoldsBehind, HoldsFront, HoldFronts, HoldsPiece, HoldsDesignator, HoldDesignators, HoldsAssociation, HoldSpecifyings, HoldsNaming, HoldsType, HoldsDeclaring, HoldsGrouping, HoldsDeriving, HoldsBound}
 use Rattle.c_parser.proofs.Numbers.{spans_forth}
-use Rattle.c_parser.proofs.Spans.{spanned, spanned_behind, spanned_front, spanned_fronts, spanned_piece, spanned_designator, spanned_designators, spanned_association, spanned_specifyings, spanned_naming, spanned_type, spanned_declaring, spanned_grouping, spanned_deriving, spanned_bound}
+use Rattle.c_parser.proofs.Spanned.{spanned, spanned_behind, spanned_front, spanned_fronts, spanned_piece, spanned_designator, spanned_designators, spanned_association, spanned_specifyings, spanned_naming, spanned_declaring, spanned_grouping, spanned_deriving, spanned_bound}
+use Rattle.c_parser.proofs.Spans.{spanned_type}
 
 pub tree_forth : (ks : List Kind) → (t : Tree) → (a b : ℕ) → Holds ks t a b → a ≤ b
 tree_forth ks t a b h = spans_forth (spell t) a b (spanned ks t a b h)

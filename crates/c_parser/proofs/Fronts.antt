@@ -8,7 +8,7 @@ use Rattle.c_parser.specs.Joining.{preceded}
 use Rattle.c_parser.specs.Kinds.{kind_at, level_at}
 use Rattle.c_parser.specs.Levels.{behinds_level, rank}
 use Rattle.c_parser.specs.Reading.{HoldFronts, Reads, Stops, Found, IsWant, FoundFront, FoundPrefixes}
-use Rattle.c_parser.proofs.OneReading.{below}
+use Rattle.c_parser.proofs.SameParts.{below}
 use Rattle.c_parser.proofs.Uniqueness.{front_only}
 use Rattle.c_parser.proofs.Marks.{leveled, level_gap, stops_at, not_question}
 use Rattle.c_parser.proofs.Parsing.{Fails, found_only}

@@ -11,7 +11,7 @@ use Rattle.c_parser.specs.Reading.{HoldsType, Holds, HoldsBehind, HoldBehinds, H
 use Rattle.c_parser.proofs.Marks.{clash, dot_designates}
 use Rattle.c_parser.proofs.Parsing.{Fails, found_only, found_behind_only}
 use Rattle.c_parser.proofs.Types.{type_starts}
-use Rattle.c_parser.proofs.OneReading.{OnlyAssociations, associations_begin, any_stop}
+use Rattle.c_parser.proofs.SameParts.{OnlyAssociations, associations_begin, any_stop}
 use Rattle.c_parser.proofs.Uniqueness.{association_only}
 use Rattle.c_parser.proofs.Views.{Primary, a_name, a_constant, a_text, a_paren, a_size, a_compound, a_generic, an_offset, Selected, Located, primary_view}
 

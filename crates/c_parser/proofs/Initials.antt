@@ -8,7 +8,8 @@ use Rattle.c_parser.specs.Kinds.{kind_at, is_word, is_dot, is_equals, is_designa
 use Rattle.c_parser.specs.Reading.{HoldBraces, HoldsInitial, HoldsPiece, HoldPieces, HoldsComma, HoldsDesignator, HoldDesignators, Stops, Found, FoundBraces, FoundInitial, FoundPiece, FoundPieces, FoundDesignator, FoundDesignators, IsWant}
 use Rattle.c_parser.proofs.Marks.{clash, stops_at, is_start, equals_designates_not}
 use Rattle.c_parser.proofs.Parsing.{Fails, found_only}
-use Rattle.c_parser.proofs.OneReading.{OnlyBraces, pieces_begin, braces_begin, initial_begins, designator_begins, piece_closes_not}
+use Rattle.c_parser.proofs.SameParts.{OnlyBraces}
+use Rattle.c_parser.proofs.OneReading.{pieces_begin, braces_begin, initial_begins, designator_begins, piece_closes_not}
 use Rattle.c_parser.proofs.Uniqueness.{braces_only, designator_only, initial_only}
 use Rattle.c_parser.proofs.Views.{starts}
 

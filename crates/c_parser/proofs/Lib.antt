@@ -1,7 +1,9 @@
 mod Abstract
+mod Formed
 mod Forth
 mod Fronts
 mod Generics
+mod Held
 mod Initials
 mod Joins
 mod KindLemmas
@@ -13,6 +15,8 @@ mod Operations
 mod ParameterLists
 mod Parsing
 mod Pushes
+mod SameParts
+mod Spanned
 mod Spans
 mod SpecifierLists
 mod Tables

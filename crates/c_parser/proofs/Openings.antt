@@ -15,7 +15,7 @@ use Rattle.c_parser.specs.Reading.{HoldsType, HoldsFront, HoldFronts, HoldBehind
 use Rattle.c_parser.proofs.Fronts.{Fore, Without}
 use Rattle.c_parser.proofs.Marks.{opening_is, no_type, level_suffix, suffix_level}
 use Rattle.c_parser.proofs.Parsing.{Fails, found_only, first_fails, typed_here, sized_here}
-use Rattle.c_parser.proofs.OneReading.{any_stop}
+use Rattle.c_parser.proofs.SameParts.{any_stop}
 use Rattle.c_parser.proofs.TypeReading.{type_only, typed_at}
 use Rattle.c_parser.proofs.Types.{type_starts}
 use Rattle.c_parser.proofs.Words.{left_of, right_of}

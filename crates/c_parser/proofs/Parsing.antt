@@ -11,7 +11,7 @@ use Rattle.c_parser.specs.Reading.{HoldsType, HoldTexts, HoldsBehind, HoldBehind
 use Rattle.c_parser.specs.Grammar.{goes_on}
 use Rattle.c_parser.proofs.Marks.{clash}
 use Rattle.c_parser.proofs.Types.{type_starts}
-use Rattle.c_parser.proofs.OneReading.{Only, OnlyBehinds, any_stop, closed, index_closes}
+use Rattle.c_parser.proofs.SameParts.{Only, OnlyBehinds, any_stop, closed, index_closes}
 use Rattle.c_parser.proofs.Uniqueness.{reads_only, behinds_only, behind_only}
 use Rattle.c_parser.proofs.Views.{lowered, loosely, Following, Primary, a_name, a_constant, a_text, a_paren, a_size, a_compound, a_generic, an_offset, primary_view, index_view, Calling, no_arguments, arguments, call_view, member_view, operand_view, begins}
 

@@ -7,7 +7,7 @@ use Rattle.c_parser.specs.Grammar.{IsExpression}
 use Rattle.c_parser.specs.Kinds.{kind_at}
 use Rattle.c_parser.specs.Reading.{Reads, Stops, HoldsBehind, HoldBehinds, HoldsFront, HoldBraces, HoldsInitial, HoldsDesignator, HoldsAssociation}
 use Rattle.c_parser.proofs.OneReading as by
-use Rattle.c_parser.proofs.OneReading.{Only, OnlyBehind, OnlyBehinds, OnlyFront, OnlyBraces}
+use Rattle.c_parser.proofs.SameParts.{Only, OnlyBehind, OnlyBehinds, OnlyFront, OnlyBraces}
 use Rattle.c_parser.proofs.Marks.{stops_at}
 use Rattle.c_parser.proofs.Spans.{expression_reads}
 use Rattle.c_parser.proofs.TypeReading.{everywhere}

@@ -1,7 +1,7 @@
 use Rattle.std.proofs.Common.{ap, sym, ◌∙◌}
 use Rattle.c_parser.specs.Kinds.{is_word}
 use Rattle.c_parser.proofs.Parsing.{member_unnamed}
-use Rattle.c_parser.proofs.OneReading.{member_only, any_stop}
+use Rattle.c_parser.proofs.SameParts.{member_only, any_stop}
 use Rattle.c_parser.proofs.expressions.member.Goals as goal
 
 pub returns-then-not-is_word-clause-only : goal.returns-then-not-is_word-clause-only
