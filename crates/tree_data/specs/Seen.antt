@@ -22,7 +22,7 @@ use Rattle.tree_data.specs.declared.types.Prefix.{Prefix}
 use Rattle.tree_data.specs.declared.types.Specifier.{Specifier}
 use Rattle.tree_data.specs.declared.types.Specs.{Specs}
 use Rattle.tree_data.specs.declared.types.TypeName.{TypeName}
-use Rattle.tree_data.specs.Trees.{Tree, Name_of, Constant_of, Text_of, Paren_of, Postfix_of, Unary_of, Binary_of, Conditional_of, Assign_of, Of_type, Behind, Index_of, Call_of, Call_with_of, Member_of, Step_of, None_behind, Front, Choice_of, None_before, behinds, fronts, operand, left, Compound_of, Braces_of, Plain_of, Designated_of, Initial, Value_of, List_of, Element_of, Field_of, pieces, designators, Generic_of, Offset_of, Typed_of, Default_of, associations, Operator_of, Cast_of, Specifying, Word_of, Typedef_of, Tag_of, Atomic_of, Specifyings, No_specifiers, Naming, Type_of, Declaring, Declaring_of, Grouping, No_group, Named_of, Group_of, No_parameters, Fixed_of, Variadic_of, No_more, row, Array_of, Function_of, No_derivings, Unsized_of, Any_size_of, Sized_of, Static_sized_of, Sized_static_of, specifyings, derivings}
+use Rattle.tree_data.specs.Trees.{Tree, Name_of, Constant_of, Text_of, Paren_of, Postfix_of, Unary_of, Binary_of, Conditional_of, Assign_of, Of_type, Behind, Index_of, Call_of, Call_with_of, Member_of, Step_of, None_behind, Front, Choice_of, None_before, behinds, fronts, operand, left, Compound_of, Braces_of, Plain_of, Designated_of, Initial, Value_of, List_of, Element_of, Field_of, pieces, designators, Generic_of, Offset_of, Typed_of, Default_of, associations, Operator_of, Cast_of, Specifying, Word_of, Typedef_of, Tag_of, Atomic_of, Specifyings, No_specifiers, Naming, Type_of, Declaring, Declaring_of, Grouping, No_group, Named_of, Group_of, No_parameters, Fixed_of, Variadic_of, Names_of, No_more, row, Array_of, Function_of, No_derivings, Unsized_of, Any_size_of, Sized_of, Static_sized_of, Sized_static_of, specifyings, derivings}
 
 unfoldable pub tree_step : Expr-F Tree spec.Designator Initial spec.Piece Behind spec.Association spec.Bound spec.Deriving Grouping spec.Parameters Front Specifying spec.Braces Front Declaring Specifyings Naming → Tree
 tree_step (layer.Name n) = Name_of n
@@ -92,6 +92,7 @@ unfoldable pub parameters_step : Parameters-F Tree spec.Designator Initial spec.
 parameters_step layer.NoParameters = No_parameters
 parameters_step (layer.Fixed t ps) = Fixed_of t.value (row ps.items No_more)
 parameters_step (layer.Variadic t ps m d) = Variadic_of t.value (row ps.items No_more) m d
+parameters_step (layer.Names n ns) = Names_of n ns.items
 
 unfoldable pub prefix_step : Prefix-F Tree spec.Designator Initial spec.Piece Behind spec.Association spec.Bound spec.Deriving Grouping spec.Parameters Front Specifying spec.Braces Front Declaring Specifyings Naming → Front
 prefix_step (layer.Operator n) = Operator_of n

@@ -111,11 +111,12 @@ mutual
     Deriving_then : Deriving → Derivings → Derivings
 
   -- none, or the first and each other one with the comma in front of it, and with `, ...` behind them or without; a parameter is
-  -- written as the name of a type is, with a name or without
+  -- written as the name of a type is, with a name or without; or the names of parameters alone
   pub data Parameters : Type 0 where
     No_parameters : Parameters
     Fixed_of : Naming → Row → Parameters
     Variadic_of : Naming → Row → ℕ → ℕ → Parameters
+    Names_of : ℕ → List (ℕ × ℕ) → Parameters
 
   pub data Row : Type 0 where
     No_more : Row
@@ -181,10 +182,17 @@ is_starred (Sized_of ns t) = false
 is_starred (Static_sized_of n ns t) = false
 is_starred (Sized_static_of ns n t) = false
 
--- it stands behind a name alone (6.7.6.2, 6.7.7)
+-- names of parameters, and no parameters
+abbrev pub are_names : Parameters → Bool
+are_names No_parameters = false
+are_names (Fixed_of p ps) = false
+are_names (Variadic_of p ps m d) = false
+are_names (Names_of n ns) = true
+
+-- it stands behind a name alone (6.7.6.2, 6.7.6.3, 6.7.7)
 abbrev pub needs_name : Deriving → Bool
 needs_name (Array_of o x c) = is_starred x
-needs_name (Function_of o ps c) = false
+needs_name (Function_of o ps c) = are_names ps
 
 -- the first is an operator
 abbrev pub operates : Front → Bool

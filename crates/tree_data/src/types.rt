@@ -77,6 +77,8 @@ pub enum Parameters {
     Fixed(Box<TypeName>, Vec<(u32, TypeName)>),
     /// The same with `,` and `...` behind them.
     Variadic(Box<TypeName>, Vec<(u32, TypeName)>, u32, u32),
+    /// Names alone (an identifier list): the first, and each other one with the comma in front of it.
+    Names(u32, Vec<(u32, u32)>),
 }
 
 /// What stands in the brackets of an array (6.7.6.2, 6.7.7).
@@ -217,14 +219,14 @@ impl Deriving {
         Deriving::Function(opening, parameters, closing)
     }
 
-    /// Whether it stands behind a name alone: an array with qualifiers and `*` in its brackets does (6.7.6.2), as an abstract
-    /// declarator has `*` without qualifiers (6.7.7).
+    /// Whether it stands behind a name alone: an array with qualifiers and `*` in its brackets does (6.7.6.2), and a function with
+    /// an identifier list (6.7.6.3), as an abstract declarator has `*` without qualifiers and no such list (6.7.7).
     pub fn needs_name(&self) -> bool
         ensures { result ≡ spec.needs_name (deriving_of self.now) }
     {
         match self {
             Deriving::Array(_, bound, _) => bound.is_starred(),
-            Deriving::Function(_, _, _) => false,
+            Deriving::Function(_, parameters, _) => parameters.are_names(),
         }
     }
 }
@@ -262,6 +264,25 @@ impl Parameters {
     {
         let first = Box::new(alloc, first)?;
         Ok(Parameters::Variadic(first, more, comma, dots))
+    }
+
+    /// An identifier list.
+    pub fn names(first: u32, more: Vec<(u32, u32)>) -> Parameters
+        ensures { parameters_of result ≡ spec.Names_of first more.items }
+    {
+        Parameters::Names(first, more)
+    }
+
+    // Whether it is an identifier list.
+    fn are_names(&self) -> bool
+        ensures { result ≡ spec.are_names (parameters_of self.now) }
+    {
+        match self {
+            Parameters::NoParameters => false,
+            Parameters::Fixed(_, _) => false,
+            Parameters::Variadic(_, _, _, _) => false,
+            Parameters::Names(_, _) => true,
+        }
     }
 }
 

@@ -18,6 +18,7 @@ returns-in-Array c =
 pub returns-in-Function : goal.returns-in-Function
 unfolding tree_of behind_of front_of braces_of piece_of initial_of designator_of association_of bound_of deriving_of group_of parameters_of prefix_of specifier_of declarator_of specs_of type_of tree_step designator_step initial_step piece_step behind_step association_step bound_step deriving_step group_step parameters_step prefix_step specifier_step braces_step front_step declarator_step specs_step type_step
 returns-in-Function c =
-    sym
-    (ap (λ e. needs_name (deriving_of e)) (c.in-Function.is ∙ sym (rolls-Function c.in-Function.field-0 c.in-Function.field-1 c.in-Function.field-2))
-    ∙ ap needs_name (fold-roll-Deriving Tree spec.Designator Initial spec.Piece Behind spec.Association spec.Bound spec.Deriving Grouping spec.Parameters Front Specifying spec.Braces Front Declaring Specifyings Naming tree_step designator_step initial_step piece_step behind_step association_step bound_step deriving_step group_step parameters_step prefix_step specifier_step braces_step front_step declarator_step specs_step type_step (layer.Function c.in-Function.field-0 c.in-Function.field-1 c.in-Function.field-2)))
+    c.are_names.ensures
+    ∙ sym
+    (ap (λ e. needs_name (deriving_of e)) (c.in-Function.is ∙ sym (rolls-Function c.in-Function.field-0 c.in-Function.parameters c.in-Function.field-2))
+    ∙ ap needs_name (fold-roll-Deriving Tree spec.Designator Initial spec.Piece Behind spec.Association spec.Bound spec.Deriving Grouping spec.Parameters Front Specifying spec.Braces Front Declaring Specifyings Naming tree_step designator_step initial_step piece_step behind_step association_step bound_step deriving_step group_step parameters_step prefix_step specifier_step braces_step front_step declarator_step specs_step type_step (layer.Function c.in-Function.field-0 c.in-Function.parameters c.in-Function.field-2)))
