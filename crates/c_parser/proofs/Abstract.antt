@@ -8,7 +8,7 @@ use Rattle.c_parser.specs.declared.answers.Stop.{Stop}
 use Rattle.c_parser.specs.declared.answers.Stop.TheVariants as stop
 use Rattle.c_parser.specs.declared.kinds.Kind.{Kind}
 use Rattle.c_parser.specs.declared.kinds.Kind.TheVariants.{Identifier, OpenParen, CloseParen, OpenBracket, CloseBracket, Star, Static}
-use Rattle.c_parser.specs.Declarators.{AreThere, IsWritten, names_one, need_name}
+use Rattle.c_parser.specs.Declarators.{AreThere, IsWritten, names_one, need_name, MayDerive}
 use Rattle.c_parser.specs.Kinds.{kind_at, ends_type, is_deriving, any_size_at, is_star, is_closing_bracket, is_identifier, names_at, opens_parameters}
 use Rattle.c_parser.specs.Reading.{HoldQualifiers, HoldPointers, HoldsDeclaring, HoldsGrouping, HoldsDeriving, HoldDerivings, HoldsBound, HoldParameters, Reads, Found, IsWant}
 use Rattle.c_parser.specs.TypeNames.{FoundQualifiers, FoundPointers, FoundDeclaring, FoundGrouping, FoundDeriving, FoundDerivings, FoundBound, FoundParameters}
@@ -29,12 +29,12 @@ FailsDeclaring ks y a e = (d : Declaring) → (c : ℕ) → HoldsDeclaring ks y 
 
 abbrev pub OnlyGrouping : List Kind → Bool → ℕ → Grouping → ℕ → Type 0
 OnlyGrouping ks y a g m =
-    (g' : Grouping) → (m' : ℕ) → (ds : Derivings) → (c : ℕ) → HoldsGrouping ks y g' a m' → HoldDerivings ks ds m' c
+    (g' : Grouping) → (m' : ℕ) → (ds : Derivings) → (c : ℕ) → HoldsGrouping ks y g' a m' → HoldDerivings ks ds m' c → MayDerive g' ds
     → ends_type (kind_at ks c) ≡ true → (g ≡ g') × (m ≡ m')
 
 abbrev pub FailsGrouping : List Kind → Bool → ℕ → Stop → Type 0
 FailsGrouping ks y a e =
-    (g : Grouping) → (m : ℕ) → (ds : Derivings) → (c : ℕ) → HoldsGrouping ks y g a m → HoldDerivings ks ds m c
+    (g : Grouping) → (m : ℕ) → (ds : Derivings) → (c : ℕ) → HoldsGrouping ks y g a m → HoldDerivings ks ds m c → MayDerive g ds
     → ends_type (kind_at ks c) ≡ true → IsWant e
 
 abbrev pub OnlyDerivings : List Kind → Bool → ℕ → Derivings → ℕ → Type 0
@@ -75,13 +75,13 @@ pub group_missing : (ks : List Kind) → (y : Bool) → (a : ℕ) → (ps : List
     → FailsDeclaring ks y a e
 group_missing ks y a ps m x e fails (Declaring_of ps' g ds) c h f =
     let same = pointers_same ks y a ps m x ps' h.0 h.2 g ds h.1 c h.3 h.4 f in
-    fails g h.1 ds c (subst (λ k. HoldsGrouping ks y g k h.1) (sym same.1) h.3) h.4 f
+    fails g h.1 ds c (subst (λ k. HoldsGrouping ks y g k h.1) (sym same.1) h.3) h.4 h.5 f
 
 pub derivings_missing : (ks : List Kind) → (y : Bool) → (a : ℕ) → (ps : List (ℕ × List ℕ)) → (m : ℕ) → FoundPointers ks a ps m → (g : Grouping) → (n : ℕ)
     → OnlyGrouping ks y m g n → (z : Bool) → z ≡ names_one g → (e : Stop) → FailsDerivings ks z n e → FailsDeclaring ks y a e
 derivings_missing ks y a ps m x g n only z is e fails (Declaring_of ps' g' ds) c h f =
     let same = pointers_same ks y a ps m x ps' h.0 h.2 g' ds h.1 c h.3 h.4 f in
-    let more = only g' h.1 ds c (subst (λ k. HoldsGrouping ks y g' k h.1) (sym same.1) h.3) h.4 f in
+    let more = only g' h.1 ds c (subst (λ k. HoldsGrouping ks y g' k h.1) (sym same.1) h.3) h.4 h.5 f in
     fails ds c (subst (λ y. HoldDerivings ks ds y c) (sym more.1) h.4) (λ q. is ∙ ap names_one more.0 ∙ h.5 q) f
 
 pub declaring_found : (ks : List Kind) → (y : Bool) → (a : ℕ) → (ps : List (ℕ × List ℕ)) → (m : ℕ) → FoundPointers ks a ps m → (g : Grouping) → (n : ℕ)
@@ -98,7 +98,7 @@ pub declaring_same : (ks : List Kind) → (y : Bool) → (a : ℕ) → (ps : Lis
     → OnlyDeclaring ks y a (Declaring_of ps g ds) b
 declaring_same ks y a ps m x g n u w is ds b z (Declaring_of ps' g' ds') c h f =
     let one = pointers_same ks y a ps m x ps' h.0 h.2 g' ds' h.1 c h.3 h.4 f in
-    let two = u g' h.1 ds' c (subst (λ k. HoldsGrouping ks y g' k h.1) (sym one.1) h.3) h.4 f in
+    let two = u g' h.1 ds' c (subst (λ k. HoldsGrouping ks y g' k h.1) (sym one.1) h.3) h.4 h.5 f in
     let three = z ds' c (subst (λ k. HoldDerivings ks ds' k c) (sym two.1) h.4) (λ q. is ∙ ap names_one two.0 ∙ h.5 q) f in (
       ap (λ k. Declaring_of k g ds) one.0 ∙ ap (λ k. Declaring_of ps' k ds) two.0 ∙ ap (λ k. Declaring_of ps' g' k) three.0,
       three.1,
@@ -107,15 +107,15 @@ declaring_same ks y a ps m x g n u w is ds b z (Declaring_of ps' g' ds') c h f =
 -- a name, a group, or nothing
 pub no_group : (ks : List Kind) → (y : Bool) → (a : ℕ) → (y ≡ true → kind_at ks a ≡ Identifier → ⊥)
     → (kind_at ks a ≡ OpenParen → opens_parameters (kind_at ks (a + 1)) ≡ true) → OnlyGrouping ks y a No_group a
-no_group ks y a n k No_group m ds c h i f = (refl, sym h)
-no_group ks y a n k (Named_of x) m ds c h i f = absurd (n h.0 h.2)
-no_group ks y a n k (Group_of o d e) m ds c h i f =
+no_group ks y a n k No_group m ds c h i q f = (refl, sym h)
+no_group ks y a n k (Named_of x) m ds c h i q f = absurd (n h.0 h.2)
+no_group ks y a n k (Group_of o d e) m ds c h i q f =
     absurd (true≢false (sym (k h.1) ∙ written_begins ks y d (a + 1) e h.2 h.3))
 
 pub name_same : (ks : List Kind) → (y : Bool) → (a : ℕ) → kind_at ks a ≡ Identifier → OnlyGrouping ks y a (Named_of a) (a + 1)
-name_same ks y a k No_group m ds c h i f = no_name_next ks ds a c (subst (λ x. HoldDerivings ks ds x c) h i) f k
-name_same ks y a k (Named_of n) m ds c h i f = (ap Named_of (sym h.1), sym h.3)
-name_same ks y a k (Group_of o d e) m ds c h i f = clash (kind_at ks a) Identifier OpenParen k h.1 (λ x. omega (arith, x))
+name_same ks y a k No_group m ds c h i q f = no_name_next ks ds a c (subst (λ x. HoldDerivings ks ds x c) h i) f k
+name_same ks y a k (Named_of n) m ds c h i q f = (ap Named_of (sym h.1), sym h.3)
+name_same ks y a k (Group_of o d e) m ds c h i q f = clash (kind_at ks a) Identifier OpenParen k h.1 (λ x. omega (arith, x))
 
 pub name_found : (ks : List Kind) → (y : Bool) → (a : ℕ) → names_at ks a y ≡ true → FoundGrouping ks y a (Named_of a) (a + 1)
 name_found ks y a h =
@@ -124,21 +124,21 @@ name_found ks y a h =
     record { reads = (name_may_stand ks a y h, refl, k, refl); forth = omega arith; inside = omega arith }
 
 closes_not : {A : Type 0} → (ks : List Kind) → (a c : ℕ) → kind_at ks a ≡ OpenParen → opens_parameters (kind_at ks (a + 1)) ≡ false
-    → (ds : Derivings) → (m : ℕ) → m ≡ a → HoldDerivings ks ds m c → ends_type (kind_at ks c) ≡ true → A
-closes_not ks a c k n ds m e i f =
-    absurd (true≢false (sym (parameters_next ks ds a c (subst (λ x. HoldDerivings ks ds x c) e i) f k) ∙ n))
+    → (ds : Derivings) → (m : ℕ) → m ≡ a → HoldDerivings ks ds m c → MayDerive No_group ds → ends_type (kind_at ks c) ≡ true → A
+closes_not ks a c k n ds m e i q f =
+    absurd (true≢false (sym (parameters_next ks ds a c (subst (λ x. HoldDerivings ks ds x c) e i) q f k) ∙ n))
 
 pub group_fails : (ks : List Kind) → (y : Bool) → (a : ℕ) → kind_at ks a ≡ OpenParen → opens_parameters (kind_at ks (a + 1)) ≡ false → (e : Stop)
     → FailsDeclaring ks y (a + 1) e → FailsGrouping ks y a e
-group_fails ks y a k n e fails No_group m ds c h i f = closes_not ks a c k n ds m h i f
-group_fails ks y a k n e fails (Named_of x) m ds c h i f = clash (kind_at ks a) OpenParen Identifier k h.2 (λ z. omega (arith, z))
-group_fails ks y a k n e fails (Group_of o d b) m ds c h i f = fails d b h.3 (ap ends_type h.4)
+group_fails ks y a k n e fails No_group m ds c h i q f = closes_not ks a c k n ds m h i q f
+group_fails ks y a k n e fails (Named_of x) m ds c h i q f = clash (kind_at ks a) OpenParen Identifier k h.2 (λ z. omega (arith, z))
+group_fails ks y a k n e fails (Group_of o d b) m ds c h i q f = fails d b h.3 (ap ends_type h.4)
 
 pub group_left_open : (ks : List Kind) → (y : Bool) → (a : ℕ) → kind_at ks a ≡ OpenParen → opens_parameters (kind_at ks (a + 1)) ≡ false
     → (d : Declaring) → (b : ℕ) → OnlyDeclaring ks y (a + 1) d b → (kind_at ks b ≡ CloseParen → ⊥) → (n : ℕ) → FailsGrouping ks y a (stop.Syntax n)
-group_left_open ks y a k n d b only u at No_group m ds c h i f = closes_not ks a c k n ds m h i f
-group_left_open ks y a k n d b only u at (Named_of x) m ds c h i f = clash (kind_at ks a) OpenParen Identifier k h.2 (λ z. omega (arith, z))
-group_left_open ks y a k n d b only u at (Group_of o d' b') m ds c h i f =
+group_left_open ks y a k n d b only u at No_group m ds c h i q f = closes_not ks a c k n ds m h i q f
+group_left_open ks y a k n d b only u at (Named_of x) m ds c h i q f = clash (kind_at ks a) OpenParen Identifier k h.2 (λ z. omega (arith, z))
+group_left_open ks y a k n d b only u at (Group_of o d' b') m ds c h i q f =
     u (ap (λ x. kind_at ks x) (only d' b' h.3 (ap ends_type h.4)).1 ∙ h.4)
 
 written_by : (ks : List Kind) → (y : Bool) → (d : Declaring) → (a c : ℕ) → HoldsDeclaring ks y d a c → kind_at ks c ≡ CloseParen
@@ -163,9 +163,9 @@ group_found ks y a k n d b found l i =
 
 pub group_same : (ks : List Kind) → (y : Bool) → (a : ℕ) → kind_at ks a ≡ OpenParen → opens_parameters (kind_at ks (a + 1)) ≡ false
     → (d : Declaring) → (b : ℕ) → OnlyDeclaring ks y (a + 1) d b → OnlyGrouping ks y a (Group_of a d b) (b + 1)
-group_same ks y a k n d b only No_group m ds c h i f = closes_not ks a c k n ds m h i f
-group_same ks y a k n d b only (Named_of x) m ds c h i f = clash (kind_at ks a) OpenParen Identifier k h.2 (λ z. omega (arith, z))
-group_same ks y a k n d b only (Group_of o d' b') m ds c h i f =
+group_same ks y a k n d b only No_group m ds c h i q f = closes_not ks a c k n ds m h i q f
+group_same ks y a k n d b only (Named_of x) m ds c h i q f = clash (kind_at ks a) OpenParen Identifier k h.2 (λ z. omega (arith, z))
+group_same ks y a k n d b only (Group_of o d' b') m ds c h i q f =
     let same = only d' b' h.3 (ap ends_type h.4) in (
       ap (λ x. Group_of x d b) (sym h.0) ∙ ap (λ x. Group_of o x b) same.0 ∙ ap (λ x. Group_of o d' x) same.1,
       ap (λ x. x + 1) same.1 ∙ sym h.5,

@@ -1,11 +1,12 @@
 -- What holds is formed.
 use Rattle.std.proofs.Common.{◌≡◌, ap, sym, ◌∙◌, subst, ℕ, ◌+◌, List, [], ◌∷◌, ◌||◌, Bool, true, false, Option, Some, None}
-use Rattle.tree_data.specs.Trees.{Tree, Name_of, Constant_of, Text_of, Paren_of, Postfix_of, Unary_of, Binary_of, Conditional_of, Assign_of, Of_type, Compound_of, Behind, Operand_of, Index_of, Call_of, Call_with_of, Member_of, Step_of, Behinds, None_behind, Behind_then, Front, Operator_of, Cast_of, Choice_of, Left_of, Fronts, None_before, Front_then, Braces, Braces_of, Initial, Value_of, List_of, Piece, Plain_of, Designated_of, Pieces, No_pieces, Piece_then, Designator, Element_of, Field_of, Designators, No_designators, Designator_then, Generic_of, Offset_of, Association, Typed_of, Default_of, Associations, No_associations, Association_then, Specifying, Word_of, Typedef_of, Tag_of, Atomic_of, Specifyings, No_specifiers, Specifier_then, Naming, Type_of, Declaring, Declaring_of, No_parameters, Fixed_of, Variadic_of, Parameters, Row, No_more, Parameter_then, Named_of, Grouping, No_group, Group_of, Deriving, Array_of, Function_of, Derivings, No_derivings, Deriving_then, Bound, Unsized_of, Any_size_of, Sized_of, Static_sized_of, Sized_static_of}
+use Rattle.tree_data.specs.Trees.{Tree, Name_of, Constant_of, Text_of, Paren_of, Postfix_of, Unary_of, Binary_of, Conditional_of, Assign_of, Of_type, Compound_of, Behind, Operand_of, Index_of, Call_of, Call_with_of, Member_of, Step_of, Behinds, None_behind, Behind_then, Front, Operator_of, Cast_of, Choice_of, Left_of, Fronts, None_before, Front_then, Braces, Braces_of, Initial, Value_of, List_of, Piece, Plain_of, Designated_of, Pieces, No_pieces, Piece_then, Designator, Element_of, Field_of, Designators, No_designators, Designator_then, Generic_of, Offset_of, Association, Typed_of, Default_of, Associations, No_associations, Association_then, Specifying, Word_of, Typedef_of, Tag_of, Atomic_of, Specifyings, No_specifiers, Specifier_then, Naming, Type_of, Declaring, Declaring_of, No_parameters, Fixed_of, Variadic_of, Names_of, Parameters, Row, No_more, Parameter_then, Named_of, Grouping, No_group, Group_of, Deriving, Array_of, Function_of, Derivings, No_derivings, Deriving_then, Bound, Unsized_of, Any_size_of, Sized_of, Static_sized_of, Sized_static_of}
 use Rattle.c_parser.specs.declared.kinds.Kind.{Kind}
 use Rattle.c_parser.specs.declared.kinds.Kind.TheVariants.{OpenBrace}
 use Rattle.c_parser.specs.Grammar.{IsFormed, IsBehind, AreBehind, IsInFront, AreInFront, GoOn, IsComma, AreBraced, IsInitial, IsPiece, ArePieces, IsDesignator, AreDesignators, IsAssociated, AreAssociated, has_type, IsSpecifying, AreSpecifying, IsNaming, AreParameters, AreMore, IsDeclaring, IsGrouping, IsDerived, AreDerived, IsBound}
 use Rattle.c_parser.specs.Kinds.{kind_at, level_at, is_prefix, is_size, casts_at, is_dot, is_member, specifies_at}
 use Rattle.c_parser.specs.Levels.{behinds_level}
+use Rattle.c_parser.proofs.NameLists.{names_formed}
 use Rattle.c_parser.proofs.Types.{qualifiers_formed, pointers_formed}
 use Rattle.c_parser.specs.Reading.{HoldTexts, Holds, HoldsBehind, HoldBehinds, HoldsFront, HoldFronts, HoldsComma, HoldBraces, HoldsInitial, HoldsPiece, HoldPieces, HoldsDesignator, HoldDesignators, HoldsAssociation, HoldAssociations, HoldSpecifying, HoldSpecifyings, HoldsNaming, HoldParameters, HoldRow, HoldsDeclaring, HoldsGrouping, HoldsDeriving, HoldDerivings, HoldsBound}
 
@@ -176,6 +177,7 @@ mutual
   pub formed_parameters : (ks : List Kind) → (ps : Parameters) → (a b : ℕ) → HoldParameters ks ps a b → AreParameters ks ps
   formed_parameters ks No_parameters a b h = tt
   formed_parameters ks (Fixed_of p ps) a b h = (formed_naming ks true p a h.0 h.1, formed_row ks ps h.0 b h.2)
+  formed_parameters ks (Names_of n ns) a b h = (ap (λ x. kind_at ks x) h.0 ∙ h.1, names_formed ks ns (a + 1) b h.2)
   formed_parameters ks (Variadic_of p ps o d) a b h =
       (formed_naming ks true p a h.0 h.1, formed_row ks ps h.0 o h.2, h.3, h.5)
 

@@ -8,6 +8,7 @@ mod Initials
 mod Joins
 mod KindLemmas
 mod Marks
+mod NameLists
 mod Numbers
 mod OneReading
 mod Openings

@@ -3,17 +3,17 @@ use Rattle.std.proofs.Common.{◌≡◌, refl, ap, sym, ◌∙◌, subst, ℕ, �
 use Rattle.std.proofs.lemmas.List.{map-append}
 use Rattle.tree_data.specs.declared.types.TypeName.{TypeName}
 use Rattle.tree_data.specs.Seen.{type_of, parameter_row_of}
-use Rattle.tree_data.specs.Trees.{Naming, Parameters, No_parameters, Fixed_of, Variadic_of, Row, No_more, Parameter_then, row}
+use Rattle.tree_data.specs.Trees.{Naming, Parameters, No_parameters, Fixed_of, Variadic_of, Row, No_more, Parameter_then, row, Names_of}
 use Rattle.c_parser.specs.declared.answers.Stop.{Stop}
 use Rattle.c_parser.specs.declared.kinds.Kind.{Kind}
-use Rattle.c_parser.specs.declared.kinds.Kind.TheVariants.{CloseParen, Comma, Ellipsis}
+use Rattle.c_parser.specs.declared.kinds.Kind.TheVariants.{CloseParen, Comma, Ellipsis, Identifier}
 use Rattle.c_parser.specs.Kinds.{kind_at, ends_type, starts_type}
-use Rattle.c_parser.specs.Reading.{HoldsNaming, HoldRow, FoundNaming, IsWant}
+use Rattle.c_parser.specs.Reading.{HoldsNaming, HoldRow, FoundNaming, IsWant, HoldNames}
 use Rattle.c_parser.specs.TypeNames.{RowEnd, at_close, at_dots, FoundParameters, FoundRow}
 use Rattle.c_parser.proofs.Abstract.{OnlyParameters, FailsParameters}
 use Rattle.c_parser.proofs.Marks.{clash}
 use Rattle.c_parser.proofs.SpecifierLists.{FailsNaming}
-use Rattle.c_parser.proofs.TypeReading.{parameters_view, Parametered, none_told, some_told, Closing, fixed, variadic, row_ends, no_parameter}
+use Rattle.c_parser.proofs.TypeReading.{parameters_view, Parametered, none_told, some_told, Closing, fixed, variadic, row_ends, no_parameter, names_told}
 use Rattle.c_parser.proofs.Types.{naming_starts}
 use Rattle.c_parser.proofs.Words.{test_inside}
 
@@ -25,6 +25,12 @@ OnlyRow ks a ps c = (ps' : Row) → (c' : ℕ) → HoldRow ks ps' a c' → RowEn
 
 abbrev pub FailsRow : List Kind → ℕ → Stop → Type 0
 FailsRow ks a e = (ps : Row) → (c : ℕ) → HoldRow ks ps a c → RowEnd ks c → IsWant e
+
+abbrev pub OnlyNames : List Kind → ℕ → List (ℕ × ℕ) → ℕ → Type 0
+OnlyNames ks a ns c = (ns' : List (ℕ × ℕ)) → (c' : ℕ) → HoldNames ks ns' a c' → kind_at ks c' ≡ CloseParen → (ns ≡ ns') × (c ≡ c')
+
+abbrev pub FailsNames : List Kind → ℕ → Stop → Type 0
+FailsNames ks a e = (ns : List (ℕ × ℕ)) → (c : ℕ) → HoldNames ks ns a c → kind_at ks c ≡ CloseParen → IsWant e
 
 row_snoc : (done : List (ℕ × Naming)) → (p : ℕ × Naming) → (more : Row) → row (done ++ p ∷ []) more ≡ row done (Parameter_then p.0 p.1 more)
 row_snoc [] p more = refl
@@ -130,29 +136,56 @@ parameter_row_fails ks start done at loop c n e fails ps m h f =
 -- all of them
 none_by : (ks : List Kind) → (a : ℕ) → kind_at ks a ≡ CloseParen → (ps : Parameters) → (c : ℕ) → Parametered ks ps a c → (No_parameters ≡ ps) × (a ≡ c)
 none_by ks a k ps c (none_told i f) = (sym i, sym f)
+none_by ks a k ps c (names_told ns i l h) = clash (kind_at ks a) CloseParen Identifier k l (λ x. omega (arith, x))
 none_by ks a k ps c (some_told p q m n h g z v) = no_parameter ks a a refl k p m h
 
 pub none_same : (ks : List Kind) → (a : ℕ) → kind_at ks a ≡ CloseParen → OnlyParameters ks a No_parameters a
 none_same ks a k ps c h e = none_by ks a k ps c (parameters_view ks ps a c h e)
 
-first_by : (ks : List Kind) → (a : ℕ) → (kind_at ks a ≡ CloseParen → ⊥) → (e : Stop) → FailsNaming ks true a e → (ps : Parameters) → (c : ℕ)
+first_by : (ks : List Kind) → (a : ℕ) → (kind_at ks a ≡ CloseParen → ⊥) → (kind_at ks a ≡ Identifier → ⊥) → (e : Stop) → FailsNaming ks true a e → (ps : Parameters) → (c : ℕ)
     → kind_at ks c ≡ CloseParen → Parametered ks ps a c → IsWant e
-first_by ks a u e fails ps c l (none_told i f) = absurd (u (ap (λ x. kind_at ks x) (sym f) ∙ l))
-first_by ks a u e fails ps c l (some_told p q m n h g z v) = fails p m h (row_ends ks q m n g z)
+first_by ks a u s e fails ps c l (names_told ns i k h) = absurd (s k)
+first_by ks a u s e fails ps c l (none_told i f) = absurd (u (ap (λ x. kind_at ks x) (sym f) ∙ l))
+first_by ks a u s e fails ps c l (some_told p q m n h g z v) = fails p m h (row_ends ks q m n g z)
 
-pub first_missing : (ks : List Kind) → (a : ℕ) → (kind_at ks a ≡ CloseParen → ⊥) → (e : Stop) → FailsNaming ks true a e → FailsParameters ks a e
-first_missing ks a u e fails ps c h l = first_by ks a u e fails ps c l (parameters_view ks ps a c h l)
+pub first_missing : (ks : List Kind) → (a : ℕ) → (kind_at ks a ≡ CloseParen → ⊥) → (kind_at ks a ≡ Identifier → ⊥) → (e : Stop) → FailsNaming ks true a e → FailsParameters ks a e
+first_missing ks a u s e fails ps c h l = first_by ks a u s e fails ps c l (parameters_view ks ps a c h l)
 
-rest_by : (ks : List Kind) → (a : ℕ) → (kind_at ks a ≡ CloseParen → ⊥) → (t : Naming) → (k : ℕ) → OnlyParameter ks a t k → (e : Stop) → FailsRow ks k e
+rest_by : (ks : List Kind) → (a : ℕ) → (kind_at ks a ≡ CloseParen → ⊥) → (kind_at ks a ≡ Identifier → ⊥) → (t : Naming) → (k : ℕ) → OnlyParameter ks a t k → (e : Stop) → FailsRow ks k e
     → (ps : Parameters) → (c : ℕ) → kind_at ks c ≡ CloseParen → Parametered ks ps a c → IsWant e
-rest_by ks a u t k only e fails ps c l (none_told i f) = absurd (u (ap (λ x. kind_at ks x) (sym f) ∙ l))
-rest_by ks a u t k only e fails ps c l (some_told p q m n h g z v) =
+rest_by ks a u s t k only e fails ps c l (names_told ns i l' h) = absurd (s l')
+rest_by ks a u s t k only e fails ps c l (none_told i f) = absurd (u (ap (λ x. kind_at ks x) (sym f) ∙ l))
+rest_by ks a u s t k only e fails ps c l (some_told p q m n h g z v) =
     let same = only p m h (row_ends ks q m n g z) in
     fails q n (subst (λ x. HoldRow ks q x n) (sym same.1) g) z
 
-pub rest_missing : (ks : List Kind) → (a : ℕ) → (kind_at ks a ≡ CloseParen → ⊥) → (t : Naming) → (k : ℕ) → OnlyParameter ks a t k → (e : Stop)
+pub rest_missing : (ks : List Kind) → (a : ℕ) → (kind_at ks a ≡ CloseParen → ⊥) → (kind_at ks a ≡ Identifier → ⊥) → (t : Naming) → (k : ℕ) → OnlyParameter ks a t k → (e : Stop)
     → FailsRow ks k e → FailsParameters ks a e
-rest_missing ks a u t k only e fails ps c h l = rest_by ks a u t k only e fails ps c l (parameters_view ks ps a c h l)
+rest_missing ks a u s t k only e fails ps c h l = rest_by ks a u s t k only e fails ps c l (parameters_view ks ps a c h l)
+
+-- names alone
+names_by : (ks : List Kind) → (a : ℕ) → kind_at ks a ≡ Identifier → (ns : List (ℕ × ℕ)) → (b : ℕ) → OnlyNames ks (a + 1) ns b → (ps : Parameters)
+    → (c : ℕ) → kind_at ks c ≡ CloseParen → Parametered ks ps a c → (Names_of a ns ≡ ps) × (b ≡ c)
+names_by ks a k ns b only ps c l (none_told i f) =
+    clash (kind_at ks a) CloseParen Identifier (ap (λ x. kind_at ks x) (sym f) ∙ l) k (λ x. omega (arith, x))
+names_by ks a k ns b only ps c l (some_told p q m n h g z v) = absurd (true≢false (sym (naming_starts ks true p a m h) ∙ ap starts_type k))
+names_by ks a k ns b only ps c l (names_told ns' i k' h) =
+    let same = only ns' c h l in
+    (ap (λ x. Names_of a x) same.0 ∙ sym i, same.1)
+
+pub names_same : (ks : List Kind) → (a : ℕ) → kind_at ks a ≡ Identifier → (ns : List (ℕ × ℕ)) → (b : ℕ) → OnlyNames ks (a + 1) ns b
+    → OnlyParameters ks a (Names_of a ns) b
+names_same ks a k ns b only ps c h l = names_by ks a k ns b only ps c l (parameters_view ks ps a c h l)
+
+missing_by : (ks : List Kind) → (a : ℕ) → kind_at ks a ≡ Identifier → (e : Stop) → FailsNames ks (a + 1) e → (ps : Parameters)
+    → (c : ℕ) → kind_at ks c ≡ CloseParen → Parametered ks ps a c → IsWant e
+missing_by ks a k e fails ps c l (none_told i f) =
+    clash (kind_at ks a) CloseParen Identifier (ap (λ x. kind_at ks x) (sym f) ∙ l) k (λ x. omega (arith, x))
+missing_by ks a k e fails ps c l (some_told p q m n h g z v) = absurd (true≢false (sym (naming_starts ks true p a m h) ∙ ap starts_type k))
+missing_by ks a k e fails ps c l (names_told ns i k' h) = fails ns c h l
+
+pub names_missing : (ks : List Kind) → (a : ℕ) → kind_at ks a ≡ Identifier → (e : Stop) → FailsNames ks (a + 1) e → FailsParameters ks a e
+names_missing ks a k e fails ps c h l = missing_by ks a k e fails ps c l (parameters_view ks ps a c h l)
 
 -- what stands behind the last parameter closes the list
 closed_by : (ks : List Kind) → (ps : Parameters) → (p : Naming) → (q : Row) → (n c : ℕ) → (kind_at ks n ≡ Comma → ⊥) → Closing ks ps p q n c
@@ -165,25 +198,27 @@ dots_by : (ks : List Kind) → (ps : Parameters) → (p : Naming) → (q : Row) 
 dots_by ks ps p q n c k (fixed i f l) = clash (kind_at ks n) Comma CloseParen k l (λ x. omega (arith, x))
 dots_by ks ps p q n c k (variadic i f l) = (sym i, sym f)
 
-fixed_by : (ks : List Kind) → (a : ℕ) → (kind_at ks a ≡ CloseParen → ⊥) → (t : Naming) → (k : ℕ) → OnlyParameter ks a t k → (r : Row) → (b : ℕ)
+fixed_by : (ks : List Kind) → (a : ℕ) → (kind_at ks a ≡ CloseParen → ⊥) → (kind_at ks a ≡ Identifier → ⊥) → (t : Naming) → (k : ℕ) → OnlyParameter ks a t k → (r : Row) → (b : ℕ)
     → OnlyRow ks k r b → (kind_at ks b ≡ Comma → ⊥) → (ps : Parameters) → (c : ℕ) → kind_at ks c ≡ CloseParen → Parametered ks ps a c
     → (Fixed_of t r ≡ ps) × (b ≡ c)
-fixed_by ks a u t k only r b rest n ps c l (none_told i f) = absurd (u (ap (λ x. kind_at ks x) (sym f) ∙ l))
-fixed_by ks a u t k only r b rest n ps c l (some_told p q m o h g z v) =
+fixed_by ks a u s t k only r b rest n ps c l (names_told ns i l' h) = absurd (s l')
+fixed_by ks a u s t k only r b rest n ps c l (none_told i f) = absurd (u (ap (λ x. kind_at ks x) (sym f) ∙ l))
+fixed_by ks a u s t k only r b rest n ps c l (some_told p q m o h g z v) =
     let one = only p m h (row_ends ks q m o g z) in
     let two = rest q o (subst (λ x. HoldRow ks q x o) (sym one.1) g) z in
     let last = closed_by ks ps p q o c (λ e. n (ap (λ x. kind_at ks x) two.1 ∙ e)) v in
     (ap (λ x. Fixed_of x r) one.0 ∙ ap (λ x. Fixed_of p x) two.0 ∙ last.0, two.1 ∙ last.1)
 
-pub fixed_same : (ks : List Kind) → (a : ℕ) → (kind_at ks a ≡ CloseParen → ⊥) → (t : Naming) → (k : ℕ) → OnlyParameter ks a t k → (r : Row) → (b : ℕ)
+pub fixed_same : (ks : List Kind) → (a : ℕ) → (kind_at ks a ≡ CloseParen → ⊥) → (kind_at ks a ≡ Identifier → ⊥) → (t : Naming) → (k : ℕ) → OnlyParameter ks a t k → (r : Row) → (b : ℕ)
     → OnlyRow ks k r b → (kind_at ks b ≡ Comma → ⊥) → OnlyParameters ks a (Fixed_of t r) b
-fixed_same ks a u t k only r b rest n ps c h l = fixed_by ks a u t k only r b rest n ps c l (parameters_view ks ps a c h l)
+fixed_same ks a u s t k only r b rest n ps c h l = fixed_by ks a u s t k only r b rest n ps c l (parameters_view ks ps a c h l)
 
-variadic_by : (ks : List Kind) → (a : ℕ) → (kind_at ks a ≡ CloseParen → ⊥) → (t : Naming) → (k : ℕ) → OnlyParameter ks a t k → (r : Row) → (b : ℕ)
+variadic_by : (ks : List Kind) → (a : ℕ) → (kind_at ks a ≡ CloseParen → ⊥) → (kind_at ks a ≡ Identifier → ⊥) → (t : Naming) → (k : ℕ) → OnlyParameter ks a t k → (r : Row) → (b : ℕ)
     → OnlyRow ks k r b → kind_at ks b ≡ Comma → (ps : Parameters) → (c : ℕ) → kind_at ks c ≡ CloseParen → Parametered ks ps a c
     → (Variadic_of t r b (b + 1) ≡ ps) × (b + 2 ≡ c)
-variadic_by ks a u t k only r b rest e ps c l (none_told i f) = absurd (u (ap (λ x. kind_at ks x) (sym f) ∙ l))
-variadic_by ks a u t k only r b rest e ps c l (some_told p q m o h g z v) =
+variadic_by ks a u s t k only r b rest e ps c l (names_told ns i l' h) = absurd (s l')
+variadic_by ks a u s t k only r b rest e ps c l (none_told i f) = absurd (u (ap (λ x. kind_at ks x) (sym f) ∙ l))
+variadic_by ks a u s t k only r b rest e ps c l (some_told p q m o h g z v) =
     let one = only p m h (row_ends ks q m o g z) in
     let two = rest q o (subst (λ x. HoldRow ks q x o) (sym one.1) g) z in
     let last = dots_by ks ps p q o c (ap (λ x. kind_at ks x) (sym two.1) ∙ e) v in (
@@ -194,9 +229,9 @@ variadic_by ks a u t k only r b rest e ps c l (some_told p q m o h g z v) =
       ap (λ x. x + 2) two.1 ∙ last.1,
     )
 
-pub variadic_same : (ks : List Kind) → (a : ℕ) → (kind_at ks a ≡ CloseParen → ⊥) → (t : Naming) → (k : ℕ) → OnlyParameter ks a t k → (r : Row)
+pub variadic_same : (ks : List Kind) → (a : ℕ) → (kind_at ks a ≡ CloseParen → ⊥) → (kind_at ks a ≡ Identifier → ⊥) → (t : Naming) → (k : ℕ) → OnlyParameter ks a t k → (r : Row)
     → (b : ℕ) → OnlyRow ks k r b → kind_at ks b ≡ Comma → OnlyParameters ks a (Variadic_of t r b (b + 1)) (b + 2)
-variadic_same ks a u t k only r b rest e ps c h l = variadic_by ks a u t k only r b rest e ps c l (parameters_view ks ps a c h l)
+variadic_same ks a u s t k only r b rest e ps c h l = variadic_by ks a u s t k only r b rest e ps c l (parameters_view ks ps a c h l)
 
 pub fixed_found : (ks : List Kind) → (a : ℕ) → (t : Naming) → (k : ℕ) → FoundNaming ks true a t k → (r : Row) → (b : ℕ) → FoundRow ks k r b
     → FoundParameters ks a (Fixed_of t r) b

@@ -1,13 +1,13 @@
 -- No two names of types stand from one place on, where one may end behind each: by the number of tokens that are left, since what
 -- stands in a name stands behind its first token.
 use Rattle.std.proofs.Common.{◌≡◌, refl, ap, sym, ◌∙◌, subst, ℕ, zero, suc, ◌+◌, ◌<◌, ◌≤◌, List, [], ◌∷◌, length, arith, Bool, true, false, true≢false, ◌||◌}
-use Rattle.tree_data.specs.Trees.{Tree, Name_of, Constant_of, Text_of, Paren_of, Postfix_of, Unary_of, Binary_of, Conditional_of, Assign_of, Of_type, Compound_of, Generic_of, Offset_of, Operator_of, Cast_of, Choice_of, Left_of, Fronts, None_before, Front_then, Specifying, Word_of, Typedef_of, Tag_of, Atomic_of, Specifyings, No_specifiers, Specifier_then, Naming, Type_of, Declaring, Declaring_of, Parameters, No_parameters, Fixed_of, Variadic_of, Row, No_more, Parameter_then, Grouping, No_group, Named_of, Group_of, Deriving, Array_of, Function_of, Derivings, No_derivings, Deriving_then, Bound, Unsized_of, Any_size_of, Sized_of, Static_sized_of, Sized_static_of}
+use Rattle.tree_data.specs.Trees.{Tree, Name_of, Constant_of, Text_of, Paren_of, Postfix_of, Unary_of, Binary_of, Conditional_of, Assign_of, Of_type, Compound_of, Generic_of, Offset_of, Operator_of, Cast_of, Choice_of, Left_of, Fronts, None_before, Front_then, Specifying, Word_of, Typedef_of, Tag_of, Atomic_of, Specifyings, No_specifiers, Specifier_then, Naming, Type_of, Declaring, Declaring_of, Parameters, No_parameters, Fixed_of, Variadic_of, Row, No_more, Parameter_then, Grouping, No_group, Named_of, Group_of, Deriving, Array_of, Function_of, Derivings, No_derivings, Deriving_then, Bound, Unsized_of, Any_size_of, Sized_of, Static_sized_of, Sized_static_of, Names_of, are_names}
 use Rattle.c_parser.specs.declared.kinds.Kind.{Kind}
 use Rattle.c_parser.specs.declared.kinds.Kind.TheVariants.{Identifier, Constant, Text, TypeName, Tag, Atomic, Storage, Static, Star, OpenParen, CloseParen, OpenBracket, CloseBracket, Generic, OffsetOf, Colon, Comma, End, TypeWord, Qualifier}
-use Rattle.c_parser.specs.Declarators.{AreThere, IsWritten}
+use Rattle.c_parser.specs.Declarators.{AreThere, IsWritten, MayDerive, need_name}
 use Rattle.c_parser.specs.Grammar.{IsBefore, has_type}
 use Rattle.c_parser.specs.Kinds.{kind_at, is_size, starts_type, ends_type, ends_specifiers, opens_parameters, qualifies_at}
-use Rattle.c_parser.specs.Reading.{Holds, HoldFronts, HoldQualifiers, Reads, HoldSpecifying, HoldSpecifyings, HoldsNaming, HoldsType, HoldParameters, HoldRow, HoldsDeclaring, HoldsGrouping, HoldsDeriving, HoldDerivings, HoldsBound}
+use Rattle.c_parser.specs.Reading.{Holds, HoldFronts, HoldQualifiers, Reads, HoldSpecifying, HoldSpecifyings, HoldsNaming, HoldsType, HoldParameters, HoldRow, HoldsDeclaring, HoldsGrouping, HoldsDeriving, HoldDerivings, HoldsBound, HoldNames}
 use Rattle.c_parser.specs.TypeNames.{RowEnd, at_close, at_dots}
 use Rattle.c_parser.proofs.OneReading.{placed_only}
 use Rattle.c_parser.proofs.Forth.{type_forth, naming_forth, specifyings_forth, grouping_forth, deriving_forth}
@@ -15,7 +15,8 @@ use Rattle.c_parser.proofs.Marks.{clash, stops_at, is_start, no_type}
 use Rattle.c_parser.proofs.Typed.{Typed, From, later, next}
 use Rattle.c_parser.proofs.Types.{starting, naming_starts, pointers_only, pointers_forth, qualifiers_only, qualifiers_forth}
 use Rattle.c_parser.proofs.Views.{starts, front_starts}
-use Rattle.c_parser.proofs.Words.{Qualifies, by_qualifier, by_lone, qualifies_view, qualifies_starts, specifies_not, atomic_not, static_qualifies_not}
+use Rattle.c_parser.proofs.Words.{Qualifies, by_qualifier, by_lone, qualifies_view, qualifies_starts, specifies_not, atomic_not, static_qualifies_not, or_left}
+use Rattle.c_parser.proofs.NameLists.{names_only, closes}
 
 -- behind a `*` in front of an operand something begins too
 mutual
@@ -262,9 +263,11 @@ pub data Parametered (ks : List Kind) (ps : Parameters) (a c : ℕ) : Type 0 whe
   none_told : ps ≡ No_parameters → c ≡ a → Parametered ks ps a c
   some_told : (p : Naming) → (q : Row) → (m n : ℕ) → HoldsNaming ks true p a m → HoldRow ks q m n → RowEnd ks n
       → Closing ks ps p q n c → Parametered ks ps a c
+  names_told : (ns : List (ℕ × ℕ)) → ps ≡ Names_of a ns → kind_at ks a ≡ Identifier → HoldNames ks ns (a + 1) c → Parametered ks ps a c
 
 pub parameters_view : (ks : List Kind) → (ps : Parameters) → (a c : ℕ) → HoldParameters ks ps a c → kind_at ks c ≡ CloseParen → Parametered ks ps a c
 parameters_view ks No_parameters a c h e = none_told refl h
+parameters_view ks (Names_of n ns) a c h e = names_told ns (ap (λ x. Names_of x ns) h.0) h.1 h.2
 parameters_view ks (Fixed_of p q) a c h e = some_told p q h.0 c h.1 h.2 (at_close e) (fixed refl refl e)
 parameters_view ks (Variadic_of p q o d) a c h e =
     let two : (o + 1) + 1 ≡ o + 2 = omega arith in
@@ -289,11 +292,25 @@ pub no_parameter : {A : Type 0} → (ks : List Kind) → (a c : ℕ) → c ≡ a
 no_parameter ks a c f e p m h =
     absurd (true≢false (sym (naming_starts ks true p a m h) ∙ ap starts_type (ap (λ x. kind_at ks x) (sym f) ∙ e)))
 
+no_naming : {A : Type 0} → (ks : List Kind) → (a : ℕ) → kind_at ks a ≡ Identifier → (p : Naming) → (m : ℕ) → HoldsNaming ks true p a m → A
+no_naming ks a k p m h = absurd (true≢false (sym (naming_starts ks true p a m h) ∙ ap starts_type k))
+
+not_closed : {A : Type 0} → (ks : List Kind) → (a c : ℕ) → c ≡ a → kind_at ks c ≡ CloseParen → kind_at ks a ≡ Identifier → A
+not_closed ks a c f e k =
+    clash (kind_at ks a) CloseParen Identifier (ap (λ x. kind_at ks x) (sym f) ∙ e) k (λ x. omega (arith, x))
+
 told_only : (ks : List Kind) → (ps : Parameters) → (a c : ℕ) → From ks a → Parametered ks ps a c → kind_at ks c ≡ CloseParen
     → (ps' : Parameters) → (c' : ℕ) → Parametered ks ps' a c' → kind_at ks c' ≡ CloseParen → (ps ≡ ps') × (c ≡ c')
 told_only ks ps a c w (none_told i f) e ps' c' (none_told i' f') e' = (i ∙ sym i', f ∙ sym f')
 told_only ks ps a c w (none_told i f) e ps' c' (some_told p q m n h g z v) e' = no_parameter ks a c f e p m h
 told_only ks ps a c w (some_told p q m n h g z v) e ps' c' (none_told i' f') e' = no_parameter ks a c' f' e' p m h
+told_only ks ps a c w (none_told i f) e ps' c' (names_told ns' i' k' h') e' = not_closed ks a c f e k'
+told_only ks ps a c w (names_told ns i k h) e ps' c' (none_told i' f') e' = not_closed ks a c' f' e' k
+told_only ks ps a c w (some_told p q m n h g z v) e ps' c' (names_told ns' i' k' h') e' = no_naming ks a k' p m h
+told_only ks ps a c w (names_told ns i k h) e ps' c' (some_told p q m n h' g z v) e' = no_naming ks a k p m h'
+told_only ks ps a c w (names_told ns i k h) e ps' c' (names_told ns' i' k' h') e' =
+    let same = names_only ks ns (a + 1) c h (closes ks c e) ns' c' h' (closes ks c' e') in
+    (i ∙ ap (λ x. Names_of a x) same.0 ∙ sym i', same.1)
 told_only ks ps a c w (some_told p q m n h g z v) e ps' c' (some_told p' q' m' n' h' g' z' v') e' =
     let one = w a (omega arith) true p m h (row_ends ks q m n g z) p' m' h' (row_ends ks q' m' n' g' z') in
     let two =
@@ -438,17 +455,26 @@ start_opens Storage h = refl
 start_opens Static h = refl
 start_opens _ h = absurd (true≢false (sym h))
 
-told_opens : (ks : List Kind) → (ps : Parameters) → (a c : ℕ) → Parametered ks ps a c → kind_at ks c ≡ CloseParen → opens_parameters (kind_at ks a) ≡ true
-told_opens ks ps a c (none_told i f) e = ap opens_parameters (ap (λ x. kind_at ks x) (sym f) ∙ e)
-told_opens ks ps a c (some_told p q m n h g z v) e = start_opens (kind_at ks a) (naming_starts ks true p a m h)
+told_opens : (ks : List Kind) → (ps : Parameters) → (a c : ℕ) → Parametered ks ps a c → kind_at ks c ≡ CloseParen → (are_names ps ≡ true → ⊥)
+    → opens_parameters (kind_at ks a) ≡ true
+told_opens ks ps a c (names_told ns i k h) e n = absurd (n (ap are_names i))
+told_opens ks ps a c (none_told i f) e n = ap opens_parameters (ap (λ x. kind_at ks x) (sym f) ∙ e)
+told_opens ks ps a c (some_told p q m n h g z v) e u = start_opens (kind_at ks a) (naming_starts ks true p a m h)
 
--- a `(` that begins no group has parameters behind it
-pub parameters_next : (ks : List Kind) → (ds : Derivings) → (a b : ℕ) → HoldDerivings ks ds a b → ends_type (kind_at ks b) ≡ true
-    → kind_at ks a ≡ OpenParen → opens_parameters (kind_at ks (a + 1)) ≡ true
-parameters_next ks No_derivings a b h e k = absurd (true≢false (sym e ∙ ap (λ x. ends_type (kind_at ks x)) h ∙ ap ends_type k))
-parameters_next ks (Deriving_then (Array_of o x c) ds) a b h e k = clash (kind_at ks a) OpenBracket OpenParen h.1.1 k (λ y. omega (arith, y))
-parameters_next ks (Deriving_then (Function_of o ps c) ds) a b h e k =
-    told_opens ks ps (a + 1) c (parameters_view ks ps (a + 1) c h.1.2 h.1.3) h.1.3
+-- a `(` that begins no group has parameters behind it, where no name stands in front
+pub parameters_next : (ks : List Kind) → (ds : Derivings) → (a b : ℕ) → HoldDerivings ks ds a b → MayDerive No_group ds
+    → ends_type (kind_at ks b) ≡ true → kind_at ks a ≡ OpenParen → opens_parameters (kind_at ks (a + 1)) ≡ true
+parameters_next ks No_derivings a b h q e k = absurd (true≢false (sym e ∙ ap (λ x. ends_type (kind_at ks x)) h ∙ ap ends_type k))
+parameters_next ks (Deriving_then (Array_of o x c) ds) a b h q e k = clash (kind_at ks a) OpenBracket OpenParen h.1.1 k (λ y. omega (arith, y))
+parameters_next ks (Deriving_then (Function_of o ps c) ds) a b h q e k =
+    told_opens
+    ks
+    ps
+    (a + 1)
+    c
+    (parameters_view ks ps (a + 1) c h.1.2 h.1.3)
+    h.1.3
+    (λ y. true≢false (sym (q (or_left (are_names ps) (need_name ds) y))))
 
 pub no_name_next : {A : Type 0} → (ks : List Kind) → (ds : Derivings) → (a b : ℕ) → HoldDerivings ks ds a b → ends_type (kind_at ks b) ≡ true
     → kind_at ks a ≡ Identifier → A
@@ -493,6 +519,7 @@ mutual
       w'
       h.3
       h.4
+      h.5
       e
       g'
       h'.1
@@ -500,6 +527,7 @@ mutual
       b'
       (subst (λ x. HoldsGrouping ks y g' x h'.1) (sym one.1) h'.3)
       h'.4
+      h'.5
       e' in
       let three =
       derivings_only
@@ -521,24 +549,24 @@ mutual
       )
 
   pub grouping_only : (ks : List Kind) → (y : Bool) → (g : Grouping) → (a m : ℕ) → (ds : Derivings) → (b : ℕ) → From ks a → HoldsGrouping ks y g a m
-      → HoldDerivings ks ds m b → ends_type (kind_at ks b) ≡ true
-      → (g' : Grouping) → (m' : ℕ) → (ds' : Derivings) → (b' : ℕ) → HoldsGrouping ks y g' a m' → HoldDerivings ks ds' m' b'
+      → HoldDerivings ks ds m b → MayDerive g ds → ends_type (kind_at ks b) ≡ true
+      → (g' : Grouping) → (m' : ℕ) → (ds' : Derivings) → (b' : ℕ) → HoldsGrouping ks y g' a m' → HoldDerivings ks ds' m' b' → MayDerive g' ds'
       → ends_type (kind_at ks b') ≡ true → (g ≡ g') × (m ≡ m')
-  grouping_only ks y No_group a m ds b w h i e No_group m' ds' b' h' i' e' = (refl, h ∙ sym h')
-  grouping_only ks y No_group a m ds b w h i e (Named_of n) m' ds' b' h' i' e' =
+  grouping_only ks y No_group a m ds b w h i q e No_group m' ds' b' h' i' q' e' = (refl, h ∙ sym h')
+  grouping_only ks y No_group a m ds b w h i q e (Named_of n) m' ds' b' h' i' q' e' =
       no_name_next ks ds a b (subst (λ x. HoldDerivings ks ds x b) h i) e h'.2
-  grouping_only ks y No_group a m ds b w h i e (Group_of o d c) m' ds' b' h' i' e' =
-      group_not ks y a d c h'.2 h'.3 (parameters_next ks ds a b (subst (λ x. HoldDerivings ks ds x b) h i) e h'.1)
-  grouping_only ks y (Named_of n) a m ds b w h i e No_group m' ds' b' h' i' e' =
+  grouping_only ks y No_group a m ds b w h i q e (Group_of o d c) m' ds' b' h' i' q' e' =
+      group_not ks y a d c h'.2 h'.3 (parameters_next ks ds a b (subst (λ x. HoldDerivings ks ds x b) h i) q e h'.1)
+  grouping_only ks y (Named_of n) a m ds b w h i q e No_group m' ds' b' h' i' q' e' =
       no_name_next ks ds' a b' (subst (λ x. HoldDerivings ks ds' x b') h' i') e' h.2
-  grouping_only ks y (Named_of n) a m ds b w h i e (Named_of n') m' ds' b' h' i' e' = (ap Named_of (h.1 ∙ sym h'.1), h.3 ∙ sym h'.3)
-  grouping_only ks y (Named_of n) a m ds b w h i e (Group_of o d c) m' ds' b' h' i' e' =
+  grouping_only ks y (Named_of n) a m ds b w h i q e (Named_of n') m' ds' b' h' i' q' e' = (ap Named_of (h.1 ∙ sym h'.1), h.3 ∙ sym h'.3)
+  grouping_only ks y (Named_of n) a m ds b w h i q e (Group_of o d c) m' ds' b' h' i' q' e' =
       clash (kind_at ks a) Identifier OpenParen h.2 h'.1 (λ x. omega (arith, x))
-  grouping_only ks y (Group_of o d c) a m ds b w h i e No_group m' ds' b' h' i' e' =
-      group_not ks y a d c h.2 h.3 (parameters_next ks ds' a b' (subst (λ x. HoldDerivings ks ds' x b') h' i') e' h.1)
-  grouping_only ks y (Group_of o d c) a m ds b w h i e (Named_of n) m' ds' b' h' i' e' =
+  grouping_only ks y (Group_of o d c) a m ds b w h i q e No_group m' ds' b' h' i' q' e' =
+      group_not ks y a d c h.2 h.3 (parameters_next ks ds' a b' (subst (λ x. HoldDerivings ks ds' x b') h' i') q' e' h.1)
+  grouping_only ks y (Group_of o d c) a m ds b w h i q e (Named_of n) m' ds' b' h' i' q' e' =
       clash (kind_at ks a) OpenParen Identifier h.1 h'.2 (λ x. omega (arith, x))
-  grouping_only ks y (Group_of o d c) a m ds b w h i e (Group_of o' d' c') m' ds' b' h' i' e' =
+  grouping_only ks y (Group_of o d c) a m ds b w h i q e (Group_of o' d' c') m' ds' b' h' i' q' e' =
       let same = declaring_only ks y d (a + 1) c (next ks a w) h.3 (ap ends_type h.4) d' c' h'.3 (ap ends_type h'.4) in (
         ap (λ x. Group_of x d c) (h.0 ∙ sym h'.0) ∙ ap (λ x. Group_of o' x c) same.0 ∙ ap (λ x. Group_of o' d' x) same.1,
         h.5 ∙ ap (λ x. x + 1) same.1 ∙ sym h'.5,

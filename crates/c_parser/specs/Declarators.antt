@@ -1,8 +1,8 @@
--- Parts of declarators that hold no expression (ISO C11 6.7.6, 6.7.7): qualifiers and pointers.
+-- Parts of declarators that hold no expression (ISO C11 6.7.6, 6.7.7): qualifiers, pointers and lists of identifiers.
 use Rattle.std.specs.Prelude.{◌≡◌, ℕ, List, [], ◌∷◌, ◌++◌, Bool, true, false, ◌||◌}
 use Rattle.tree_data.specs.Trees.{Declaring, Declaring_of, Grouping, No_group, Named_of, Group_of, Derivings, No_derivings, Deriving_then, needs_name}
 use Rattle.c_parser.specs.declared.kinds.Kind.{Kind}
-use Rattle.c_parser.specs.declared.kinds.Kind.TheVariants.{Star}
+use Rattle.c_parser.specs.declared.kinds.Kind.TheVariants.{Star, Comma, Identifier}
 use Rattle.c_parser.specs.Kinds.{kind_at, qualifies_at}
 
 abbrev pub spell_pointers : List (ℕ × List ℕ) → List ℕ
@@ -18,6 +18,15 @@ AreQualifiers kinds (n ∷ ns) = (qualifies_at kinds n ≡ true) × AreQualifier
 abbrev pub ArePointers : List Kind → List (ℕ × List ℕ) → Type 0
 ArePointers kinds [] = Unit {0}
 ArePointers kinds (p ∷ ps) = (kind_at kinds p.0 ≡ Star) × AreQualifiers kinds p.1 × ArePointers kinds ps
+
+abbrev pub spell_names : List (ℕ × ℕ) → List ℕ
+spell_names [] = []
+spell_names (p ∷ ps) = p.0 ∷ p.1 ∷ spell_names ps
+
+-- 6.7.6 identifier-list : identifier | identifier-list , identifier; each but the first, with the comma in front of it
+abbrev pub AreNames : List Kind → List (ℕ × ℕ) → Type 0
+AreNames kinds [] = Unit {0}
+AreNames kinds (p ∷ ps) = (kind_at kinds p.0 ≡ Comma) × (kind_at kinds p.1 ≡ Identifier) × AreNames kinds ps
 
 -- a list that isn't left out
 abbrev pub AreThere : List ℕ → Type 0
@@ -39,7 +48,7 @@ abbrev pub need_name : Derivings → Bool
 need_name No_derivings = false
 need_name (Deriving_then d ds) = needs_name d || need_name ds
 
--- 6.7.6 direct-declarator : direct-declarator [ type-qualifier-list opt * ]
+-- 6.7.6 direct-declarator : direct-declarator [ type-qualifier-list opt * ] | direct-declarator ( identifier-list )
 -- 6.7.7 direct-abstract-declarator : direct-abstract-declarator opt [ * ]
 abbrev pub MayDerive : Grouping → Derivings → Type 0
 MayDerive g ds = need_name ds ≡ true → names_one g ≡ true

@@ -1,14 +1,14 @@
 -- The grammar of expressions (ISO C11 6.5) and of initializers (6.7.9): what a tree spells, and which trees are proper. A
 -- case a production; productions that go on to the left or to the right by themselves are lists, of one part at least.
 use Rattle.std.specs.Prelude.{◌≡◌, Bool, false, ℕ, zero, suc, ◌+◌, ◌≤◌, ◌||◌, List, [], ◌∷◌, ◌++◌, length, Option, Some, None, true}
-use Rattle.tree_data.specs.Trees.{Tree, Name_of, Constant_of, Text_of, Paren_of, Postfix_of, Unary_of, Binary_of, Conditional_of, Assign_of, Of_type, Compound_of, Behind, Operand_of, Index_of, Call_of, Call_with_of, Member_of, Step_of, Behinds, None_behind, Behind_then, Front, Operator_of, Cast_of, Choice_of, Left_of, Fronts, None_before, Front_then, Braces, Braces_of, Initial, Value_of, List_of, Piece, Plain_of, Designated_of, Pieces, No_pieces, Piece_then, Designator, Element_of, Field_of, Designators, No_designators, Designator_then, Generic_of, Offset_of, Association, Typed_of, Default_of, Associations, No_associations, Association_then, Specifying, Word_of, Typedef_of, Tag_of, Atomic_of, Specifyings, No_specifiers, Specifier_then, Naming, Type_of, Declaring, Declaring_of, No_parameters, Fixed_of, Variadic_of, Parameters, Row, No_more, Parameter_then, Named_of, Grouping, No_group, Group_of, Deriving, Array_of, Function_of, Derivings, No_derivings, Deriving_then, Bound, Unsized_of, Any_size_of, Sized_of, Static_sized_of, Sized_static_of}
+use Rattle.tree_data.specs.Trees.{Tree, Name_of, Constant_of, Text_of, Paren_of, Postfix_of, Unary_of, Binary_of, Conditional_of, Assign_of, Of_type, Compound_of, Behind, Operand_of, Index_of, Call_of, Call_with_of, Member_of, Step_of, Behinds, None_behind, Behind_then, Front, Operator_of, Cast_of, Choice_of, Left_of, Fronts, None_before, Front_then, Braces, Braces_of, Initial, Value_of, List_of, Piece, Plain_of, Designated_of, Pieces, No_pieces, Piece_then, Designator, Element_of, Field_of, Designators, No_designators, Designator_then, Generic_of, Offset_of, Association, Typed_of, Default_of, Associations, No_associations, Association_then, Specifying, Word_of, Typedef_of, Tag_of, Atomic_of, Specifyings, No_specifiers, Specifier_then, Naming, Type_of, Declaring, Declaring_of, No_parameters, Fixed_of, Variadic_of, Names_of, Parameters, Row, No_more, Parameter_then, Named_of, Grouping, No_group, Group_of, Deriving, Array_of, Function_of, Derivings, No_derivings, Deriving_then, Bound, Unsized_of, Any_size_of, Sized_of, Static_sized_of, Sized_static_of}
 use Rattle.c_parser.specs.declared.answers.ParseError.{ParseError}
 use Rattle.c_parser.specs.declared.answers.ParseError.TheVariants.{Syntax, TooDeep, NoMemory}
 use Rattle.c_parser.specs.declared.kinds.Kind.{Kind}
 use Rattle.c_parser.specs.declared.kinds.Kind.TheVariants.{Identifier, Constant, Text, OpenParen, CloseParen, OpenBracket, CloseBracket, OpenBrace, CloseBrace, Step, Question, Colon, Comma, Generic, OffsetOf, Default, Ellipsis, TypeName, Tag, Star, Atomic, Static}
 use Rattle.c_parser.specs.Brackets.{too_deep}
 use Rattle.c_parser.specs.Kinds.{kind_at, level_at, is_prefix, casts_at, is_size, is_word, is_equals, is_dot, is_member, is_type_word, is_storage, specifies_at}
-use Rattle.c_parser.specs.Declarators.{spell_pointers, AreQualifiers, AreThere, ArePointers, IsWritten, MayDerive}
+use Rattle.c_parser.specs.Declarators.{spell_pointers, spell_names, AreQualifiers, AreThere, ArePointers, AreNames, IsWritten, MayDerive}
 use Rattle.c_parser.specs.Levels.{expression, assignment_expression, conditional_expression, logical_OR_expression, unary_expression, postfix_expression, primary_expression, IsBinary, behinds_level, rank}
 
 -- of a comma that may be left out
@@ -115,6 +115,7 @@ abbrev mutual
   spell_parameters No_parameters = []
   spell_parameters (Fixed_of p ps) = spell_type p ++ spell_row ps
   spell_parameters (Variadic_of p ps m d) = spell_type p ++ (spell_row ps ++ (m ∷ d ∷ []))
+  spell_parameters (Names_of n ns) = n ∷ spell_names ns
 
   pub spell_row : Row → List ℕ
   spell_row No_more = []
@@ -435,7 +436,7 @@ abbrev mutual
   -- 6.7.7 direct-abstract-declarator opt [ .. ]
   IsDerived kinds (Array_of o b c) =
       (kind_at kinds o ≡ OpenBracket) × IsBound kinds b × (kind_at kinds c ≡ CloseBracket)
-  -- direct-abstract-declarator opt ( parameter-type-list opt )
+  -- direct-abstract-declarator opt ( parameter-type-list opt ), 6.7.6 direct-declarator ( identifier-list )
   IsDerived kinds (Function_of o ps c) =
       (kind_at kinds o ≡ OpenParen) × AreParameters kinds ps × (kind_at kinds c ≡ CloseParen)
 
@@ -445,6 +446,8 @@ abbrev mutual
   AreParameters kinds (Fixed_of p ps) = IsNaming kinds true p × AreMore kinds ps
   AreParameters kinds (Variadic_of p ps m d) =
       IsNaming kinds true p × AreMore kinds ps × (kind_at kinds m ≡ Comma) × (kind_at kinds d ≡ Ellipsis)
+  -- 6.7.6 direct-declarator ( identifier-list ), whose identifiers are no typedef names; `MayDerive` has it behind a name alone
+  AreParameters kinds (Names_of n ns) = (kind_at kinds n ≡ Identifier) × AreNames kinds ns
 
   -- 6.7.6 parameter-list : parameter-declaration | parameter-list , parameter-declaration
   pub AreMore : List Kind → Row → Type 0

@@ -1,6 +1,6 @@
 -- A proper tree by the place at which its tokens begin and the place behind them, which is what the parser reads.
 use Rattle.std.specs.Prelude.{◌≡◌, ℕ, ◌+◌, ◌<◌, ◌≤◌, ◌||◌, Bool, List, [], ◌∷◌, length, Option, None, Result, Ok, Err, Some, true, false}
-use Rattle.tree_data.specs.Trees.{Tree, Name_of, Constant_of, Text_of, Paren_of, Postfix_of, Unary_of, Binary_of, Conditional_of, Assign_of, Of_type, Compound_of, Behind, Operand_of, Index_of, Call_of, Call_with_of, Member_of, Step_of, Behinds, None_behind, Behind_then, Front, Operator_of, Cast_of, Choice_of, Left_of, Fronts, None_before, Front_then, Braces, Braces_of, Initial, Value_of, List_of, Piece, Plain_of, Designated_of, Pieces, No_pieces, Piece_then, Designator, Element_of, Field_of, Designators, No_designators, Designator_then, Generic_of, Offset_of, Association, Typed_of, Default_of, Associations, No_associations, Association_then, Specifying, Word_of, Typedef_of, Tag_of, Atomic_of, Specifyings, No_specifiers, Specifier_then, Naming, Type_of, Declaring, Declaring_of, No_parameters, Fixed_of, Variadic_of, Parameters, Row, No_more, Parameter_then, Named_of, Grouping, No_group, Group_of, Deriving, Array_of, Function_of, Derivings, No_derivings, Deriving_then, Bound, Unsized_of, Any_size_of, Sized_of, Static_sized_of, Sized_static_of}
+use Rattle.tree_data.specs.Trees.{Tree, Name_of, Constant_of, Text_of, Paren_of, Postfix_of, Unary_of, Binary_of, Conditional_of, Assign_of, Of_type, Compound_of, Behind, Operand_of, Index_of, Call_of, Call_with_of, Member_of, Step_of, Behinds, None_behind, Behind_then, Front, Operator_of, Cast_of, Choice_of, Left_of, Fronts, None_before, Front_then, Braces, Braces_of, Initial, Value_of, List_of, Piece, Plain_of, Designated_of, Pieces, No_pieces, Piece_then, Designator, Element_of, Field_of, Designators, No_designators, Designator_then, Generic_of, Offset_of, Association, Typed_of, Default_of, Associations, No_associations, Association_then, Specifying, Word_of, Typedef_of, Tag_of, Atomic_of, Specifyings, No_specifiers, Specifier_then, Naming, Type_of, Declaring, Declaring_of, No_parameters, Fixed_of, Variadic_of, Names_of, Parameters, Row, No_more, Parameter_then, Named_of, Grouping, No_group, Group_of, Deriving, Array_of, Function_of, Derivings, No_derivings, Deriving_then, Bound, Unsized_of, Any_size_of, Sized_of, Static_sized_of, Sized_static_of}
 use Rattle.c_parser.specs.declared.answers.ParseError.{ParseError}
 use Rattle.c_parser.specs.declared.answers.ParseError.TheVariants as told
 use Rattle.c_parser.specs.declared.answers.Stop.{Stop}
@@ -25,6 +25,11 @@ HoldsComma ks (Some o) a b = (o ≡ a) × (kind_at ks a ≡ Comma) × (b ≡ a +
 abbrev pub HoldQualifiers : List Kind → List ℕ → ℕ → ℕ → Type 0
 HoldQualifiers ks [] a b = b ≡ a
 HoldQualifiers ks (n ∷ ns) a b = (n ≡ a) × (qualifies_at ks a ≡ true) × HoldQualifiers ks ns (a + 1) b
+
+abbrev pub HoldNames : List Kind → List (ℕ × ℕ) → ℕ → ℕ → Type 0
+HoldNames ks [] a b = b ≡ a
+HoldNames ks (p ∷ ps) a b =
+    (p.0 ≡ a) × (kind_at ks a ≡ Comma) × (p.1 ≡ a + 1) × (kind_at ks (a + 1) ≡ Identifier) × HoldNames ks ps ((a + 1) + 1) b
 
 abbrev pub HoldPointers : List Kind → List (ℕ × List ℕ) → ℕ → ℕ → Type 0
 HoldPointers ks [] a b = b ≡ a
@@ -205,6 +210,7 @@ abbrev mutual
   HoldParameters ks (Variadic_of p ps o d) a b =
       (m : ℕ) × HoldsNaming ks true p a m × HoldRow ks ps m o
       × (kind_at ks o ≡ Comma) × (d ≡ o + 1) × (kind_at ks d ≡ Ellipsis) × (b ≡ d + 1)
+  HoldParameters ks (Names_of n ns) a b = (n ≡ a) × (kind_at ks a ≡ Identifier) × HoldNames ks ns (a + 1) b
 
   pub HoldRow : List Kind → Row → ℕ → ℕ → Type 0
   HoldRow ks No_more a b = b ≡ a

@@ -9,7 +9,7 @@ use Rattle.c_parser.specs.declared.kinds.Kind.TheVariants.{Star, CloseParen, Com
 use Rattle.c_parser.specs.Declarators.{need_name}
 use Rattle.c_parser.specs.Grammar.{has_type, MayStand}
 use Rattle.c_parser.specs.Kinds.{kind_at, ends_specifiers, qualifies_at}
-use Rattle.c_parser.specs.Reading.{HoldQualifiers, HoldPointers, HoldSpecifying, HoldSpecifyings, HoldsDeclaring, HoldsGrouping, HoldsDeriving, HoldDerivings, HoldsBound, HoldParameters, HoldRow, IsWant}
+use Rattle.c_parser.specs.Reading.{HoldQualifiers, HoldPointers, HoldNames, HoldSpecifying, HoldSpecifyings, HoldsDeclaring, HoldsGrouping, HoldsDeriving, HoldDerivings, HoldsBound, HoldParameters, HoldRow, IsWant}
 
 -- no specifier or qualifier stands here
 abbrev pub NoMore : List Kind → Bool → ℕ → Type 0
@@ -81,6 +81,13 @@ pub record FoundBound (kinds : List Kind) (a : ℕ) (x : Bound) (b : ℕ) : Type
 
 pub record FoundParameters (kinds : List Kind) (a : ℕ) (ps : Parameters) (b : ℕ) : Type 0 where
   pub reads : HoldParameters kinds ps a b
+  pub forth : a ≤ b
+  pub inside : b ≤ length kinds
+
+-- all identifiers that stand at a place, each with the comma in front of it
+pub record FoundNames (kinds : List Kind) (a : ℕ) (ns : List (ℕ × ℕ)) (b : ℕ) : Type 0 where
+  pub reads : HoldNames kinds ns a b
+  pub no_more : kind_at kinds b ≡ Comma → ⊥
   pub forth : a ≤ b
   pub inside : b ≤ length kinds
 

@@ -1,13 +1,13 @@
 // Declarators, with a name where one may stand (ISO C11 6.7.6, 6.7.7): pointers, a declarator in parentheses, arrays and functions.
-ghost use Rattle.std.specs.Prelude.{◌≡◌, true, false, ◌&&◌, not, ℕ, ◌+◌, ◌<◌, ◌≤◌, length, IfOk, IfErr};
+ghost use Rattle.std.specs.Prelude.{◌≡◌, true, false, ◌&&◌, not, ℕ, ◌+◌, ◌<◌, ◌≤◌, List, length, IfOk, IfErr};
 ghost use Rattle.tree_data.specs.Seen.{pointers_of, declarator_of, group_of, deriving_of, derivings_of, bound_of, parameters_of, parameter_row_of};
 ghost use Rattle.tree_data.specs.Trees as tree;
 ghost use Rattle.tree_data.specs.Trees.{Declaring, Grouping, Derivings, No_derivings, needs_name};
-ghost use Rattle.c_parser.specs.declared.kinds.Kind.TheVariants.{OpenParen, CloseParen, OpenBracket, CloseBracket, Static};
-ghost use Rattle.c_parser.specs.Declarators.{names, names_one, need_name};
+ghost use Rattle.c_parser.specs.declared.kinds.Kind.TheVariants.{Identifier, OpenParen, CloseParen, OpenBracket, CloseBracket, Static};
+ghost use Rattle.c_parser.specs.Declarators.{names, names_one, need_name, MayDerive};
 ghost use Rattle.c_parser.specs.Kinds as spec;
-ghost use Rattle.c_parser.specs.Reading.{HoldsDeclaring, HoldsGrouping, HoldsDeriving, HoldDerivings, HoldsBound, HoldParameters, HoldRow, MustGive};
-ghost use Rattle.c_parser.specs.TypeNames.{FoundQualifiers, FoundPointers, FoundDeclaring, FoundGrouping, FoundDeriving, FoundDerivings, FoundBound, FoundParameters, FoundRow, RowEnd};
+ghost use Rattle.c_parser.specs.Reading.{HoldsDeclaring, HoldsGrouping, HoldsDeriving, HoldDerivings, HoldsBound, HoldNames, HoldParameters, HoldRow, MustGive};
+ghost use Rattle.c_parser.specs.TypeNames.{FoundQualifiers, FoundPointers, FoundDeclaring, FoundGrouping, FoundDeriving, FoundDerivings, FoundBound, FoundNames, FoundParameters, FoundRow, RowEnd};
 
 use crate::answers::Stop;
 use crate::expressions::{ASSIGNMENT, level};
@@ -73,7 +73,7 @@ fn group(alloc: Global, kinds: &[Kind], at: u32, named: bool) -> Result<(Group, 
     ensures found { IfOk result (λ r. FoundGrouping kinds.now named at (group_of r.0) r.2) }
     ensures told { IfOk result (λ r. r.1 ≡ names_one (group_of r.0)) }
     ensures only { (g : Grouping) → (m : ℕ) → (ds : Derivings) → (end : ℕ) → HoldsGrouping kinds.now named g at m
-        → HoldDerivings kinds.now ds m end → spec.ends_type (spec.kind_at kinds.now end) ≡ true
+        → HoldDerivings kinds.now ds m end → MayDerive g ds → spec.ends_type (spec.kind_at kinds.now end) ≡ true
         → MustGive result (λ r. (group_of r.0 ≡ g) × (r.2 ≡ m)) }
 {
     if names_at(kinds, at, named) {
@@ -236,7 +236,46 @@ fn more_parameters(
     }
 }
 
-// The parameters of a function, behind which `)` has to stand.
+// The identifiers behind the first of a list, each with the comma in front of it (6.7.6), behind which `)` has to stand.
+fn more_identifiers(alloc: Global, kinds: &[Kind], at: u32) -> Result<(Vec<(u32, u32)>, u32), Stop>
+    requires size { length kinds.now ≤ 2000000 }
+    requires inside { at ≤ length kinds.now }
+    ensures found { IfOk result (λ r. FoundNames kinds.now at r.0.items r.1) }
+    ensures only { (ns : List (ℕ × ℕ)) → (end : ℕ) → HoldNames kinds.now ns at end → spec.kind_at kinds.now end ≡ CloseParen
+        → MustGive result (λ r. (r.0.items ≡ ns) × (r.1 ≡ end)) }
+{
+    let mut more = Vec::new(alloc);
+    let mut end = at;
+    'identifiers: loop {
+        let Kind::Comma = kind_at(kinds, end) else {
+            return Ok((more, end));
+        };
+        let Kind::Identifier = kind_at(kinds, end + 1) else {
+            return Err(Stop::Syntax(end + 1));
+        };
+        let Ok(()) = more.push((end, end + 1)) else {
+            return Err(Stop::NoMemory);
+        };
+        end += 2;
+    }
+}
+
+// A list of identifiers, behind which `)` has to stand.
+fn identifier_list(alloc: Global, kinds: &[Kind], at: u32) -> Result<(Parameters, u32), Stop>
+    requires size { length kinds.now ≤ 2000000 }
+    requires inside { at < length kinds.now }
+    requires kind { spec.kind_at kinds.now at ≡ Identifier }
+    ensures found { IfOk result (λ r. FoundParameters kinds.now at (parameters_of r.0) r.1) }
+    ensures only { (ps : tree.Parameters) → (end : ℕ) → HoldParameters kinds.now ps at end → spec.kind_at kinds.now end ≡ CloseParen
+        → MustGive result (λ r. (parameters_of r.0 ≡ ps) × (r.1 ≡ end)) }
+{
+    match more_identifiers(alloc, kinds, at + 1) {
+        Ok((more, end)) => Ok((Parameters::names(at, more), end)),
+        Err(stop) => Err(stop),
+    }
+}
+
+// The parameters of a function, behind which `)` has to stand. An identifier that is no typedef name begins a list of such.
 #[cycle(parser)]
 fn parameters(alloc: Global, kinds: &[Kind], at: u32) -> Result<(Parameters, u32), Stop>
     requires size { length kinds.now ≤ 2000000 }
@@ -247,6 +286,9 @@ fn parameters(alloc: Global, kinds: &[Kind], at: u32) -> Result<(Parameters, u32
 {
     if let Kind::CloseParen = kind_at(kinds, at) {
         return Ok((Parameters::none(), at));
+    }
+    if let Kind::Identifier = kind_at(kinds, at) {
+        return identifier_list(alloc, kinds, at);
     }
     let (first, behind) = match specified(alloc, kinds, at, true) {
         Ok(found) => found,
@@ -305,6 +347,15 @@ fn array_or_function(alloc: Global, kinds: &[Kind], at: u32) -> Result<(Deriving
     }
 }
 
+// The token that shows that an array or a function from one place to another stands behind a name alone: the first identifier of
+// a list, or the `]` behind qualifiers and `*`.
+fn amiss(kinds: &[Kind], from: u32, to: u32) -> u32 {
+    let Kind::OpenParen = kind_at(kinds, from) else {
+        return to.saturating_sub(1);
+    };
+    from.saturating_add(1)
+}
+
 // Whether it stands behind a name alone, where there is none.
 fn lacks_name(one: &Deriving, declares: bool) -> bool
     ensures { result ≡ (needs_name (deriving_of one.now) && not declares) }
@@ -338,7 +389,7 @@ fn derivings(
             Err(stop) => return Err(stop),
         };
         if lacks_name(&one, declares) {
-            return Err(Stop::Syntax(next.saturating_sub(1)));
+            return Err(Stop::Syntax(amiss(kinds, end, next)));
         }
         let Ok(()) = derivings.push(one) else {
             return Err(Stop::NoMemory);

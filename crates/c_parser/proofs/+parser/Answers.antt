@@ -1001,7 +1001,7 @@ declarators::group-returns-then-names_at t c =
           (sym c.named.ensures)
           (name_found _ _ _ named);
       told = ap names_one (sym c.named.ensures);
-      only = λ g m ds end h i e. let same = only g m ds end h i e in (c.named.ensures ∙ same.0, same.1);
+      only = λ g m ds end h i q e. let same = only g m ds end h i q e in (c.named.ensures ∙ same.0, same.1);
     }
 
 pub declarators::group-returns-in_default : goal.declarators::group-returns-in_default
@@ -1020,7 +1020,7 @@ declarators::group-returns-in_default t c =
           (sym c.none.ensures)
           (record { reads = refl; forth = omega arith; inside = c.requires.inside });
       told = ap names_one (sym c.none.ensures);
-      only = λ g m ds end h i e. let same = only g m ds end h i e in (c.none.ensures ∙ same.0, same.1);
+      only = λ g m ds end h i q e. let same = only g m ds end h i q e in (c.none.ensures ∙ same.0, same.1);
     }
 
 pub declarators::group-returns-then-opens_parameters : goal.declarators::group-returns-then-opens_parameters
@@ -1034,7 +1034,7 @@ declarators::group-returns-then-opens_parameters t c =
           (sym c.none-then-opens_parameters.ensures)
           (record { reads = refl; forth = omega arith; inside = c.requires.inside });
       told = ap names_one (sym c.none-then-opens_parameters.ensures);
-      only = λ g m ds end h i e. let same = only g m ds end h i e in (c.none-then-opens_parameters.ensures ∙ same.0, same.1);
+      only = λ g m ds end h i q e. let same = only g m ds end h i q e in (c.none-then-opens_parameters.ensures ∙ same.0, same.1);
     }
 
 pub declarators::group-returns-in-Err : goal.declarators::group-returns-in-Err
@@ -1092,7 +1092,7 @@ declarators::group-returns-in-Ok-of t c =
           (sym c.in-CloseParen.ensures.kind)
           c.in-CloseParen.ensures.inside);
       told = c.in-Ok.ensures.told ∙ ap names_one (sym c.in-Ok-of.ensures);
-      only = λ g m ds end h i e. let same = only g m ds end h i e in (c.in-Ok-of.ensures ∙ same.0, same.1);
+      only = λ g m ds end h i q e. let same = only g m ds end h i q e in (c.in-Ok-of.ensures ∙ same.0, same.1);
     }
 
 pub declarators::static_bound-returns-in-Err-level : goal.declarators::static_bound-returns-in-Err-level
@@ -1478,13 +1478,13 @@ declarators::parameters-returns-in-CloseParen t c =
 pub declarators::parameters-returns-in-Err : goal.declarators::parameters-returns-in-Err
 declarators::parameters-returns-in-Err t c = record {
   found = tt;
-  only = first_missing _ _ (λ k. c.in_default.not-CloseParen (c.kind_at.ensures.kind ∙ k)) _ c.in-Err.ensures.only;
+  only = first_missing _ _ (λ k. c.in_default.not-CloseParen (c.kind_at.ensures.kind ∙ k)) (λ k. c.in_default-kind_at.not-Identifier (c.kind_at-2.ensures.kind ∙ k)) _ c.in-Err.ensures.only;
 }
 
 pub declarators::parameters-returns-in-Err-more_parameters : goal.declarators::parameters-returns-in-Err-more_parameters
 declarators::parameters-returns-in-Err-more_parameters t c = record {
   found = tt;
-  only = rest_missing _ _ (λ k. c.in_default.not-CloseParen (c.kind_at.ensures.kind ∙ k)) _ _ c.in-Ok.ensures.only _ c.in-Err-more_parameters.ensures.only;
+  only = rest_missing _ _ (λ k. c.in_default.not-CloseParen (c.kind_at.ensures.kind ∙ k)) (λ k. c.in_default-kind_at.not-Identifier (c.kind_at-2.ensures.kind ∙ k)) _ _ c.in-Ok.ensures.only _ c.in-Err-more_parameters.ensures.only;
 }
 
 pub declarators::parameters-returns-in-Ok-fixed : goal.declarators::parameters-returns-in-Ok-fixed
@@ -1494,13 +1494,14 @@ declarators::parameters-returns-in-Ok-fixed t c =
     _
     _
     (λ k. c.in_default.not-CloseParen (c.kind_at.ensures.kind ∙ k))
+    (λ k. c.in_default-kind_at.not-Identifier (c.kind_at-2.ensures.kind ∙ k))
     _
     _
     c.in-Ok.ensures.only
     _
     _
     c.in-Ok-more_parameters.ensures.only
-    (λ k. c.in_default-kind_at.not-Comma (c.kind_at-2.ensures.kind ∙ k)) in
+    (λ k. c.in_default-kind_at-2.not-Comma (c.kind_at-3.ensures.kind ∙ k)) in
     record {
       found =
           subst
@@ -1517,6 +1518,7 @@ declarators::parameters-returns-in-Ok-variadic t c =
     _
     _
     (λ k. c.in_default.not-CloseParen (c.kind_at.ensures.kind ∙ k))
+    (λ k. c.in_default-kind_at.not-Identifier (c.kind_at-2.ensures.kind ∙ k))
     _
     _
     c.in-Ok.ensures.only
