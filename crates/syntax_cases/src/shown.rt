@@ -174,7 +174,23 @@ fn show_parameters(
             }
             out.push_str(" ...")
         }
+        Parameters::Names(first, more) => show_names(out, tokens, *first, more.as_slice()),
     }
+}
+
+fn show_names(
+    out: &mut String,
+    tokens: &[OutToken],
+    first: u32,
+    more: &[(u32, u32)],
+) -> Result<(), AllocError> {
+    out.push_str(" (idents ")?;
+    spell(out, tokens, first)?;
+    for pair in more {
+        out.push_str(" ")?;
+        spell(out, tokens, pair.1)?;
+    }
+    out.push_str(")")
 }
 
 #[cycle(show)]
