@@ -1,5 +1,5 @@
 -- Declarators, with a name where one may stand, as the code reads their parts one behind another.
-use Rattle.std.proofs.Common.{◌≡◌, refl, ap, sym, ◌∙◌, subst, ℕ, zero, suc, ◌+◌, ◌<◌, ◌≤◌, List, [], ◌∷◌, ◌++◌, length, arith, Bool, true, false, true≢false, ◌&&◌, inl, inr}
+use Rattle.std.proofs.Common.{◌≡◌, refl, ap, sym, ◌∙◌, subst, ℕ, zero, suc, ◌+◌, ◌<◌, ◌≤◌, List, [], ◌∷◌, ◌++◌, length, arith, Bool, true, false, true≢false, ◌&&◌, inl, inr, is_some}
 use Rattle.std.proofs.lemmas.List.{map-append}
 use Rattle.tree_data.specs.declared.types.Deriving as code
 use Rattle.tree_data.specs.Seen.{deriving_of, derivings_of}
@@ -7,32 +7,33 @@ use Rattle.tree_data.specs.Trees.{Tree, Declaring, Declaring_of, Grouping, No_gr
 use Rattle.c_parser.specs.declared.answers.Stop.{Stop}
 use Rattle.c_parser.specs.declared.answers.Stop.TheVariants as stop
 use Rattle.c_parser.specs.declared.kinds.Kind.{Kind}
-use Rattle.c_parser.specs.declared.kinds.Kind.TheVariants.{Identifier, OpenParen, CloseParen, OpenBracket, CloseBracket, Star, Static}
-use Rattle.c_parser.specs.Declarators.{AreThere, IsWritten, names_one, need_name, MayDerive}
-use Rattle.c_parser.specs.Kinds.{kind_at, ends_type, is_deriving, any_size_at, is_star, is_closing_bracket, is_identifier, names_at, opens_parameters}
+use Rattle.c_parser.specs.declared.kinds.Kind.TheVariants.{OpenParen, CloseParen, OpenBracket, CloseBracket, Star, Static}
+use Rattle.c_parser.specs.Declarators.{AreThere, IsWritten, need_name, MayDerive, name_in}
+use Rattle.c_parser.specs.Kinds.{kind_at, ends_type, is_deriving, any_size_at, is_star, is_closing_bracket, names_at, opens_parameters, is_word, may_name, grouped, behind_pointers}
 use Rattle.c_parser.specs.Reading.{HoldQualifiers, HoldPointers, HoldsDeclaring, HoldsGrouping, HoldsDeriving, HoldDerivings, HoldsBound, HoldParameters, Reads, Found, IsWant}
 use Rattle.c_parser.specs.TypeNames.{FoundQualifiers, FoundPointers, FoundDeclaring, FoundGrouping, FoundDeriving, FoundDerivings, FoundBound, FoundParameters}
 use Rattle.c_parser.proofs.Marks.{clash, stops_at}
 use Rattle.c_parser.proofs.SameParts.{Only}
 use Rattle.c_parser.proofs.Parsing.{Fails}
-use Rattle.c_parser.proofs.TypeReading.{everywhere, Bounding, first_static, first_others, Behind, nothing, a_star, a_size, a_static, bound_view, bound_only, no_start, no_star, no_qualifier, grouping_begins, parameters_next, written_begins, no_name_next, deriving_only}
+use Rattle.c_parser.proofs.TypeReading.{everywhere, Bounding, first_static, first_others, Behind, nothing, a_star, a_size, a_static, bound_view, bound_only, no_start, no_star, no_qualifier, grouping_begins, parameters_next, written_begins, no_name_next, deriving_only, moved}
 use Rattle.c_parser.proofs.Types.{between, pointers_only, qualifiers_only}
 use Rattle.c_parser.proofs.Views.{starts}
-use Rattle.c_parser.proofs.Words.{either, or_left, or_right, left_of, right_of, test_inside, name_may_stand, name_stands}
+use Rattle.c_parser.proofs.Words.{either, or_left, or_right, left_of, right_of, test_inside, name_stands, named_word}
+use Rattle.c_parser.specs.declared.kinds.Named.{Named}
 
 -- what a call has for all that stand there, where it read something and where it stopped
-abbrev pub OnlyDeclaring : List Kind → Bool → ℕ → Declaring → ℕ → Type 0
+abbrev pub OnlyDeclaring : List Kind → Named → ℕ → Declaring → ℕ → Type 0
 OnlyDeclaring ks y a d c = (d' : Declaring) → (c' : ℕ) → HoldsDeclaring ks y d' a c' → ends_type (kind_at ks c') ≡ true → (d ≡ d') × (c ≡ c')
 
-abbrev pub FailsDeclaring : List Kind → Bool → ℕ → Stop → Type 0
+abbrev pub FailsDeclaring : List Kind → Named → ℕ → Stop → Type 0
 FailsDeclaring ks y a e = (d : Declaring) → (c : ℕ) → HoldsDeclaring ks y d a c → ends_type (kind_at ks c) ≡ true → IsWant e
 
-abbrev pub OnlyGrouping : List Kind → Bool → ℕ → Grouping → ℕ → Type 0
+abbrev pub OnlyGrouping : List Kind → Named → ℕ → Grouping → ℕ → Type 0
 OnlyGrouping ks y a g m =
     (g' : Grouping) → (m' : ℕ) → (ds : Derivings) → (c : ℕ) → HoldsGrouping ks y g' a m' → HoldDerivings ks ds m' c → MayDerive g' ds
     → ends_type (kind_at ks c) ≡ true → (g ≡ g') × (m ≡ m')
 
-abbrev pub FailsGrouping : List Kind → Bool → ℕ → Stop → Type 0
+abbrev pub FailsGrouping : List Kind → Named → ℕ → Stop → Type 0
 FailsGrouping ks y a e =
     (g : Grouping) → (m : ℕ) → (ds : Derivings) → (c : ℕ) → HoldsGrouping ks y g a m → HoldDerivings ks ds m c → MayDerive g ds
     → ends_type (kind_at ks c) ≡ true → IsWant e
@@ -63,7 +64,7 @@ abbrev pub FailsParameters : List Kind → ℕ → Stop → Type 0
 FailsParameters ks a e = (ps : Parameters) → (c : ℕ) → HoldParameters ks ps a c → kind_at ks c ≡ CloseParen → IsWant e
 
 -- a declarator
-pointers_same : (ks : List Kind) → (y : Bool) → (a : ℕ) → (ps : List (ℕ × List ℕ)) → (m : ℕ) → FoundPointers ks a ps m → (ps' : List (ℕ × List ℕ)) → (m' : ℕ)
+pointers_same : (ks : List Kind) → (y : Named) → (a : ℕ) → (ps : List (ℕ × List ℕ)) → (m : ℕ) → FoundPointers ks a ps m → (ps' : List (ℕ × List ℕ)) → (m' : ℕ)
     → HoldPointers ks ps' a m' → (g : Grouping) → (ds : Derivings) → (n c : ℕ) → HoldsGrouping ks y g m' n → HoldDerivings ks ds n c
     → ends_type (kind_at ks c) ≡ true → (ps ≡ ps') × (m ≡ m')
 pointers_same ks y a ps m x ps' m' h g ds n c i j e =
@@ -71,77 +72,99 @@ pointers_same ks y a ps m x ps' m' h g ds n c i j e =
     let free = no_qualifier ks m' begun in
     pointers_only ks ps a m x.reads x.no_more (x.unqualified (between ks ps' a m' h free)) ps' m' h (no_star ks m' begun) free
 
-pub group_missing : (ks : List Kind) → (y : Bool) → (a : ℕ) → (ps : List (ℕ × List ℕ)) → (m : ℕ) → FoundPointers ks a ps m → (e : Stop) → FailsGrouping ks y m e
-    → FailsDeclaring ks y a e
-group_missing ks y a ps m x e fails (Declaring_of ps' g ds) c h f =
-    let same = pointers_same ks y a ps m x ps' h.0 h.2 g ds h.1 c h.3 h.4 f in
-    fails g h.1 ds c (subst (λ k. HoldsGrouping ks y g k h.1) (sym same.1) h.3) h.4 h.5 f
+pub group_missing : (ks : List Kind) → (y : Named) → (a : ℕ) → (ps : List (ℕ × List ℕ)) → (m : ℕ) → FoundPointers ks a ps m → (n : Named)
+    → n ≡ behind_pointers y ps → (e : Stop) → FailsGrouping ks n m e → FailsDeclaring ks y a e
+group_missing ks y a ps m x n is e fails (Declaring_of ps' g ds) c h f =
+    let same = pointers_same ks (behind_pointers y ps') a ps m x ps' h.0 h.2 g ds h.1 c h.3 h.4 f in
+    fails g h.1 ds c (moved ks y n ps ps' m h.0 h.1 g is same.0 same.1 h.3) h.4 h.5 f
 
-pub derivings_missing : (ks : List Kind) → (y : Bool) → (a : ℕ) → (ps : List (ℕ × List ℕ)) → (m : ℕ) → FoundPointers ks a ps m → (g : Grouping) → (n : ℕ)
-    → OnlyGrouping ks y m g n → (z : Bool) → z ≡ names_one g → (e : Stop) → FailsDerivings ks z n e → FailsDeclaring ks y a e
-derivings_missing ks y a ps m x g n only z is e fails (Declaring_of ps' g' ds) c h f =
-    let same = pointers_same ks y a ps m x ps' h.0 h.2 g' ds h.1 c h.3 h.4 f in
-    let more = only g' h.1 ds c (subst (λ k. HoldsGrouping ks y g' k h.1) (sym same.1) h.3) h.4 h.5 f in
-    fails ds c (subst (λ y. HoldDerivings ks ds y c) (sym more.1) h.4) (λ q. is ∙ ap names_one more.0 ∙ h.5 q) f
+pub derivings_missing : (ks : List Kind) → (y : Named) → (a : ℕ) → (ps : List (ℕ × List ℕ)) → (m : ℕ) → FoundPointers ks a ps m → (g : Grouping) → (n : ℕ)
+    → (v : Named) → v ≡ behind_pointers y ps → OnlyGrouping ks v m g n → (z : Bool) → z ≡ is_some (name_in g) → (e : Stop)
+    → FailsDerivings ks z n e → FailsDeclaring ks y a e
+derivings_missing ks y a ps m x g n v by only z is e fails (Declaring_of ps' g' ds) c h f =
+    let same = pointers_same ks (behind_pointers y ps') a ps m x ps' h.0 h.2 g' ds h.1 c h.3 h.4 f in
+    let more = only g' h.1 ds c (moved ks y v ps ps' m h.0 h.1 g' by same.0 same.1 h.3) h.4 h.5 f in
+    fails
+    ds
+    c
+    (subst (λ y. HoldDerivings ks ds y c) (sym more.1) h.4)
+    (λ q. is ∙ ap (λ x. is_some (name_in x)) more.0 ∙ h.5 q)
+    f
 
-pub declaring_found : (ks : List Kind) → (y : Bool) → (a : ℕ) → (ps : List (ℕ × List ℕ)) → (m : ℕ) → FoundPointers ks a ps m → (g : Grouping) → (n : ℕ)
-    → FoundGrouping ks y m g n → (w : Bool) → w ≡ names_one g → (ds : Derivings) → (b : ℕ) → FoundDerivings ks w n ds b
-    → FoundDeclaring ks y a (Declaring_of ps g ds) b
-declaring_found ks y a ps m x g n u w is ds b z =
+pub declaring_found : (ks : List Kind) → (y : Named) → (a : ℕ) → (ps : List (ℕ × List ℕ)) → (m : ℕ) → FoundPointers ks a ps m → (g : Grouping) → (n : ℕ)
+    → (v : Named) → v ≡ behind_pointers y ps → FoundGrouping ks v m g n → (w : Bool) → w ≡ is_some (name_in g) → (ds : Derivings) → (b : ℕ)
+    → FoundDerivings ks w n ds b → FoundDeclaring ks y a (Declaring_of ps g ds) b
+declaring_found ks y a ps m x g n v by u w is ds b z =
     let one : a ≤ m = x.forth in
     let two : m ≤ n = u.forth in
     let three : n ≤ b = z.forth in
-    record { reads = (m, n, x.reads, u.reads, z.reads, λ q. sym is ∙ z.fits q); forth = omega arith; inside = z.inside }
+    record {
+      reads = (m, n, x.reads, subst (λ k. HoldsGrouping ks k g m n) by u.reads, z.reads, λ q. sym is ∙ z.fits q);
+      forth = omega arith;
+      inside = z.inside;
+    }
 
-pub declaring_same : (ks : List Kind) → (y : Bool) → (a : ℕ) → (ps : List (ℕ × List ℕ)) → (m : ℕ) → FoundPointers ks a ps m → (g : Grouping) → (n : ℕ)
-    → OnlyGrouping ks y m g n → (w : Bool) → w ≡ names_one g → (ds : Derivings) → (b : ℕ) → OnlyDerivings ks w n ds b
-    → OnlyDeclaring ks y a (Declaring_of ps g ds) b
-declaring_same ks y a ps m x g n u w is ds b z (Declaring_of ps' g' ds') c h f =
-    let one = pointers_same ks y a ps m x ps' h.0 h.2 g' ds' h.1 c h.3 h.4 f in
-    let two = u g' h.1 ds' c (subst (λ k. HoldsGrouping ks y g' k h.1) (sym one.1) h.3) h.4 h.5 f in
-    let three = z ds' c (subst (λ k. HoldDerivings ks ds' k c) (sym two.1) h.4) (λ q. is ∙ ap names_one two.0 ∙ h.5 q) f in (
+pub declaring_same : (ks : List Kind) → (y : Named) → (a : ℕ) → (ps : List (ℕ × List ℕ)) → (m : ℕ) → FoundPointers ks a ps m → (g : Grouping) → (n : ℕ)
+    → (v : Named) → v ≡ behind_pointers y ps → OnlyGrouping ks v m g n → (w : Bool) → w ≡ is_some (name_in g) → (ds : Derivings) → (b : ℕ)
+    → OnlyDerivings ks w n ds b → OnlyDeclaring ks y a (Declaring_of ps g ds) b
+declaring_same ks y a ps m x g n v by u w is ds b z (Declaring_of ps' g' ds') c h f =
+    let one = pointers_same ks (behind_pointers y ps') a ps m x ps' h.0 h.2 g' ds' h.1 c h.3 h.4 f in
+    let two = u g' h.1 ds' c (moved ks y v ps ps' m h.0 h.1 g' by one.0 one.1 h.3) h.4 h.5 f in
+    let three =
+    z
+    ds'
+    c
+    (subst (λ k. HoldDerivings ks ds' k c) (sym two.1) h.4)
+    (λ q. is ∙ ap (λ x. is_some (name_in x)) two.0 ∙ h.5 q)
+    f in (
       ap (λ k. Declaring_of k g ds) one.0 ∙ ap (λ k. Declaring_of ps' k ds) two.0 ∙ ap (λ k. Declaring_of ps' g' k) three.0,
       three.1,
     )
 
 -- a name, a group, or nothing
-pub no_group : (ks : List Kind) → (y : Bool) → (a : ℕ) → (y ≡ true → kind_at ks a ≡ Identifier → ⊥)
+pub no_group : (ks : List Kind) → (y : Named) → (a : ℕ) → (may_name y (kind_at ks a) ≡ true → ⊥)
     → (kind_at ks a ≡ OpenParen → opens_parameters (kind_at ks (a + 1)) ≡ true) → OnlyGrouping ks y a No_group a
 no_group ks y a n k No_group m ds c h i q f = (refl, sym h)
-no_group ks y a n k (Named_of x) m ds c h i q f = absurd (n h.0 h.2)
+no_group ks y a n k (Named_of x) m ds c h i q f = absurd (n h.1)
 no_group ks y a n k (Group_of o d e) m ds c h i q f =
     absurd (true≢false (sym (k h.1) ∙ written_begins ks y d (a + 1) e h.2 h.3))
 
-pub name_same : (ks : List Kind) → (y : Bool) → (a : ℕ) → kind_at ks a ≡ Identifier → OnlyGrouping ks y a (Named_of a) (a + 1)
-name_same ks y a k No_group m ds c h i q f = no_name_next ks ds a c (subst (λ x. HoldDerivings ks ds x c) h i) f k
-name_same ks y a k (Named_of n) m ds c h i q f = (ap Named_of (sym h.1), sym h.3)
-name_same ks y a k (Group_of o d e) m ds c h i q f = clash (kind_at ks a) Identifier OpenParen k h.1 (λ x. omega (arith, x))
+pub name_same : (ks : List Kind) → (y : Named) → (a : ℕ) → may_name y (kind_at ks a) ≡ true → OnlyGrouping ks y a (Named_of a) (a + 1)
+name_same ks y a k No_group m ds c h i q f =
+    no_name_next ks ds a c (subst (λ x. HoldDerivings ks ds x c) h i) f (named_word y (kind_at ks a) k)
+name_same ks y a k (Named_of n) m ds c h i q f = (ap Named_of (sym h.0), sym h.2)
+name_same ks y a k (Group_of o d e) m ds c h i q f = absurd (true≢false (sym (named_word y (kind_at ks a) k) ∙ ap is_word h.1))
 
-pub name_found : (ks : List Kind) → (y : Bool) → (a : ℕ) → names_at ks a y ≡ true → FoundGrouping ks y a (Named_of a) (a + 1)
+pub name_found : (ks : List Kind) → (y : Named) → (a : ℕ) → names_at ks a y ≡ true → FoundGrouping ks y a (Named_of a) (a + 1)
 name_found ks y a h =
     let k = name_stands ks a y h in
-    let i : a < length ks = test_inside is_identifier refl ks a (ap is_identifier k) in
-    record { reads = (name_may_stand ks a y h, refl, k, refl); forth = omega arith; inside = omega arith }
+    let i : a < length ks = test_inside is_word refl ks a (named_word y (kind_at ks a) k) in
+    record { reads = (refl, k, refl); forth = omega arith; inside = omega arith }
 
 closes_not : {A : Type 0} → (ks : List Kind) → (a c : ℕ) → kind_at ks a ≡ OpenParen → opens_parameters (kind_at ks (a + 1)) ≡ false
     → (ds : Derivings) → (m : ℕ) → m ≡ a → HoldDerivings ks ds m c → MayDerive No_group ds → ends_type (kind_at ks c) ≡ true → A
 closes_not ks a c k n ds m e i q f =
     absurd (true≢false (sym (parameters_next ks ds a c (subst (λ x. HoldDerivings ks ds x c) e i) q f k) ∙ n))
 
-pub group_fails : (ks : List Kind) → (y : Bool) → (a : ℕ) → kind_at ks a ≡ OpenParen → opens_parameters (kind_at ks (a + 1)) ≡ false → (e : Stop)
-    → FailsDeclaring ks y (a + 1) e → FailsGrouping ks y a e
-group_fails ks y a k n e fails No_group m ds c h i q f = closes_not ks a c k n ds m h i q f
-group_fails ks y a k n e fails (Named_of x) m ds c h i q f = clash (kind_at ks a) OpenParen Identifier k h.2 (λ z. omega (arith, z))
-group_fails ks y a k n e fails (Group_of o d b) m ds c h i q f = fails d b h.3 (ap ends_type h.4)
+no_word : {A : Type 0} → (ks : List Kind) → (y : Named) → (a : ℕ) → kind_at ks a ≡ OpenParen → may_name y (kind_at ks a) ≡ true → A
+no_word ks y a k h = absurd (true≢false (sym (named_word y (kind_at ks a) h) ∙ ap is_word k))
 
-pub group_left_open : (ks : List Kind) → (y : Bool) → (a : ℕ) → kind_at ks a ≡ OpenParen → opens_parameters (kind_at ks (a + 1)) ≡ false
-    → (d : Declaring) → (b : ℕ) → OnlyDeclaring ks y (a + 1) d b → (kind_at ks b ≡ CloseParen → ⊥) → (n : ℕ) → FailsGrouping ks y a (stop.Syntax n)
-group_left_open ks y a k n d b only u at No_group m ds c h i q f = closes_not ks a c k n ds m h i q f
-group_left_open ks y a k n d b only u at (Named_of x) m ds c h i q f = clash (kind_at ks a) OpenParen Identifier k h.2 (λ z. omega (arith, z))
-group_left_open ks y a k n d b only u at (Group_of o d' b') m ds c h i q f =
-    u (ap (λ x. kind_at ks x) (only d' b' h.3 (ap ends_type h.4)).1 ∙ h.4)
+pub group_fails : (ks : List Kind) → (y : Named) → (a : ℕ) → kind_at ks a ≡ OpenParen → opens_parameters (kind_at ks (a + 1)) ≡ false → (v : Named)
+    → v ≡ grouped y → (e : Stop) → FailsDeclaring ks v (a + 1) e → FailsGrouping ks y a e
+group_fails ks y a k n v by e fails No_group m ds c h i q f = closes_not ks a c k n ds m h i q f
+group_fails ks y a k n v by e fails (Named_of x) m ds c h i q f = no_word ks y a k h.1
+group_fails ks y a k n v by e fails (Group_of o d b) m ds c h i q f =
+    fails d b (subst (λ x. HoldsDeclaring ks x d (a + 1) b) (sym by) h.3) (ap ends_type h.4)
 
-written_by : (ks : List Kind) → (y : Bool) → (d : Declaring) → (a c : ℕ) → HoldsDeclaring ks y d a c → kind_at ks c ≡ CloseParen
+pub group_left_open : (ks : List Kind) → (y : Named) → (a : ℕ) → kind_at ks a ≡ OpenParen → opens_parameters (kind_at ks (a + 1)) ≡ false
+    → (d : Declaring) → (b : ℕ) → (v : Named) → v ≡ grouped y → OnlyDeclaring ks v (a + 1) d b → (kind_at ks b ≡ CloseParen → ⊥) → (n : ℕ)
+    → FailsGrouping ks y a (stop.Syntax n)
+group_left_open ks y a k n d b v by only u at No_group m ds c h i q f = closes_not ks a c k n ds m h i q f
+group_left_open ks y a k n d b v by only u at (Named_of x) m ds c h i q f = no_word ks y a k h.1
+group_left_open ks y a k n d b v by only u at (Group_of o d' b') m ds c h i q f =
+    u (ap (λ x. kind_at ks x) (only d' b' (subst (λ x. HoldsDeclaring ks x d' (a + 1) b') (sym by) h.3) (ap ends_type h.4)).1 ∙ h.4)
+
+written_by : (ks : List Kind) → (y : Named) → (d : Declaring) → (a c : ℕ) → HoldsDeclaring ks y d a c → kind_at ks c ≡ CloseParen
     → opens_parameters (kind_at ks a) ≡ false → IsWritten d
 written_by ks y (Declaring_of (p ∷ ps) g ds) a c h e n = tt
 written_by ks y (Declaring_of [] (Named_of x) ds) a c h e n = tt
@@ -150,23 +173,30 @@ written_by ks y (Declaring_of [] No_group (Deriving_then d ds)) a c h e n = tt
 written_by ks y (Declaring_of [] No_group No_derivings) a c h e n =
     true≢false (sym (ap opens_parameters (ap (λ x. kind_at ks x) (sym (h.4 ∙ h.3 ∙ h.2)) ∙ e)) ∙ n)
 
-pub group_found : (ks : List Kind) → (y : Bool) → (a : ℕ) → kind_at ks a ≡ OpenParen → opens_parameters (kind_at ks (a + 1)) ≡ false
-    → (d : Declaring) → (b : ℕ) → FoundDeclaring ks y (a + 1) d b → kind_at ks b ≡ CloseParen → b < length ks
+pub group_found : (ks : List Kind) → (y : Named) → (a : ℕ) → kind_at ks a ≡ OpenParen → opens_parameters (kind_at ks (a + 1)) ≡ false
+    → (d : Declaring) → (b : ℕ) → (v : Named) → v ≡ grouped y → FoundDeclaring ks v (a + 1) d b → kind_at ks b ≡ CloseParen → b < length ks
     → FoundGrouping ks y a (Group_of a d b) (b + 1)
-group_found ks y a k n d b found l i =
+group_found ks y a k n d b v by found l i =
     let one : a + 1 ≤ b = found.forth in
     record {
-      reads = (refl, k, written_by ks y d (a + 1) b found.reads l n, found.reads, l, refl);
+      reads = (
+        refl,
+        k,
+        written_by ks v d (a + 1) b found.reads l n,
+        subst (λ x. HoldsDeclaring ks x d (a + 1) b) by found.reads,
+        l,
+        refl,
+      );
       forth = omega arith;
       inside = omega arith;
     }
 
-pub group_same : (ks : List Kind) → (y : Bool) → (a : ℕ) → kind_at ks a ≡ OpenParen → opens_parameters (kind_at ks (a + 1)) ≡ false
-    → (d : Declaring) → (b : ℕ) → OnlyDeclaring ks y (a + 1) d b → OnlyGrouping ks y a (Group_of a d b) (b + 1)
-group_same ks y a k n d b only No_group m ds c h i q f = closes_not ks a c k n ds m h i q f
-group_same ks y a k n d b only (Named_of x) m ds c h i q f = clash (kind_at ks a) OpenParen Identifier k h.2 (λ z. omega (arith, z))
-group_same ks y a k n d b only (Group_of o d' b') m ds c h i q f =
-    let same = only d' b' h.3 (ap ends_type h.4) in (
+pub group_same : (ks : List Kind) → (y : Named) → (a : ℕ) → kind_at ks a ≡ OpenParen → opens_parameters (kind_at ks (a + 1)) ≡ false
+    → (d : Declaring) → (b : ℕ) → (v : Named) → v ≡ grouped y → OnlyDeclaring ks v (a + 1) d b → OnlyGrouping ks y a (Group_of a d b) (b + 1)
+group_same ks y a k n d b v by only No_group m ds c h i q f = closes_not ks a c k n ds m h i q f
+group_same ks y a k n d b v by only (Named_of x) m ds c h i q f = no_word ks y a k h.1
+group_same ks y a k n d b v by only (Group_of o d' b') m ds c h i q f =
+    let same = only d' b' (subst (λ x. HoldsDeclaring ks x d' (a + 1) b') (sym by) h.3) (ap ends_type h.4) in (
       ap (λ x. Group_of x d b) (sym h.0) ∙ ap (λ x. Group_of o x b) same.0 ∙ ap (λ x. Group_of o d' x) same.1,
       ap (λ x. x + 1) same.1 ∙ sym h.5,
     )

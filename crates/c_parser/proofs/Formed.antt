@@ -3,12 +3,13 @@ use Rattle.std.proofs.Common.{◌≡◌, ap, sym, ◌∙◌, subst, ℕ, ◌+◌
 use Rattle.tree_data.specs.Trees.{Tree, Name_of, Constant_of, Text_of, Paren_of, Postfix_of, Unary_of, Binary_of, Conditional_of, Assign_of, Of_type, Compound_of, Behind, Operand_of, Index_of, Call_of, Call_with_of, Member_of, Step_of, Behinds, None_behind, Behind_then, Front, Operator_of, Cast_of, Choice_of, Left_of, Fronts, None_before, Front_then, Braces, Braces_of, Initial, Value_of, List_of, Piece, Plain_of, Designated_of, Pieces, No_pieces, Piece_then, Designator, Element_of, Field_of, Designators, No_designators, Designator_then, Generic_of, Offset_of, Association, Typed_of, Default_of, Associations, No_associations, Association_then, Specifying, Word_of, Typedef_of, Tag_of, Atomic_of, Specifyings, No_specifiers, Specifier_then, Naming, Type_of, Declaring, Declaring_of, No_parameters, Fixed_of, Variadic_of, Names_of, Parameters, Row, No_more, Parameter_then, Named_of, Grouping, No_group, Group_of, Deriving, Array_of, Function_of, Derivings, No_derivings, Deriving_then, Bound, Unsized_of, Any_size_of, Sized_of, Static_sized_of, Sized_static_of}
 use Rattle.c_parser.specs.declared.kinds.Kind.{Kind}
 use Rattle.c_parser.specs.declared.kinds.Kind.TheVariants.{OpenBrace}
-use Rattle.c_parser.specs.Grammar.{IsFormed, IsBehind, AreBehind, IsInFront, AreInFront, GoOn, IsComma, AreBraced, IsInitial, IsPiece, ArePieces, IsDesignator, AreDesignators, IsAssociated, AreAssociated, has_type, IsSpecifying, AreSpecifying, IsNaming, AreParameters, AreMore, IsDeclaring, IsGrouping, IsDerived, AreDerived, IsBound}
-use Rattle.c_parser.specs.Kinds.{kind_at, level_at, is_prefix, is_size, casts_at, is_dot, is_member, specifies_at}
+use Rattle.c_parser.specs.Grammar.{IsFormed, IsBehind, AreBehind, IsInFront, AreInFront, GoOn, IsComma, AreBraced, IsInitial, IsPiece, ArePieces, IsDesignator, AreDesignators, IsAssociated, AreAssociated, has_type, IsSpecifying, AreSpecifying, IsNaming, AreParameters, AreMore, IsDeclaring, IsGrouping, IsDerived, AreDerived, IsBound, typed_by, hides}
+use Rattle.c_parser.specs.Kinds.{kind_at, level_at, is_prefix, is_size, casts_at, is_dot, is_member, specifies_at, named_by, grouped, behind_pointers, may_name}
 use Rattle.c_parser.specs.Levels.{behinds_level}
 use Rattle.c_parser.proofs.NameLists.{names_formed}
 use Rattle.c_parser.proofs.Types.{qualifiers_formed, pointers_formed}
 use Rattle.c_parser.specs.Reading.{HoldTexts, Holds, HoldsBehind, HoldBehinds, HoldsFront, HoldFronts, HoldsComma, HoldBraces, HoldsInitial, HoldsPiece, HoldPieces, HoldsDesignator, HoldDesignators, HoldsAssociation, HoldAssociations, HoldSpecifying, HoldSpecifyings, HoldsNaming, HoldParameters, HoldRow, HoldsDeclaring, HoldsGrouping, HoldsDeriving, HoldDerivings, HoldsBound}
+use Rattle.c_parser.specs.declared.kinds.Named.{Named}
 
 pub comma_formed : (ks : List Kind) → (t : Option ℕ) → (a b : ℕ) → HoldsComma ks t a b → IsComma ks t
 comma_formed ks None a b h = tt
@@ -156,17 +157,17 @@ mutual
 
   pub formed_naming : (ks : List Kind) → (y : Bool) → (t : Naming) → (a b : ℕ) → HoldsNaming ks y t a b → IsNaming ks y t
   formed_naming ks y (Type_of ss d) a b h =
-      (h.1, formed_specifyings ks false ss a h.0 h.2, formed_declaring ks y d h.0 b h.3, h.4)
+      (h.1, formed_specifyings ks false ss a h.0 h.2, formed_declaring ks (named_by y (typed_by ks false ss)) d h.0 b h.3, h.4)
 
-  pub formed_declaring : (ks : List Kind) → (y : Bool) → (d : Declaring) → (a b : ℕ) → HoldsDeclaring ks y d a b → IsDeclaring ks y d
+  pub formed_declaring : (ks : List Kind) → (y : Named) → (d : Declaring) → (a b : ℕ) → HoldsDeclaring ks y d a b → IsDeclaring ks y d
   formed_declaring ks y (Declaring_of ps g ds) a b h =
-      (pointers_formed ks ps a h.0 h.2, formed_grouping ks y g h.0 h.1 h.3, formed_derivings ks ds h.1 b h.4, h.5)
+      (pointers_formed ks ps a h.0 h.2, formed_grouping ks (behind_pointers y ps) g h.0 h.1 h.3, formed_derivings ks ds h.1 b h.4, h.5)
 
-  pub formed_grouping : (ks : List Kind) → (y : Bool) → (g : Grouping) → (a b : ℕ) → HoldsGrouping ks y g a b → IsGrouping ks y g
+  pub formed_grouping : (ks : List Kind) → (y : Named) → (g : Grouping) → (a b : ℕ) → HoldsGrouping ks y g a b → IsGrouping ks y g
   formed_grouping ks y No_group a b h = tt
-  formed_grouping ks y (Named_of n) a b h = (h.0, ap (λ x. kind_at ks x) h.1 ∙ h.2)
+  formed_grouping ks y (Named_of n) a b h = ap (λ x. may_name y (kind_at ks x)) h.0 ∙ h.1
   formed_grouping ks y (Group_of o d c) a b h =
-      (ap (λ x. kind_at ks x) h.0 ∙ h.1, h.2, formed_declaring ks y d (a + 1) c h.3, h.4)
+      (ap (λ x. kind_at ks x) h.0 ∙ h.1, h.2, formed_declaring ks (grouped y) d (a + 1) c h.3, h.4)
 
   pub formed_deriving : (ks : List Kind) → (d : Deriving) → (a b : ℕ) → HoldsDeriving ks d a b → IsDerived ks d
   formed_deriving ks (Array_of o x c) a b h =
@@ -176,15 +177,15 @@ mutual
 
   pub formed_parameters : (ks : List Kind) → (ps : Parameters) → (a b : ℕ) → HoldParameters ks ps a b → AreParameters ks ps
   formed_parameters ks No_parameters a b h = tt
-  formed_parameters ks (Fixed_of p ps) a b h = (formed_naming ks true p a h.0 h.1, formed_row ks ps h.0 b h.2)
+  formed_parameters ks (Fixed_of p ps) a b h = (formed_naming ks true p a h.0 h.1, formed_row ks (hides ks p) ps h.0 b h.2)
   formed_parameters ks (Names_of n ns) a b h = (ap (λ x. kind_at ks x) h.0 ∙ h.1, names_formed ks ns (a + 1) b h.2)
   formed_parameters ks (Variadic_of p ps o d) a b h =
-      (formed_naming ks true p a h.0 h.1, formed_row ks ps h.0 o h.2, h.3, h.5)
+      (formed_naming ks true p a h.0 h.1, formed_row ks (hides ks p) ps h.0 o h.2, h.3, h.5)
 
-  pub formed_row : (ks : List Kind) → (ps : Row) → (a b : ℕ) → HoldRow ks ps a b → AreMore ks ps
-  formed_row ks No_more a b h = tt
-  formed_row ks (Parameter_then o p ps) a b h =
-      (ap (λ x. kind_at ks x) h.1 ∙ h.2, formed_naming ks true p (a + 1) h.0 h.3, formed_row ks ps h.0 b h.4)
+  pub formed_row : (ks : List Kind) → (z : Bool) → (ps : Row) → (a b : ℕ) → HoldRow ks z ps a b → AreMore ks z ps
+  formed_row ks z No_more a b h = tt
+  formed_row ks z (Parameter_then o p ps) a b h =
+      (ap (λ x. kind_at ks x) h.1 ∙ h.2, formed_naming ks true p (a + 1) h.0 h.3, formed_row ks (hides ks p) ps h.0 b h.4, h.5)
 
   pub formed_derivings : (ks : List Kind) → (ds : Derivings) → (a b : ℕ) → HoldDerivings ks ds a b → AreDerived ks ds
   formed_derivings ks No_derivings a b h = tt

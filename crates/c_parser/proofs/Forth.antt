@@ -7,6 +7,7 @@ use Rattle.c_parser.specs.Reading.{Holds, HoldsBehind, HoldsFront, HoldFronts, H
 use Rattle.c_parser.proofs.Numbers.{spans_forth}
 use Rattle.c_parser.proofs.Spanned.{spanned, spanned_behind, spanned_front, spanned_fronts, spanned_piece, spanned_designator, spanned_designators, spanned_association, spanned_specifyings, spanned_naming, spanned_declaring, spanned_grouping, spanned_deriving, spanned_bound}
 use Rattle.c_parser.proofs.Spans.{spanned_type}
+use Rattle.c_parser.specs.declared.kinds.Named.{Named}
 
 pub tree_forth : (ks : List Kind) → (t : Tree) → (a b : ℕ) → Holds ks t a b → a ≤ b
 tree_forth ks t a b h = spans_forth (spell t) a b (spanned ks t a b h)
@@ -41,10 +42,10 @@ type_forth ks t a b h = spans_forth (spell_type t) a b (spanned_type ks t a b h)
 pub naming_forth : (ks : List Kind) → (y : Bool) → (t : Naming) → (a b : ℕ) → HoldsNaming ks y t a b → a ≤ b
 naming_forth ks y t a b h = spans_forth (spell_type t) a b (spanned_naming ks y t a b h)
 
-pub declaring_forth : (ks : List Kind) → (y : Bool) → (d : Declaring) → (a b : ℕ) → HoldsDeclaring ks y d a b → a ≤ b
+pub declaring_forth : (ks : List Kind) → (y : Named) → (d : Declaring) → (a b : ℕ) → HoldsDeclaring ks y d a b → a ≤ b
 declaring_forth ks y d a b h = spans_forth (spell_declaring d) a b (spanned_declaring ks y d a b h)
 
-pub grouping_forth : (ks : List Kind) → (y : Bool) → (g : Grouping) → (a b : ℕ) → HoldsGrouping ks y g a b → a ≤ b
+pub grouping_forth : (ks : List Kind) → (y : Named) → (g : Grouping) → (a b : ℕ) → HoldsGrouping ks y g a b → a ≤ b
 grouping_forth ks y g a b h = spans_forth (spell_grouping g) a b (spanned_grouping ks y g a b h)
 
 pub deriving_forth : (ks : List Kind) → (d : Deriving) → (a b : ℕ) → HoldsDeriving ks d a b → a ≤ b

@@ -3,14 +3,15 @@ use Rattle.std.proofs.Common.{◌≡◌, ap, sym, ◌∙◌, subst, ℕ, ◌+◌
 use Rattle.tree_data.specs.Trees.{Tree, Name_of, Constant_of, Text_of, Paren_of, Postfix_of, Unary_of, Binary_of, Conditional_of, Assign_of, Of_type, Compound_of, Behind, Operand_of, Index_of, Call_of, Call_with_of, Member_of, Step_of, Behinds, None_behind, Behind_then, Front, Operator_of, Cast_of, Choice_of, Left_of, Fronts, None_before, Front_then, Braces, Braces_of, Initial, Value_of, List_of, Piece, Plain_of, Designated_of, Pieces, No_pieces, Piece_then, Designator, Element_of, Field_of, Designators, No_designators, Designator_then, Generic_of, Offset_of, Association, Typed_of, Default_of, Associations, No_associations, Association_then, Specifying, Word_of, Typedef_of, Tag_of, Atomic_of, Specifyings, No_specifiers, Specifier_then, Naming, Type_of, Declaring, Declaring_of, No_parameters, Fixed_of, Variadic_of, Names_of, Parameters, Row, No_more, Parameter_then, Named_of, Grouping, No_group, Group_of, Deriving, Array_of, Function_of, Derivings, No_derivings, Deriving_then, Bound, Unsized_of, Any_size_of, Sized_of, Static_sized_of, Sized_static_of}
 use Rattle.c_parser.specs.declared.kinds.Kind.{Kind}
 use Rattle.c_parser.specs.declared.kinds.Kind.TheVariants.{Text, OpenBrace}
-use Rattle.c_parser.specs.Grammar.{spell, spell_behind, spell_behinds, spell_front, spell_fronts, IsFormed, IsBehind, AreBehind, IsInFront, AreInFront, GoOn, spell_comma, spell_braces, spell_initial, spell_piece, spell_pieces, spell_designator, spell_designators, IsComma, AreBraced, IsInitial, IsPiece, ArePieces, IsDesignator, AreDesignators, spell_association, spell_associations, IsAssociated, AreAssociated, spell_specifying, spell_specifyings, spell_type, spell_declaring, spell_grouping, spell_deriving, spell_derivings, spell_bound, has_type, IsSpecifying, AreSpecifying, IsNaming, AreParameters, AreMore, spell_parameters, spell_row, IsDeclaring, IsGrouping, IsDerived, AreDerived, IsBound}
-use Rattle.c_parser.specs.Kinds.{kind_at, level_at, is_prefix, is_size, casts_at, is_dot, is_member, specifies_at}
+use Rattle.c_parser.specs.Grammar.{spell, spell_behind, spell_behinds, spell_front, spell_fronts, IsFormed, IsBehind, AreBehind, IsInFront, AreInFront, GoOn, spell_comma, spell_braces, spell_initial, spell_piece, spell_pieces, spell_designator, spell_designators, IsComma, AreBraced, IsInitial, IsPiece, ArePieces, IsDesignator, AreDesignators, spell_association, spell_associations, IsAssociated, AreAssociated, spell_specifying, spell_specifyings, spell_type, spell_declaring, spell_grouping, spell_deriving, spell_derivings, spell_bound, has_type, IsSpecifying, AreSpecifying, IsNaming, AreParameters, AreMore, spell_parameters, spell_row, IsDeclaring, IsGrouping, IsDerived, AreDerived, IsBound, typed_by, hides}
+use Rattle.c_parser.specs.Kinds.{kind_at, level_at, is_prefix, is_size, casts_at, is_dot, is_member, specifies_at, named_by, grouped, behind_pointers, may_name}
 use Rattle.c_parser.specs.Levels.{behinds_level}
 use Rattle.c_parser.specs.Declarators.{spell_pointers}
 use Rattle.c_parser.proofs.Numbers.{Spans, spans_split}
 use Rattle.c_parser.proofs.NameLists.{names_held}
 use Rattle.c_parser.proofs.Types.{qualifiers_held, pointers_held}
 use Rattle.c_parser.specs.Reading.{HoldTexts, Holds, HoldsBehind, HoldBehinds, HoldsFront, HoldFronts, HoldsComma, HoldBraces, HoldsInitial, HoldsPiece, HoldPieces, HoldsDesignator, HoldDesignators, HoldsAssociation, HoldAssociations, HoldQualifiers, HoldSpecifying, HoldSpecifyings, HoldsNaming, HoldParameters, HoldRow, HoldsDeclaring, HoldsGrouping, HoldsDeriving, HoldDerivings, HoldsBound}
+use Rattle.c_parser.specs.declared.kinds.Named.{Named}
 
 pub comma_held : (ks : List Kind) → (t : Option ℕ) → (a b : ℕ) → IsComma ks t → Spans (spell_comma t) a b → HoldsComma ks t a b
 comma_held ks None a b f s = s
@@ -317,9 +318,9 @@ mutual
   pub held_naming : (ks : List Kind) → (y : Bool) → (t : Naming) → (a b : ℕ) → IsNaming ks y t → Spans (spell_type t) a b → HoldsNaming ks y t a b
   held_naming ks y (Type_of xs d) a b f s =
       let r = spans_split (spell_specifyings xs) (spell_declaring d) a b s in
-      (r.at, f.0, held_specifyings ks false xs a r.at f.1 r.front, held_declaring ks y d r.at b f.2 r.back, f.3)
+      (r.at, f.0, held_specifyings ks false xs a r.at f.1 r.front, held_declaring ks (named_by y (typed_by ks false xs)) d r.at b f.2 r.back, f.3)
 
-  pub held_declaring : (ks : List Kind) → (y : Bool) → (d : Declaring) → (a b : ℕ) → IsDeclaring ks y d → Spans (spell_declaring d) a b
+  pub held_declaring : (ks : List Kind) → (y : Named) → (d : Declaring) → (a b : ℕ) → IsDeclaring ks y d → Spans (spell_declaring d) a b
       → HoldsDeclaring ks y d a b
   held_declaring ks y (Declaring_of ps g ds) a b f s =
       let r = spans_split (spell_pointers ps) (spell_grouping g ++ spell_derivings ds) a b s in
@@ -327,21 +328,21 @@ mutual
         r.at,
         q.at,
         pointers_held ks ps a r.at f.0 r.front,
-        held_grouping ks y g r.at q.at f.1 q.front,
+        held_grouping ks (behind_pointers y ps) g r.at q.at f.1 q.front,
         held_derivings ks ds q.at b f.2 q.back,
         f.3,
       )
 
-  pub held_grouping : (ks : List Kind) → (y : Bool) → (g : Grouping) → (a b : ℕ) → IsGrouping ks y g → Spans (spell_grouping g) a b
+  pub held_grouping : (ks : List Kind) → (y : Named) → (g : Grouping) → (a b : ℕ) → IsGrouping ks y g → Spans (spell_grouping g) a b
       → HoldsGrouping ks y g a b
   held_grouping ks y No_group a b f s = s
-  held_grouping ks y (Named_of n) a b f s = (f.0, s.0, ap (λ x. kind_at ks x) (sym s.0) ∙ f.1, s.1)
+  held_grouping ks y (Named_of n) a b f s = (s.0, ap (λ x. may_name y (kind_at ks x)) (sym s.0) ∙ f, s.1)
   held_grouping ks y (Group_of o d c) a b f s =
       let r = spans_split (spell_declaring d) (c ∷ []) (a + 1) b s.1 in (
         s.0,
         ap (λ x. kind_at ks x) (sym s.0) ∙ f.0,
         f.1,
-        subst (λ x. HoldsDeclaring ks y d (a + 1) x) (sym r.back.0) (held_declaring ks y d (a + 1) r.at f.2 r.front),
+        subst (λ x. HoldsDeclaring ks (grouped y) d (a + 1) x) (sym r.back.0) (held_declaring ks (grouped y) d (a + 1) r.at f.2 r.front),
         f.3,
         r.back.1 ∙ ap (λ x. x + 1) (sym r.back.0),
       )
@@ -368,7 +369,7 @@ mutual
   held_parameters ks No_parameters a b f s = s
   held_parameters ks (Fixed_of p ps) a b f s =
       let r = spans_split (spell_type p) (spell_row ps) a b s in
-      (r.at, held_naming ks true p a r.at f.0 r.front, held_row ks ps r.at b f.1 r.back)
+      (r.at, held_naming ks true p a r.at f.0 r.front, held_row ks (hides ks p) ps r.at b f.1 r.back)
   held_parameters ks (Names_of n ns) a b f s =
       (s.0, ap (λ x. kind_at ks x) (sym s.0) ∙ f.0, names_held ks ns (a + 1) b f.1 s.1)
   held_parameters ks (Variadic_of p ps o d) a b f s =
@@ -376,22 +377,23 @@ mutual
       let q = spans_split (spell_row ps) (o ∷ d ∷ []) r.at b r.back in (
         r.at,
         held_naming ks true p a r.at f.0 r.front,
-        subst (λ x. HoldRow ks ps r.at x) (sym q.back.0) (held_row ks ps r.at q.at f.1 q.front),
+        subst (λ x. HoldRow ks (hides ks p) ps r.at x) (sym q.back.0) (held_row ks (hides ks p) ps r.at q.at f.1 q.front),
         f.2,
         q.back.1.0 ∙ ap (λ x. x + 1) (sym q.back.0),
         f.3,
         q.back.1.1 ∙ ap (λ x. x + 1) (sym q.back.1.0),
       )
 
-  pub held_row : (ks : List Kind) → (ps : Row) → (a b : ℕ) → AreMore ks ps → Spans (spell_row ps) a b → HoldRow ks ps a b
-  held_row ks No_more a b f s = s
-  held_row ks (Parameter_then o p ps) a b f s =
+  pub held_row : (ks : List Kind) → (z : Bool) → (ps : Row) → (a b : ℕ) → AreMore ks z ps → Spans (spell_row ps) a b → HoldRow ks z ps a b
+  held_row ks z No_more a b f s = s
+  held_row ks z (Parameter_then o p ps) a b f s =
       let r = spans_split (spell_type p) (spell_row ps) (a + 1) b s.1 in (
         r.at,
         s.0,
         ap (λ x. kind_at ks x) (sym s.0) ∙ f.0,
         held_naming ks true p (a + 1) r.at f.1 r.front,
-        held_row ks ps r.at b f.2 r.back,
+        held_row ks (hides ks p) ps r.at b f.2 r.back,
+        f.3,
       )
 
   pub held_derivings : (ks : List Kind) → (ds : Derivings) → (a b : ℕ) → AreDerived ks ds → Spans (spell_derivings ds) a b → HoldDerivings ks ds a b

@@ -9,14 +9,15 @@ use Rattle.c_parser.specs.declared.answers.Stop.TheVariants as stop
 use Rattle.c_parser.specs.declared.kinds.Kind.{Kind}
 use Rattle.c_parser.specs.declared.kinds.Kind.TheVariants.{TypeWord, Qualifier, Storage, Static, TypeName, Tag, Atomic, CloseParen}
 use Rattle.c_parser.specs.Beginnings.{IsNamed}
-use Rattle.c_parser.specs.Grammar.{has_type, AreSome, MayStand, stores, stores_one}
-use Rattle.c_parser.specs.Kinds.{kind_at, is_word, is_type_word, ends_type, ends_specifiers, specifies_at, atomic_opens, is_storage, stored_amiss}
+use Rattle.c_parser.specs.Grammar.{has_type, AreSome, MayStand, stores, stores_one, typed_by}
+use Rattle.c_parser.specs.Kinds.{kind_at, is_word, is_type_word, ends_type, ends_specifiers, specifies_at, atomic_opens, is_storage, stored_amiss, named_by}
 use Rattle.c_parser.specs.Reading.{HoldSpecifying, HoldSpecifyings, HoldsNaming, HoldsType, HoldsDeclaring, FoundNaming, IsWant}
 use Rattle.c_parser.specs.TypeNames.{NoMore, FoundSpecifying, FoundSpecifiers, FoundDeclaring, FailsSpecifying}
 use Rattle.c_parser.proofs.Marks.{clash}
 use Rattle.c_parser.proofs.Forth.{specifyings_forth}
-use Rattle.c_parser.proofs.TypeReading.{everywhere, specifying_only, specifying_strict, no_specifying, declaring_begins, ends_none}
-use Rattle.c_parser.proofs.Words.{specifies_not, specifies_none, atomic_not, opens_kind, opens_next, opens_both, either, or_left, or_right, amiss_starts, amiss_storage, amiss_unnamed, storage_allowed}
+use Rattle.c_parser.proofs.TypeReading.{everywhere, specifying_only, specifying_strict, no_specifying, declaring_begins, named_moved}
+use Rattle.c_parser.proofs.Words.{specifies_not, specifies_none, atomic_not, opens_kind, opens_next, opens_both, either, or_left, or_right, amiss_storage, amiss_unnamed, storage_allowed}
+use Rattle.c_parser.specs.declared.kinds.Named.{Named}
 
 one_only : (ks : List Kind) → (y : Bool) → (s : Specifying) → (a b : ℕ) → HoldSpecifying ks y s a b
     → (s' : Specifying) → (b' : ℕ) → HoldSpecifying ks y s' a b' → (s ≡ s') × (b ≡ b')
@@ -130,7 +131,7 @@ atomic_none ks y a e o fails (Atomic_of k p t c) b h = fails t c (subst (λ x. H
 
 pub atomic_fails : (ks : List Kind) → (y : Bool) → (a : ℕ) → (e : Stop) → atomic_opens ks a ≡ true
     → ((t : Naming) → (c : ℕ) → HoldsType ks t ((a + 1) + 1) c → kind_at ks c ≡ CloseParen → IsWant e) → FailsSpecifying ks y a e
-atomic_fails ks y a e o fails = (ap ends_specifiers (opens_kind ks a o), atomic_none ks y a e o fails)
+atomic_fails ks y a e o fails = (ap (λ k. ends_specifiers k y) (opens_kind ks a o), atomic_none ks y a e o fails)
 
 -- what the loop keeps
 pub record SpecifiersLeft (ks : List Kind) (y : Bool) (done : List Specifying) (at : ℕ) (ss : Specifyings) (m : ℕ) : Type 0 where
@@ -140,8 +141,9 @@ pub record SpecifiersLeft (ks : List Kind) (y : Bool) (done : List Specifying) (
 
 pub record Specifiers (ks : List Kind) (n : Bool) (start : ℕ) (done : List Specifying) (at : ℕ) (y : Bool) : Type 0 where
   pub grows : (ss : Specifyings) → (b : ℕ) → HoldSpecifyings ks y ss at b → HoldSpecifyings ks false (specifyings done ss) start b
-  pub only : (ss : Specifyings) → (b : ℕ) → HoldSpecifyings ks false ss start b → ends_specifiers (kind_at ks b) ≡ true
+  pub only : (ss : Specifyings) → (b : ℕ) → HoldSpecifyings ks false ss start b → ends_specifiers (kind_at ks b) (typed_by ks false ss) ≡ true
       → SpecifiersLeft ks y done at ss b
+  pub counts : (ss : Specifyings) → typed_by ks y ss ≡ typed_by ks false (specifyings done ss)
   pub fits : (ss : Specifyings) → MayStand ks n ss → MayStand ks n (specifyings done ss)
   pub forth : start ≤ at
   pub inside : at ≤ length ks
@@ -150,6 +152,7 @@ pub specifiers_start : (ks : List Kind) → (n : Bool) → (at : ℕ) → at ≤
 specifiers_start ks n at i = record {
   grows = λ ss b h. h;
   only = λ ss b h e. record { left = ss; is = refl; holds = h };
+  counts = λ ss. refl;
   fits = λ ss f. f;
   forth = omega arith;
   inside = i;
@@ -157,9 +160,9 @@ specifiers_start ks n at i = record {
 
 left_turns : (ks : List Kind) → (y : Bool) → (done : List Specifying) → (at : ℕ) → (s : Specifying) → (k : ℕ) → (z : Bool) → HoldSpecifying ks y s at k
     → z ≡ (has_type ks s || y) → (ss left : Specifyings) → (m : ℕ) → ss ≡ specifyings done left → HoldSpecifyings ks y left at m
-    → ends_specifiers (kind_at ks m) ≡ true → SpecifiersLeft ks z (done ++ s ∷ []) k ss m
+    → ends_specifiers (kind_at ks m) (typed_by ks y left) ≡ true → SpecifiersLeft ks z (done ++ s ∷ []) k ss m
 left_turns ks y done at s k z h f ss No_specifiers m is g e =
-    no_specifying ks y s at k h (ap (λ x. ends_specifiers (kind_at ks x)) (sym g) ∙ e)
+    no_specifying ks y s at k h (ap (λ x. ends_specifiers (kind_at ks x) y) (sym g) ∙ e)
 left_turns ks y done at s k z h f ss (Specifier_then s' left) m is g e =
     let one = one_only ks y s at k h s' g.0 g.1 in
     record {
@@ -190,6 +193,13 @@ may_then ks n s ss one more e = elim (either (stores_one ks s) (stores ks ss) e)
   | inr q ↦ more q
 ]
 
+-- where all of them may end, those that are left may
+left_ends : (ks : List Kind) → (n : Bool) → (start : ℕ) → (done : List Specifying) → (at : ℕ) → (y : Bool) → Specifiers ks n start done at y
+    → (ss left : Specifyings) → (m : ℕ) → ss ≡ specifyings done left → ends_specifiers (kind_at ks m) (typed_by ks false ss) ≡ true
+    → ends_specifiers (kind_at ks m) (typed_by ks y left) ≡ true
+left_ends ks n start done at y loop ss left m is e =
+    ap (λ t. ends_specifiers (kind_at ks m) t) (loop.counts left ∙ ap (λ xs. typed_by ks false xs) (sym is)) ∙ e
+
 specifiers_turn : (ks : List Kind) → (n : Bool) → (start : ℕ) → (done : List Specifying) → (at : ℕ) → (y : Bool) → (s : Specifying) → (m : ℕ) → (z : Bool)
     → Specifiers ks n start done at y → stored_amiss ks at n ≡ false → FoundSpecifying ks y at s m × (z ≡ (has_type ks s || y))
     → Specifiers ks n start (done ++ s ∷ []) m z
@@ -204,7 +214,11 @@ specifiers_turn ks n start done at y s m z loop told found =
           (loop.grows (Specifier_then s ss) b (m, found.0.reads, subst (λ x. HoldSpecifyings ks x ss m b) found.1 g));
       only = λ ss b h e.
           let a = loop.only ss b h e in
-          left_turns ks y done at s m z found.0.reads found.1 ss a.left b a.is a.holds e;
+          left_turns ks y done at s m z found.0.reads found.1 ss a.left b a.is a.holds (left_ends ks n start done at y loop ss a.left b a.is e);
+      counts = λ ss.
+          ap (λ t. typed_by ks t ss) found.1
+          ∙ loop.counts (Specifier_then s ss)
+          ∙ ap (λ xs. typed_by ks false xs) (sym (specifyings_snoc done s ss));
       fits = λ ss f.
           subst
           (λ xs. MayStand ks n xs)
@@ -232,14 +246,20 @@ specifiers_end ks n start done at y loop = record {
   inside = loop.inside;
 }
 
+pub specifiers_told : (ks : List Kind) → (n : Bool) → (start : ℕ) → (done : List Specifying) → (at : ℕ) → (y : Bool) → Specifiers ks n start done at y
+    → y ≡ typed_by ks false (specifyings done No_specifiers)
+specifiers_told ks n start done at y loop = loop.counts No_specifiers
+
 -- a call that reads specifiers has this for all that stand there
 abbrev pub OnlySpecifiers : List Kind → Bool → ℕ → Specifyings → ℕ → Type 0
 OnlySpecifiers ks n a ss m =
-    (ss' : Specifyings) → (m' : ℕ) → HoldSpecifyings ks false ss' a m' → MayStand ks n ss' → ends_specifiers (kind_at ks m') ≡ true → (ss ≡ ss') × (m ≡ m')
+    (ss' : Specifyings) → (m' : ℕ) → HoldSpecifyings ks false ss' a m' → MayStand ks n ss'
+    → ends_specifiers (kind_at ks m') (typed_by ks false ss') ≡ true → (ss ≡ ss') × (m ≡ m')
 
 abbrev pub FailsSpecifiers : List Kind → Bool → ℕ → Stop → Type 0
 FailsSpecifiers ks n a e =
-    (ss : Specifyings) → (m : ℕ) → HoldSpecifyings ks false ss a m → MayStand ks n ss → ends_specifiers (kind_at ks m) ≡ true → IsWant e
+    (ss : Specifyings) → (m : ℕ) → HoldSpecifyings ks false ss a m → MayStand ks n ss → ends_specifiers (kind_at ks m) (typed_by ks false ss) ≡ true
+    → IsWant e
 
 no_more_left : (ks : List Kind) → (y : Bool) → (done : List Specifying) → (at : ℕ) → NoMore ks y at → (ss left : Specifyings) → (m : ℕ)
     → ss ≡ specifyings done left → HoldSpecifyings ks y left at m → (specifyings done No_specifiers ≡ ss) × (at ≡ m)
@@ -253,27 +273,32 @@ specifiers_only ks n start done at y loop none ss m h f e =
     no_more_left ks y done at none ss a.left m a.is a.holds
 
 stop_left : (ks : List Kind) → (y : Bool) → (at : ℕ) → (e : Stop) → FailsSpecifying ks y at e → (left : Specifyings) → (m : ℕ)
-    → HoldSpecifyings ks y left at m → ends_specifiers (kind_at ks m) ≡ true → IsWant e
+    → HoldSpecifyings ks y left at m → ends_specifiers (kind_at ks m) (typed_by ks y left) ≡ true → IsWant e
 stop_left ks y at e fails No_specifiers m h f =
-    absurd (true≢false (sym f ∙ ap (λ x. ends_specifiers (kind_at ks x)) h ∙ fails.0))
+    absurd (true≢false (sym f ∙ ap (λ x. ends_specifiers (kind_at ks x) y) h ∙ fails.0))
 stop_left ks y at e fails (Specifier_then s left) m h f = fails.1 s h.0 h.1
 
 pub specifiers_fail : (ks : List Kind) → (n : Bool) → (start : ℕ) → (done : List Specifying) → (at : ℕ) → (y : Bool) → Specifiers ks n start done at y
     → (e : Stop) → FailsSpecifying ks y at e → FailsSpecifiers ks n start e
 specifiers_fail ks n start done at y loop e fails ss m h g f =
     let a = loop.only ss m h f in
-    stop_left ks y at e fails a.left m a.holds f
+    stop_left ks y at e fails a.left m a.holds (left_ends ks n start done at y loop ss a.left m a.is f)
 
 -- a storage class where none may stand
 stores_through : (ks : List Kind) → (done : List Specifying) → (ss : Specifyings) → stores ks ss ≡ true → stores ks (specifyings done ss) ≡ true
 stores_through ks [] ss h = h
 stores_through ks (s ∷ done) ss h = or_right (stores_one ks s) (stores ks (specifyings done ss)) (stores_through ks done ss h)
 
+ends_unstored : (k : Kind) → (y : Bool) → ends_specifiers k y ≡ true → is_storage k ≡ false
+ends_unstored Storage y h = absurd (true≢false (sym h))
+ends_unstored Static y h = absurd (true≢false (sym h))
+ends_unstored _ y h = refl
+
 amiss_left : (ks : List Kind) → (n y : Bool) → (done : List Specifying) → (at : ℕ) → stored_amiss ks at n ≡ true → (ss left : Specifyings) → (m : ℕ)
-    → ss ≡ specifyings done left → HoldSpecifyings ks y left at m → MayStand ks n ss → ends_specifiers (kind_at ks m) ≡ true → ⊥
+    → ss ≡ specifyings done left → HoldSpecifyings ks y left at m → MayStand ks n ss → ends_specifiers (kind_at ks m) (typed_by ks y left) ≡ true → ⊥
 amiss_left ks n y done at told ss No_specifiers m is h g f =
     true≢false
-    (sym (amiss_starts ks at n told) ∙ ends_none (kind_at ks at) (ap (λ x. ends_specifiers (kind_at ks x)) (sym h) ∙ f))
+    (sym (amiss_storage ks at n told) ∙ ends_unstored (kind_at ks at) y (ap (λ x. ends_specifiers (kind_at ks x) y) (sym h) ∙ f))
 amiss_left ks n y done at told ss (Specifier_then s left) m is h g f =
     let one : stores_one ks s ≡ true = stores_at ks y s at h.0 h.1 ∙ amiss_storage ks at n told in
     let all = stores_through ks done (Specifier_then s left) (or_left (stores_one ks s) (stores ks left) one) in
@@ -283,7 +308,7 @@ pub specifiers_refused : (ks : List Kind) → (n : Bool) → (start : ℕ) → (
     → stored_amiss ks at n ≡ true → (k : ℕ) → FailsSpecifiers ks n start (stop.Syntax k)
 specifiers_refused ks n start done at y loop told k ss m h g f =
     let a = loop.only ss m h f in
-    amiss_left ks n y done at told ss a.left m a.is a.holds g f
+    amiss_left ks n y done at told ss a.left m a.is a.holds g (left_ends ks n start done at y loop ss a.left m a.is f)
 
 -- specifiers and a declarator
 abbrev pub FailsNaming : List Kind → Bool → ℕ → Stop → Type 0
@@ -293,22 +318,23 @@ abbrev NoType : List Kind → Bool → ℕ → Type 0
 NoType ks y a = (t : Naming) → (c : ℕ) → HoldsNaming ks y t a c → ends_type (kind_at ks c) ≡ true → ⊥
 
 pub specifiers_missing : (ks : List Kind) → (y : Bool) → (a : ℕ) → (e : Stop) → FailsSpecifiers ks y a e → FailsNaming ks y a e
-specifiers_missing ks y a e fails (Type_of ss d) c h f = fails ss h.0 h.2 h.4 (declaring_begins ks y d h.0 c h.3 f)
+specifiers_missing ks y a e fails (Type_of ss d) c h f = fails ss h.0 h.2 h.4 (declaring_begins ks y (typed_by ks false ss) d h.0 c h.3 f)
 
 no_type_without : (ks : List Kind) → (y : Bool) → (a m : ℕ) → OnlySpecifiers ks y a No_specifiers m → NoType ks y a
 no_type_without ks y a m only (Type_of ss d) c h f =
-    subst AreSome (sym (only ss h.0 h.2 h.4 (declaring_begins ks y d h.0 c h.3 f)).0) h.1
+    subst AreSome (sym (only ss h.0 h.2 h.4 (declaring_begins ks y (typed_by ks false ss) d h.0 c h.3 f)).0) h.1
 
 pub none_specifying : (ks : List Kind) → (y : Bool) → (a m : ℕ) → (xs : List Specifier) → (length xs == 0) ≡ true
     → OnlySpecifiers ks y a (specifyings (specifiers_of xs) No_specifiers) m → NoType ks y a
 none_specifying ks y a m [] h only = no_type_without ks y a m only
 none_specifying ks y a m (x ∷ xs) h only = λ t c g e. grind (arith, h)
 
-pub declarator_missing : (ks : List Kind) → (y : Bool) → (a : ℕ) → (ss : Specifyings) → (m : ℕ) → OnlySpecifiers ks y a ss m → (e : Stop)
-    → ((d : Declaring) → (c : ℕ) → HoldsDeclaring ks y d m c → ends_type (kind_at ks c) ≡ true → IsWant e) → FailsNaming ks y a e
-declarator_missing ks y a ss m only e fails (Type_of ss' d) c h f =
-    let same = only ss' h.0 h.2 h.4 (declaring_begins ks y d h.0 c h.3 f) in
-    fails d c (subst (λ x. HoldsDeclaring ks y d x c) (sym same.1) h.3) f
+pub declarator_missing : (ks : List Kind) → (y : Bool) → (a : ℕ) → (ss : Specifyings) → (m : ℕ) → OnlySpecifiers ks y a ss m → (n : Named)
+    → n ≡ named_by y (typed_by ks false ss) → (e : Stop)
+    → ((d : Declaring) → (c : ℕ) → HoldsDeclaring ks n d m c → ends_type (kind_at ks c) ≡ true → IsWant e) → FailsNaming ks y a e
+declarator_missing ks y a ss m only n is e fails (Type_of ss' d) c h f =
+    let same = only ss' h.0 h.2 h.4 (declaring_begins ks y (typed_by ks false ss') d h.0 c h.3 f) in
+    fails d c (named_moved ks y n ss ss' m h.0 c d is same.0 same.1 h.3) f
 
 pub some_specifying : (xs : List Specifier) → (length xs == 0) ≡ false → AreSome (specifyings (specifiers_of xs) No_specifiers)
 some_specifying [] h = absurd (true≢false h)
@@ -320,17 +346,22 @@ some_forth ks (Specifier_then s ss) a m i h e =
     omega (arith, specifying_strict ks false s a h.0 h.1, specifyings_forth ks (has_type ks s || false) ss h.0 m h.2, e)
 
 pub naming_found : (ks : List Kind) → (y : Bool) → (a : ℕ) → (ss : Specifyings) → (m : ℕ) → (d : Declaring) → (b : ℕ) → AreSome ss → FoundSpecifiers ks y a ss m
-    → FoundDeclaring ks y m d b → FoundNaming ks y a (Type_of ss d) b
-naming_found ks y a ss m d b some x u =
+    → (n : Named) → n ≡ named_by y (typed_by ks false ss) → FoundDeclaring ks n m d b → FoundNaming ks y a (Type_of ss d) b
+naming_found ks y a ss m d b some x n is u =
     let one : a ≤ m = x.forth in
     let two : m ≤ b = u.forth in
     let not : a ≡ m → ⊥ = some_forth ks ss a m some x.reads in
-    record { reads = (m, some, x.reads, u.reads, x.fits); forth = omega arith; inside = u.inside }
+    record {
+      reads = (m, some, x.reads, subst (λ v. HoldsDeclaring ks v d m b) is u.reads, x.fits);
+      forth = omega arith;
+      inside = u.inside;
+    }
 
 pub name_only : (ks : List Kind) → (y : Bool) → (a : ℕ) → (ss : Specifyings) → (m : ℕ) → (d : Declaring) → (b : ℕ) → OnlySpecifiers ks y a ss m
-    → ((d' : Declaring) → (c : ℕ) → HoldsDeclaring ks y d' m c → ends_type (kind_at ks c) ≡ true → (d ≡ d') × (b ≡ c))
+    → (n : Named) → n ≡ named_by y (typed_by ks false ss)
+    → ((d' : Declaring) → (c : ℕ) → HoldsDeclaring ks n d' m c → ends_type (kind_at ks c) ≡ true → (d ≡ d') × (b ≡ c))
     → (t : Naming) → (c : ℕ) → HoldsNaming ks y t a c → ends_type (kind_at ks c) ≡ true → (Type_of ss d ≡ t) × (b ≡ c)
-name_only ks y a ss m d b one two (Type_of ss' d') c h f =
-    let first = one ss' h.0 h.2 h.4 (declaring_begins ks y d' h.0 c h.3 f) in
-    let more = two d' c (subst (λ x. HoldsDeclaring ks y d' x c) (sym first.1) h.3) f in
+name_only ks y a ss m d b one n is two (Type_of ss' d') c h f =
+    let first = one ss' h.0 h.2 h.4 (declaring_begins ks y (typed_by ks false ss') d' h.0 c h.3 f) in
+    let more = two d' c (named_moved ks y n ss ss' m h.0 c d' is first.0 first.1 h.3) f in
     (ap (λ x. Type_of x d) first.0 ∙ ap (λ x. Type_of ss' x) more.0, more.1)

@@ -5,8 +5,8 @@ use Rattle.tree_data.specs.Trees.{Tree, Name_of, Constant_of, Text_of, Paren_of,
 use Rattle.c_parser.specs.declared.kinds.Kind.{Kind}
 use Rattle.c_parser.specs.declared.kinds.Kind.TheVariants.{Identifier, Constant, Text, TypeName, Tag, Atomic, Storage, Static, Star, OpenParen, CloseParen, OpenBracket, CloseBracket, Generic, OffsetOf, Colon, Comma, End, TypeWord, Qualifier}
 use Rattle.c_parser.specs.Declarators.{AreThere, IsWritten, MayDerive, need_name}
-use Rattle.c_parser.specs.Grammar.{IsBefore, has_type}
-use Rattle.c_parser.specs.Kinds.{kind_at, is_size, starts_type, ends_type, ends_specifiers, opens_parameters, qualifies_at}
+use Rattle.c_parser.specs.Grammar.{IsBefore, has_type, typed_by, hides}
+use Rattle.c_parser.specs.Kinds.{kind_at, is_size, starts_type, ends_type, ends_specifiers, opens_parameters, qualifies_at, is_word, named_by, grouped, behind_pointers}
 use Rattle.c_parser.specs.Reading.{Holds, HoldFronts, HoldQualifiers, Reads, HoldSpecifying, HoldSpecifyings, HoldsNaming, HoldsType, HoldParameters, HoldRow, HoldsDeclaring, HoldsGrouping, HoldsDeriving, HoldDerivings, HoldsBound, HoldNames}
 use Rattle.c_parser.specs.TypeNames.{RowEnd, at_close, at_dots}
 use Rattle.c_parser.proofs.OneReading.{placed_only}
@@ -15,8 +15,9 @@ use Rattle.c_parser.proofs.Marks.{clash, stops_at, is_start, no_type}
 use Rattle.c_parser.proofs.Typed.{Typed, From, later, next}
 use Rattle.c_parser.proofs.Types.{starting, naming_starts, pointers_only, pointers_forth, qualifiers_only, qualifiers_forth}
 use Rattle.c_parser.proofs.Views.{starts, front_starts}
-use Rattle.c_parser.proofs.Words.{Qualifies, by_qualifier, by_lone, qualifies_view, qualifies_starts, specifies_not, atomic_not, static_qualifies_not, or_left}
+use Rattle.c_parser.proofs.Words.{Qualifies, by_qualifier, by_lone, qualifies_view, qualifies_starts, specifies_not, atomic_not, static_qualifies_not, or_left, named_word, grouped_opens_not, name_ends}
 use Rattle.c_parser.proofs.NameLists.{names_only, closes}
+use Rattle.c_parser.specs.declared.kinds.Named.{Named}
 
 -- behind a `*` in front of an operand something begins too
 mutual
@@ -206,22 +207,28 @@ row_ends_by : (ks : List Kind) → (c : ℕ) → RowEnd ks c → ends_type (kind
 row_ends_by ks c (at_close e) = ap ends_type e
 row_ends_by ks c (at_dots e d) = ap ends_type e
 
-pub row_ends : (ks : List Kind) → (ps : Row) → (m c : ℕ) → HoldRow ks ps m c → RowEnd ks c → ends_type (kind_at ks m) ≡ true
-row_ends ks No_more m c h e = ap (λ x. ends_type (kind_at ks x)) (sym h) ∙ row_ends_by ks c e
-row_ends ks (Parameter_then o p ps) m c h e = ap ends_type h.2
+pub row_ends : (ks : List Kind) → (z : Bool) → (ps : Row) → (m c : ℕ) → HoldRow ks z ps m c → RowEnd ks c → ends_type (kind_at ks m) ≡ true
+row_ends ks z No_more m c h e = ap (λ x. ends_type (kind_at ks x)) (sym h) ∙ row_ends_by ks c e
+row_ends ks z (Parameter_then o p ps) m c h e = ap ends_type h.2
 
 row_end_not : {A : Type 0} → (ks : List Kind) → (c : ℕ) → RowEnd ks c → kind_at ks c ≡ Comma → (p : Naming) → (m : ℕ) → HoldsNaming ks true p (c + 1) m → A
 row_end_not ks c (at_close e) k p m h = clash (kind_at ks c) CloseParen Comma e k (λ x. omega (arith, x))
 row_end_not ks c (at_dots e d) k p m h = absurd (true≢false (sym (naming_starts ks true p (c + 1) m h) ∙ ap starts_type d))
 
-pub row_only : (ks : List Kind) → (ps : Row) → (a c : ℕ) → From ks a → HoldRow ks ps a c → RowEnd ks c
-    → (ps' : Row) → (c' : ℕ) → HoldRow ks ps' a c' → RowEnd ks c' → (ps ≡ ps') × (c ≡ c')
-row_only ks No_more a c w h e No_more c' h' e' = (refl, h ∙ sym h')
-row_only ks No_more a c w h e (Parameter_then o p ps) c' h' e' =
+-- a row behind a parameter that is the same
+pub row_moved : (ks : List Kind) → (p p' : Naming) → p ≡ p' → (ps : Row) → (m m' c : ℕ) → m ≡ m' → HoldRow ks (hides ks p') ps m' c
+    → HoldRow ks (hides ks p) ps m c
+row_moved ks p p' e ps m m' c f h =
+    subst (λ x. HoldRow ks (hides ks x) ps m c) (sym e) (subst (λ x. HoldRow ks (hides ks p') ps x c) (sym f) h)
+
+pub row_only : (ks : List Kind) → (z : Bool) → (ps : Row) → (a c : ℕ) → From ks a → HoldRow ks z ps a c → RowEnd ks c
+    → (ps' : Row) → (c' : ℕ) → HoldRow ks z ps' a c' → RowEnd ks c' → (ps ≡ ps') × (c ≡ c')
+row_only ks z No_more a c w h e No_more c' h' e' = (refl, h ∙ sym h')
+row_only ks z No_more a c w h e (Parameter_then o p ps) c' h' e' =
     row_end_not ks a (subst (λ x. RowEnd ks x) h e) h'.2 p h'.0 h'.3
-row_only ks (Parameter_then o p ps) a c w h e No_more c' h' e' =
+row_only ks z (Parameter_then o p ps) a c w h e No_more c' h' e' =
     row_end_not ks a (subst (λ x. RowEnd ks x) h' e') h.2 p h.0 h.3
-row_only ks (Parameter_then o p ps) a c w h e (Parameter_then o' p' ps') c' h' e' =
+row_only ks z (Parameter_then o p ps) a c w h e (Parameter_then o' p' ps') c' h' e' =
     let one =
     w
     (a + 1)
@@ -230,14 +237,15 @@ row_only ks (Parameter_then o p ps) a c w h e (Parameter_then o' p' ps') c' h' e
     p
     h.0
     h.3
-    (row_ends ks ps h.0 c h.4 e)
+    (row_ends ks (hides ks p) ps h.0 c h.4 e)
     p'
     h'.0
     h'.3
-    (row_ends ks ps' h'.0 c' h'.4 e') in
+    (row_ends ks (hides ks p') ps' h'.0 c' h'.4 e') in
     let two =
     row_only
     ks
+    (hides ks p)
     ps
     h.0
     c
@@ -246,7 +254,7 @@ row_only ks (Parameter_then o p ps) a c w h e (Parameter_then o' p' ps') c' h' e
     e
     ps'
     c'
-    (subst (λ x. HoldRow ks ps' x c') (sym one.1) h'.4)
+    (row_moved ks p p' one.0 ps' h.0 h'.0 c' one.1 h'.4)
     e' in (
       ap (λ x. Parameter_then x p ps) (h.1 ∙ sym h'.1)
           ∙ ap (λ x. Parameter_then o' x ps) one.0
@@ -261,7 +269,7 @@ pub data Closing (ks : List Kind) (ps : Parameters) (p : Naming) (q : Row) (n c 
 
 pub data Parametered (ks : List Kind) (ps : Parameters) (a c : ℕ) : Type 0 where
   none_told : ps ≡ No_parameters → c ≡ a → Parametered ks ps a c
-  some_told : (p : Naming) → (q : Row) → (m n : ℕ) → HoldsNaming ks true p a m → HoldRow ks q m n → RowEnd ks n
+  some_told : (p : Naming) → (q : Row) → (m n : ℕ) → HoldsNaming ks true p a m → HoldRow ks (hides ks p) q m n → RowEnd ks n
       → Closing ks ps p q n c → Parametered ks ps a c
   names_told : (ns : List (ℕ × ℕ)) → ps ≡ Names_of a ns → kind_at ks a ≡ Identifier → HoldNames ks ns (a + 1) c → Parametered ks ps a c
 
@@ -312,10 +320,11 @@ told_only ks ps a c w (names_told ns i k h) e ps' c' (names_told ns' i' k' h') e
     let same = names_only ks ns (a + 1) c h (closes ks c e) ns' c' h' (closes ks c' e') in
     (i ∙ ap (λ x. Names_of a x) same.0 ∙ sym i', same.1)
 told_only ks ps a c w (some_told p q m n h g z v) e ps' c' (some_told p' q' m' n' h' g' z' v') e' =
-    let one = w a (omega arith) true p m h (row_ends ks q m n g z) p' m' h' (row_ends ks q' m' n' g' z') in
+    let one = w a (omega arith) true p m h (row_ends ks (hides ks p) q m n g z) p' m' h' (row_ends ks (hides ks p') q' m' n' g' z') in
     let two =
     row_only
     ks
+    (hides ks p)
     q
     m
     n
@@ -324,7 +333,7 @@ told_only ks ps a c w (some_told p q m n h g z v) e ps' c' (some_told p' q' m' n
     z
     q'
     n'
-    (subst (λ x. HoldRow ks q' x n') (sym one.1) g')
+    (row_moved ks p p' one.0 q' m m' n' one.1 g')
     z' in
     closing_only
     ks
@@ -416,28 +425,56 @@ derivings_begin ks No_derivings a b h e = ends_more (kind_at ks a) (ap (λ x. en
 derivings_begin ks (Deriving_then (Array_of o x c) ds) a b h e = ap ends_pointers h.1.1
 derivings_begin ks (Deriving_then (Function_of o ps c) ds) a b h e = ap ends_pointers h.1.1
 
-pub grouping_begins : (ks : List Kind) → (y : Bool) → (g : Grouping) → (ds : Derivings) → (a m b : ℕ) → HoldsGrouping ks y g a m → HoldDerivings ks ds m b
-    → ends_type (kind_at ks b) ≡ true → ends_pointers (kind_at ks a) ≡ true
+-- the same, or a typedef name that stands for a name
+abbrev ends_stars : Kind → Bool
+ends_stars Identifier = true
+ends_stars TypeName = true
+ends_stars OpenParen = true
+ends_stars OpenBracket = true
+ends_stars CloseParen = true
+ends_stars Colon = true
+ends_stars Comma = true
+ends_stars End = true
+ends_stars _ = false
+
+stars_wider : (k : Kind) → ends_pointers k ≡ true → ends_stars k ≡ true
+stars_wider Identifier h = refl
+stars_wider OpenParen h = refl
+stars_wider OpenBracket h = refl
+stars_wider CloseParen h = refl
+stars_wider Colon h = refl
+stars_wider Comma h = refl
+stars_wider End h = refl
+stars_wider _ h = absurd (true≢false (sym h))
+
+word_stars : (k : Kind) → is_word k ≡ true → ends_stars k ≡ true
+word_stars Identifier h = refl
+word_stars TypeName h = refl
+word_stars _ h = absurd (true≢false (sym h))
+
+pub grouping_begins : (ks : List Kind) → (y : Named) → (g : Grouping) → (ds : Derivings) → (a m b : ℕ) → HoldsGrouping ks y g a m → HoldDerivings ks ds m b
+    → ends_type (kind_at ks b) ≡ true → ends_stars (kind_at ks a) ≡ true
 grouping_begins ks y No_group ds a m b h g e =
-    ap (λ x. ends_pointers (kind_at ks x)) (sym h) ∙ derivings_begin ks ds m b g e
-grouping_begins ks y (Named_of n) ds a m b h g e = ap ends_pointers h.2
-grouping_begins ks y (Group_of o d c) ds a m b h g e = ap ends_pointers h.1
+    stars_wider (kind_at ks a) (ap (λ x. ends_pointers (kind_at ks x)) (sym h) ∙ derivings_begin ks ds m b g e)
+grouping_begins ks y (Named_of n) ds a m b h g e = word_stars (kind_at ks a) (named_word y (kind_at ks a) h.1)
+grouping_begins ks y (Group_of o d c) ds a m b h g e = ap ends_stars h.1
 
-pub no_star : (ks : List Kind) → (a : ℕ) → ends_pointers (kind_at ks a) ≡ true → kind_at ks a ≡ Star → ⊥
-no_star ks a h e = true≢false (sym h ∙ ap ends_pointers e)
+pub no_star : (ks : List Kind) → (a : ℕ) → ends_stars (kind_at ks a) ≡ true → kind_at ks a ≡ Star → ⊥
+no_star ks a h e = true≢false (sym h ∙ ap ends_stars e)
 
-no_qualifying : (ks : List Kind) → (a : ℕ) → ends_pointers (kind_at ks a) ≡ true → Qualifies ks a → ⊥
-no_qualifying ks a h (by_qualifier e) = true≢false (sym h ∙ ap ends_pointers e)
-no_qualifying ks a h (by_lone e n) = true≢false (sym h ∙ ap ends_pointers e)
+no_qualifying : (ks : List Kind) → (a : ℕ) → ends_stars (kind_at ks a) ≡ true → Qualifies ks a → ⊥
+no_qualifying ks a h (by_qualifier e) = true≢false (sym h ∙ ap ends_stars e)
+no_qualifying ks a h (by_lone e n) = true≢false (sym h ∙ ap ends_stars e)
 
-pub no_qualifier : (ks : List Kind) → (a : ℕ) → ends_pointers (kind_at ks a) ≡ true → qualifies_at ks a ≡ true → ⊥
+pub no_qualifier : (ks : List Kind) → (a : ℕ) → ends_stars (kind_at ks a) ≡ true → qualifies_at ks a ≡ true → ⊥
 no_qualifier ks a h q = no_qualifying ks a h (qualifies_view ks a q)
 
 -- behind the `(` of a group stands nothing that shows parameters
-pub written_begins : (ks : List Kind) → (y : Bool) → (d : Declaring) → (a b : ℕ) → IsWritten d → HoldsDeclaring ks y d a b
+pub written_begins : (ks : List Kind) → (y : Named) → (d : Declaring) → (a b : ℕ) → IsWritten d → HoldsDeclaring ks (grouped y) d a b
     → opens_parameters (kind_at ks a) ≡ false
 written_begins ks y (Declaring_of (p ∷ ps) g ds) a b i h = ap opens_parameters h.2.2
-written_begins ks y (Declaring_of [] (Named_of n) ds) a b i h = ap opens_parameters (ap (λ x. kind_at ks x) (sym h.2) ∙ h.3.2)
+written_begins ks y (Declaring_of [] (Named_of n) ds) a b i h =
+    ap (λ x. opens_parameters (kind_at ks x)) (sym h.2) ∙ grouped_opens_not y (kind_at ks h.0) h.3.1
 written_begins ks y (Declaring_of [] (Group_of o d c) ds) a b i h = ap opens_parameters (ap (λ x. kind_at ks x) (sym h.2) ∙ h.3.1)
 written_begins ks y (Declaring_of [] No_group (Deriving_then (Array_of o x c) ds)) a b i h =
     ap opens_parameters (ap (λ x. kind_at ks x) (sym (h.3 ∙ h.2)) ∙ h.4.1.1)
@@ -476,22 +513,37 @@ parameters_next ks (Deriving_then (Function_of o ps c) ds) a b h q e k =
     h.1.3
     (λ y. true≢false (sym (q (or_left (are_names ps) (need_name ds) y))))
 
-pub no_name_next : {A : Type 0} → (ks : List Kind) → (ds : Derivings) → (a b : ℕ) → HoldDerivings ks ds a b → ends_type (kind_at ks b) ≡ true
-    → kind_at ks a ≡ Identifier → A
-no_name_next ks No_derivings a b h e k = absurd (true≢false (sym e ∙ ap (λ x. ends_type (kind_at ks x)) h ∙ ap ends_type k))
-no_name_next ks (Deriving_then (Array_of o x c) ds) a b h e k = clash (kind_at ks a) OpenBracket Identifier h.1.1 k (λ y. omega (arith, y))
-no_name_next ks (Deriving_then (Function_of o ps c) ds) a b h e k = clash (kind_at ks a) OpenParen Identifier h.1.1 k (λ y. omega (arith, y))
+word_ends_not : (k : Kind) → is_word k ≡ true → ends_type k ≡ false
+word_ends_not Identifier h = refl
+word_ends_not TypeName h = refl
+word_ends_not _ h = absurd (true≢false (sym h))
 
-group_not : {A : Type 0} → (ks : List Kind) → (y : Bool) → (a : ℕ) → (d : Declaring) → (c : ℕ) → IsWritten d → HoldsDeclaring ks y d (a + 1) c
+pub no_name_next : {A : Type 0} → (ks : List Kind) → (ds : Derivings) → (a b : ℕ) → HoldDerivings ks ds a b → ends_type (kind_at ks b) ≡ true
+    → is_word (kind_at ks a) ≡ true → A
+no_name_next ks No_derivings a b h e k =
+    absurd (true≢false (sym e ∙ ap (λ x. ends_type (kind_at ks x)) h ∙ word_ends_not (kind_at ks a) k))
+no_name_next ks (Deriving_then (Array_of o x c) ds) a b h e k = absurd (true≢false (sym k ∙ ap is_word h.1.1))
+no_name_next ks (Deriving_then (Function_of o ps c) ds) a b h e k = absurd (true≢false (sym k ∙ ap is_word h.1.1))
+
+group_not : {A : Type 0} → (ks : List Kind) → (y : Named) → (a : ℕ) → (d : Declaring) → (c : ℕ) → IsWritten d → HoldsDeclaring ks (grouped y) d (a + 1) c
     → opens_parameters (kind_at ks (a + 1)) ≡ true → A
 group_not ks y a d c i h o = absurd (true≢false (sym o ∙ written_begins ks y d (a + 1) c i h))
 
+-- a name or a group behind pointers that are the same
+pub moved : (ks : List Kind) → (y n : Named) → (ps ps' : List (ℕ × List ℕ)) → (m m' k : ℕ) → (g : Grouping) → n ≡ behind_pointers y ps → ps ≡ ps'
+    → m ≡ m' → HoldsGrouping ks (behind_pointers y ps') g m' k → HoldsGrouping ks n g m k
+moved ks y n ps ps' m m' k g is e f h =
+    subst
+    (λ x. HoldsGrouping ks x g m k)
+    (ap (λ x. behind_pointers y x) (sym e) ∙ sym is)
+    (subst (λ x. HoldsGrouping ks (behind_pointers y ps') g x k) (sym f) h)
+
 mutual
-  pub declaring_only : (ks : List Kind) → (y : Bool) → (d : Declaring) → (a b : ℕ) → From ks a → HoldsDeclaring ks y d a b → ends_type (kind_at ks b) ≡ true
+  pub declaring_only : (ks : List Kind) → (y : Named) → (d : Declaring) → (a b : ℕ) → From ks a → HoldsDeclaring ks y d a b → ends_type (kind_at ks b) ≡ true
       → (d' : Declaring) → (b' : ℕ) → HoldsDeclaring ks y d' a b' → ends_type (kind_at ks b') ≡ true → (d ≡ d') × (b ≡ b')
   declaring_only ks y (Declaring_of ps g ds) a b w h e (Declaring_of ps' g' ds') b' h' e' =
-      let begun = grouping_begins ks y g ds h.0 h.1 b h.3 h.4 e in
-      let begun' = grouping_begins ks y g' ds' h'.0 h'.1 b' h'.3 h'.4 e' in
+      let begun = grouping_begins ks (behind_pointers y ps) g ds h.0 h.1 b h.3 h.4 e in
+      let begun' = grouping_begins ks (behind_pointers y ps') g' ds' h'.0 h'.1 b' h'.3 h'.4 e' in
       let one =
       pointers_only
       ks
@@ -510,7 +562,7 @@ mutual
       let two =
       grouping_only
       ks
-      y
+      (behind_pointers y ps)
       g
       h.0
       h.1
@@ -525,7 +577,7 @@ mutual
       h'.1
       ds'
       b'
-      (subst (λ x. HoldsGrouping ks y g' x h'.1) (sym one.1) h'.3)
+      (moved ks y (behind_pointers y ps) ps ps' h.0 h'.0 h'.1 g' refl one.0 one.1 h'.3)
       h'.4
       h'.5
       e' in
@@ -535,7 +587,7 @@ mutual
       ds
       h.1
       b
-      (later ks h.0 h.1 (grouping_forth ks y g h.0 h.1 h.3) w')
+      (later ks h.0 h.1 (grouping_forth ks (behind_pointers y ps) g h.0 h.1 h.3) w')
       h.4
       e
       ds'
@@ -548,26 +600,26 @@ mutual
         three.1,
       )
 
-  pub grouping_only : (ks : List Kind) → (y : Bool) → (g : Grouping) → (a m : ℕ) → (ds : Derivings) → (b : ℕ) → From ks a → HoldsGrouping ks y g a m
+  pub grouping_only : (ks : List Kind) → (y : Named) → (g : Grouping) → (a m : ℕ) → (ds : Derivings) → (b : ℕ) → From ks a → HoldsGrouping ks y g a m
       → HoldDerivings ks ds m b → MayDerive g ds → ends_type (kind_at ks b) ≡ true
       → (g' : Grouping) → (m' : ℕ) → (ds' : Derivings) → (b' : ℕ) → HoldsGrouping ks y g' a m' → HoldDerivings ks ds' m' b' → MayDerive g' ds'
       → ends_type (kind_at ks b') ≡ true → (g ≡ g') × (m ≡ m')
   grouping_only ks y No_group a m ds b w h i q e No_group m' ds' b' h' i' q' e' = (refl, h ∙ sym h')
   grouping_only ks y No_group a m ds b w h i q e (Named_of n) m' ds' b' h' i' q' e' =
-      no_name_next ks ds a b (subst (λ x. HoldDerivings ks ds x b) h i) e h'.2
+      no_name_next ks ds a b (subst (λ x. HoldDerivings ks ds x b) h i) e (named_word y (kind_at ks a) h'.1)
   grouping_only ks y No_group a m ds b w h i q e (Group_of o d c) m' ds' b' h' i' q' e' =
       group_not ks y a d c h'.2 h'.3 (parameters_next ks ds a b (subst (λ x. HoldDerivings ks ds x b) h i) q e h'.1)
   grouping_only ks y (Named_of n) a m ds b w h i q e No_group m' ds' b' h' i' q' e' =
-      no_name_next ks ds' a b' (subst (λ x. HoldDerivings ks ds' x b') h' i') e' h.2
-  grouping_only ks y (Named_of n) a m ds b w h i q e (Named_of n') m' ds' b' h' i' q' e' = (ap Named_of (h.1 ∙ sym h'.1), h.3 ∙ sym h'.3)
+      no_name_next ks ds' a b' (subst (λ x. HoldDerivings ks ds' x b') h' i') e' (named_word y (kind_at ks a) h.1)
+  grouping_only ks y (Named_of n) a m ds b w h i q e (Named_of n') m' ds' b' h' i' q' e' = (ap Named_of (h.0 ∙ sym h'.0), h.2 ∙ sym h'.2)
   grouping_only ks y (Named_of n) a m ds b w h i q e (Group_of o d c) m' ds' b' h' i' q' e' =
-      clash (kind_at ks a) Identifier OpenParen h.2 h'.1 (λ x. omega (arith, x))
+      absurd (true≢false (sym (named_word y (kind_at ks a) h.1) ∙ ap is_word h'.1))
   grouping_only ks y (Group_of o d c) a m ds b w h i q e No_group m' ds' b' h' i' q' e' =
       group_not ks y a d c h.2 h.3 (parameters_next ks ds' a b' (subst (λ x. HoldDerivings ks ds' x b') h' i') q' e' h.1)
   grouping_only ks y (Group_of o d c) a m ds b w h i q e (Named_of n) m' ds' b' h' i' q' e' =
-      clash (kind_at ks a) OpenParen Identifier h.1 h'.2 (λ x. omega (arith, x))
+      absurd (true≢false (sym (named_word y (kind_at ks a) h'.1) ∙ ap is_word h.1))
   grouping_only ks y (Group_of o d c) a m ds b w h i q e (Group_of o' d' c') m' ds' b' h' i' q' e' =
-      let same = declaring_only ks y d (a + 1) c (next ks a w) h.3 (ap ends_type h.4) d' c' h'.3 (ap ends_type h'.4) in (
+      let same = declaring_only ks (grouped y) d (a + 1) c (next ks a w) h.3 (ap ends_type h.4) d' c' h'.3 (ap ends_type h'.4) in (
         ap (λ x. Group_of x d c) (h.0 ∙ sym h'.0) ∙ ap (λ x. Group_of o' x c) same.0 ∙ ap (λ x. Group_of o' d' x) same.1,
         h.5 ∙ ap (λ x. x + 1) same.1 ∙ sym h'.5,
       )
@@ -624,32 +676,41 @@ specifying_strict ks y (Typedef_of n) a b h = omega (arith, h.3)
 specifying_strict ks y (Tag_of k n) a b h = omega (arith, h.4, h.2)
 specifying_strict ks y (Atomic_of k o t c) a b h = omega (arith, h.6, h.2, type_forth ks t (o + 1) c h.4)
 
-pub ends_none : (k : Kind) → ends_specifiers k ≡ true → starts_type k ≡ false
-ends_none Star h = refl
-ends_none Identifier h = refl
-ends_none OpenParen h = refl
-ends_none OpenBracket h = refl
-ends_none CloseParen h = refl
-ends_none Colon h = refl
-ends_none Comma h = refl
-ends_none End h = refl
-ends_none _ h = absurd (true≢false (sym h))
+-- where specifiers may end and one begins, a typedef name stands behind a type specifier
+ends_starts : (k : Kind) → (y : Bool) → ends_specifiers k y ≡ true → starts_type k ≡ true → (k ≡ TypeName) × (y ≡ true)
+ends_starts TypeName y h s = (refl, h)
+ends_starts Star y h s = absurd (true≢false (sym s))
+ends_starts Identifier y h s = absurd (true≢false (sym s))
+ends_starts OpenParen y h s = absurd (true≢false (sym s))
+ends_starts OpenBracket y h s = absurd (true≢false (sym s))
+ends_starts CloseParen y h s = absurd (true≢false (sym s))
+ends_starts Colon y h s = absurd (true≢false (sym s))
+ends_starts Comma y h s = absurd (true≢false (sym s))
+ends_starts End y h s = absurd (true≢false (sym s))
+ends_starts _ y h s = absurd (true≢false (sym h))
 
 pub no_specifying : {A : Type 0} → (ks : List Kind) → (y : Bool) → (s : Specifying) → (a b : ℕ) → HoldSpecifying ks y s a b
-    → ends_specifiers (kind_at ks a) ≡ true → A
-no_specifying ks y s a b h e = absurd (true≢false (sym (starting ks y s a b h) ∙ ends_none (kind_at ks a) e))
+    → ends_specifiers (kind_at ks a) y ≡ true → A
+no_specifying ks y (Word_of n) a b h e =
+    specifies_not ks a TypeName h.1 (ends_starts (kind_at ks a) y e (starting ks y (Word_of n) a b h)).0 refl refl
+no_specifying ks y (Typedef_of n) a b h e =
+    absurd (true≢false (sym (ends_starts (kind_at ks a) y e (starting ks y (Typedef_of n) a b h)).1 ∙ h.1))
+no_specifying ks y (Tag_of k n) a b h e =
+    clash (kind_at ks a) Tag TypeName h.1 (ends_starts (kind_at ks a) y e (starting ks y (Tag_of k n) a b h)).0 (λ x. omega (arith, x))
+no_specifying ks y (Atomic_of k o t c) a b h e =
+    clash (kind_at ks a) Atomic TypeName h.1 (ends_starts (kind_at ks a) y e (starting ks y (Atomic_of k o t c) a b h)).0 (λ x. omega (arith, x))
 
 after : (ks : List Kind) → (a b : ℕ) → a ≤ b → From ks (a + 1) → From ks (b + 1)
 after ks a b le w = later ks (a + 1) (b + 1) (omega (arith, le)) w
 
 pub specifyings_only : (ks : List Kind) → (y : Bool) → (ss : Specifyings) → (a m : ℕ) → From ks (a + 1) → HoldSpecifyings ks y ss a m
-    → ends_specifiers (kind_at ks m) ≡ true → (ss' : Specifyings) → (m' : ℕ) → HoldSpecifyings ks y ss' a m'
-    → ends_specifiers (kind_at ks m') ≡ true → (ss ≡ ss') × (m ≡ m')
+    → ends_specifiers (kind_at ks m) (typed_by ks y ss) ≡ true → (ss' : Specifyings) → (m' : ℕ) → HoldSpecifyings ks y ss' a m'
+    → ends_specifiers (kind_at ks m') (typed_by ks y ss') ≡ true → (ss ≡ ss') × (m ≡ m')
 specifyings_only ks y No_specifiers a m w h e No_specifiers m' h' e' = (refl, h ∙ sym h')
 specifyings_only ks y No_specifiers a m w h e (Specifier_then s ss) m' h' e' =
-    no_specifying ks y s a h'.0 h'.1 (ap (λ x. ends_specifiers (kind_at ks x)) (sym h) ∙ e)
+    no_specifying ks y s a h'.0 h'.1 (ap (λ x. ends_specifiers (kind_at ks x) y) (sym h) ∙ e)
 specifyings_only ks y (Specifier_then s ss) a m w h e No_specifiers m' h' e' =
-    no_specifying ks y s a h.0 h.1 (ap (λ x. ends_specifiers (kind_at ks x)) (sym h') ∙ e')
+    no_specifying ks y s a h.0 h.1 (ap (λ x. ends_specifiers (kind_at ks x) y) (sym h') ∙ e')
 specifyings_only ks y (Specifier_then s ss) a m w h e (Specifier_then s' ss') m' h' e' =
     let one = specifying_only ks y s a h.0 w h.1 s' h'.0 h'.1 in
     let forth = specifying_strict ks y s a h.0 h.1 in
@@ -669,27 +730,32 @@ specifyings_only ks y (Specifier_then s ss) a m w h e (Specifier_then s' ss') m'
     (λ x. HoldSpecifyings ks (has_type ks x || y) ss' h.0 m')
     (sym one.0)
     (subst (λ x. HoldSpecifyings ks (has_type ks s' || y) ss' x m') (sym one.1) h'.2))
-    e' in
+    (subst (λ x. ends_specifiers (kind_at ks m') (typed_by ks (has_type ks x || y) ss') ≡ true) (sym one.0) e') in
     (ap (λ x. Specifier_then x ss) one.0 ∙ ap (λ xs. Specifier_then s' xs) more.0, more.1)
 
 -- the whole name
-ends_wider : (k : Kind) → ends_pointers k ≡ true → ends_specifiers k ≡ true
-ends_wider Identifier h = refl
-ends_wider OpenParen h = refl
-ends_wider OpenBracket h = refl
-ends_wider CloseParen h = refl
-ends_wider Colon h = refl
-ends_wider Comma h = refl
-ends_wider End h = refl
-ends_wider _ h = absurd (true≢false (sym h))
+ends_wider : (k : Kind) → (t : Bool) → ends_pointers k ≡ true → ends_specifiers k t ≡ true
+ends_wider Identifier t h = refl
+ends_wider OpenParen t h = refl
+ends_wider OpenBracket t h = refl
+ends_wider CloseParen t h = refl
+ends_wider Colon t h = refl
+ends_wider Comma t h = refl
+ends_wider End t h = refl
+ends_wider _ t h = absurd (true≢false (sym h))
 
-pub declaring_begins : (ks : List Kind) → (y : Bool) → (d : Declaring) → (a b : ℕ) → HoldsDeclaring ks y d a b → ends_type (kind_at ks b) ≡ true
-    → ends_specifiers (kind_at ks a) ≡ true
-declaring_begins ks y (Declaring_of [] g ds) a b h e =
-    ends_wider
-    (kind_at ks a)
-    (ap (λ x. ends_pointers (kind_at ks x)) (sym h.2) ∙ grouping_begins ks y g ds h.0 h.1 b h.3 h.4 e)
-declaring_begins ks y (Declaring_of (p ∷ ps) g ds) a b h e = ap ends_specifiers h.2.2
+grouping_next : (ks : List Kind) → (y t : Bool) → (g : Grouping) → (ds : Derivings) → (a m b : ℕ) → HoldsGrouping ks (named_by y t) g a m
+    → HoldDerivings ks ds m b → ends_type (kind_at ks b) ≡ true → ends_specifiers (kind_at ks a) t ≡ true
+grouping_next ks y t No_group ds a m b h g e =
+    ends_wider (kind_at ks a) t (ap (λ x. ends_pointers (kind_at ks x)) (sym h) ∙ derivings_begin ks ds m b g e)
+grouping_next ks y t (Named_of n) ds a m b h g e = name_ends y t (kind_at ks a) h.1
+grouping_next ks y t (Group_of o d c) ds a m b h g e = ap (λ k. ends_specifiers k t) h.1
+
+pub declaring_begins : (ks : List Kind) → (y t : Bool) → (d : Declaring) → (a b : ℕ) → HoldsDeclaring ks (named_by y t) d a b
+    → ends_type (kind_at ks b) ≡ true → ends_specifiers (kind_at ks a) t ≡ true
+declaring_begins ks y t (Declaring_of [] g ds) a b h e =
+    ap (λ x. ends_specifiers (kind_at ks x) t) (sym h.2) ∙ grouping_next ks y t g ds h.0 h.1 b h.3 h.4 e
+declaring_begins ks y t (Declaring_of (p ∷ ps) g ds) a b h e = ap (λ k. ends_specifiers k t) h.2.2
 
 outside : (ks : List Kind) → (p : ℕ) → length ks ≤ p → kind_at ks p ≡ End
 outside [] p h = refl
@@ -701,13 +767,22 @@ some_strict : (ks : List Kind) → (y : Bool) → (s : Specifying) → (ss : Spe
 some_strict ks y s ss a m h =
     omega (arith, specifying_strict ks y s a h.0 h.1, specifyings_forth ks (has_type ks s || y) ss h.0 m h.2)
 
-typed_by : (ks : List Kind) → (n p : ℕ) → length ks ≤ p + n → Typed ks p
-typed_by ks zero p le y t c h e t' c' h' e' =
+-- a declarator behind specifiers that are the same
+pub named_moved : (ks : List Kind) → (y : Bool) → (n : Named) → (ss ss' : Specifyings) → (m m' c : ℕ) → (d : Declaring)
+    → n ≡ named_by y (typed_by ks false ss) → ss ≡ ss' → m ≡ m' → HoldsDeclaring ks (named_by y (typed_by ks false ss')) d m' c → HoldsDeclaring ks n d m c
+named_moved ks y n ss ss' m m' c d is e f h =
+    subst
+    (λ x. HoldsDeclaring ks x d m c)
+    (ap (λ x. named_by y (typed_by ks false x)) (sym e) ∙ sym is)
+    (subst (λ x. HoldsDeclaring ks (named_by y (typed_by ks false ss')) d x c) (sym f) h)
+
+from_end : (ks : List Kind) → (n p : ℕ) → length ks ≤ p + n → Typed ks p
+from_end ks zero p le y t c h e t' c' h' e' =
     let end : length ks ≤ p = omega arith in
     absurd (true≢false (sym (naming_starts ks y t p c h) ∙ ap starts_type (outside ks p end)))
-typed_by ks (suc n) p le y (Type_of No_specifiers d) c h e t' c' h' e' = absurd h.1
-typed_by ks (suc n) p le y (Type_of (Specifier_then s ss) d) c h e (Type_of ss' d') c' h' e' =
-    let w : From ks (p + 1) = λ q more. typed_by ks n q (omega (arith, le, more)) in
+from_end ks (suc n) p le y (Type_of No_specifiers d) c h e t' c' h' e' = absurd h.1
+from_end ks (suc n) p le y (Type_of (Specifier_then s ss) d) c h e (Type_of ss' d') c' h' e' =
+    let w : From ks (p + 1) = λ q more. from_end ks n q (omega (arith, le, more)) in
     let one =
     specifyings_only
     ks
@@ -717,15 +792,15 @@ typed_by ks (suc n) p le y (Type_of (Specifier_then s ss) d) c h e (Type_of ss' 
     h.0
     w
     h.2
-    (declaring_begins ks y d h.0 c h.3 e)
+    (declaring_begins ks y (typed_by ks false (Specifier_then s ss)) d h.0 c h.3 e)
     ss'
     h'.0
     h'.2
-    (declaring_begins ks y d' h'.0 c' h'.3 e') in
+    (declaring_begins ks y (typed_by ks false ss') d' h'.0 c' h'.3 e') in
     let two =
     declaring_only
     ks
-    y
+    (named_by y (typed_by ks false (Specifier_then s ss)))
     d
     h.0
     c
@@ -734,12 +809,12 @@ typed_by ks (suc n) p le y (Type_of (Specifier_then s ss) d) c h e (Type_of ss' 
     e
     d'
     c'
-    (subst (λ x. HoldsDeclaring ks y d' x c') (sym one.1) h'.3)
+    (named_moved ks y (named_by y (typed_by ks false (Specifier_then s ss))) (Specifier_then s ss) ss' h.0 h'.0 c' d' refl one.0 one.1 h'.3)
     e' in
     (ap (λ x. Type_of x d) one.0 ∙ ap (λ x. Type_of ss' x) two.0, two.1)
 
 pub typed_at : (ks : List Kind) → (p : ℕ) → Typed ks p
-typed_at ks p = typed_by ks (length ks) p (omega arith)
+typed_at ks p = from_end ks (length ks) p (omega arith)
 
 pub everywhere : (ks : List Kind) → (a : ℕ) → From ks a
 everywhere ks a p le = typed_at ks p

@@ -1,8 +1,10 @@
 -- Words among specifiers and qualifiers, told apart by their tokens.
-use Rattle.std.proofs.Common.{◌≡◌, refl, ap, sym, ◌∙◌, ℕ, zero, suc, ◌+◌, ◌<◌, List, [], ◌∷◌, length, arith, ◌⊎◌, inl, inr, Bool, true, false, true≢false, ◌&&◌, ◌||◌, not}
+use Rattle.std.proofs.Common.{◌≡◌, refl, ap, sym, ◌∙◌, ℕ, zero, suc, ◌+◌, ◌<◌, List, [], ◌∷◌, length, arith, ◌⊎◌, inl, inr, Bool, true, false, true≢false, ◌&&◌, ◌||◌, not, map}
 use Rattle.c_parser.specs.declared.kinds.Kind.{Kind}
-use Rattle.c_parser.specs.declared.kinds.Kind.TheVariants.{Identifier, TypeWord, Qualifier, Storage, Static, OpenParen, Atomic, End}
-use Rattle.c_parser.specs.Kinds.{kind_at, is_specifying, is_qualifier, is_atomic, is_opening, starts_type, atomic_at, specifies_at, qualifies_at, atomic_opens, is_identifier, names_at, is_storage, stored_amiss}
+use Rattle.c_parser.specs.declared.kinds.Kind.TheVariants.{Identifier, TypeWord, Qualifier, Storage, Static, OpenParen, Atomic, End, TypeName}
+use Rattle.c_parser.specs.Kinds.{kind_at, is_specifying, is_qualifier, is_atomic, is_opening, starts_type, atomic_at, specifies_at, qualifies_at, atomic_opens, is_identifier, is_storage, stored_amiss, is_word, names_at, may_name, named_by, grouped, behind_pointers, ends_specifiers, opens_parameters}
+use Rattle.c_parser.specs.declared.kinds.Named.{Named}
+use Rattle.c_parser.specs.declared.kinds.Named.TheVariants.{Never, Plainly, Freely}
 
 pub either : (p q : Bool) → (p || q) ≡ true → (p ≡ true) ⊎ (q ≡ true)
 either true q h = inl refl
@@ -206,15 +208,6 @@ test_inside f n (k ∷ ks) zero h = omega arith
 test_inside f n (k ∷ ks) (suc a) h = omega (arith, test_inside f n ks a h)
 
 -- a storage class where none may stand
-storage_starts : (k : Kind) → is_storage k ≡ true → starts_type k ≡ true
-storage_starts Storage h = refl
-storage_starts Static h = refl
-storage_starts _ h = absurd (true≢false (sym h))
-
-pub amiss_starts : (ks : List Kind) → (a : ℕ) → (n : Bool) → stored_amiss ks a n ≡ true → starts_type (kind_at ks a) ≡ true
-unfolding stored_amiss
-amiss_starts ks a n h = storage_starts (kind_at ks a) (right_of (not n) (is_storage (kind_at ks a)) h)
-
 pub amiss_storage : (ks : List Kind) → (a : ℕ) → (n : Bool) → stored_amiss ks a n ≡ true → is_storage (kind_at ks a) ≡ true
 unfolding stored_amiss
 amiss_storage ks a n h = right_of (not n) (is_storage (kind_at ks a)) h
@@ -241,18 +234,49 @@ unfolding stored_amiss
 storage_allowed ks a n h e = allowed_by n (is_storage (kind_at ks a)) h e
 
 -- the name of a declarator
-is_word_identifier : (k : Kind) → is_identifier k ≡ true → k ≡ Identifier
-is_word_identifier Identifier h = refl
-is_word_identifier _ h = absurd (true≢false (sym h))
+word_identifier : (k : Kind) → is_identifier k ≡ true → is_word k ≡ true
+word_identifier Identifier h = refl
+word_identifier _ h = absurd (true≢false (sym h))
 
-pub name_may_stand : (ks : List Kind) → (a : ℕ) → (y : Bool) → names_at ks a y ≡ true → y ≡ true
-unfolding names_at
-name_may_stand ks a y h = left_of y (is_identifier (kind_at ks a)) h
+pub named_word : (n : Named) → (k : Kind) → may_name n k ≡ true → is_word k ≡ true
+named_word Never k h = absurd (true≢false (sym h))
+named_word Plainly k h = word_identifier k h
+named_word Freely k h = h
 
-pub name_stands : (ks : List Kind) → (a : ℕ) → (y : Bool) → names_at ks a y ≡ true → kind_at ks a ≡ Identifier
-unfolding names_at
-name_stands ks a y h = is_word_identifier (kind_at ks a) (right_of y (is_identifier (kind_at ks a)) h)
+-- behind a `(` no typedef name stands for a name
+word_opens : (k : Kind) → is_identifier k ≡ true → opens_parameters k ≡ false
+word_opens Identifier h = refl
+word_opens _ h = absurd (true≢false (sym h))
 
-pub name_stands_not : (ks : List Kind) → (a : ℕ) → (y : Bool) → names_at ks a y ≡ false → y ≡ true → kind_at ks a ≡ Identifier → ⊥
+pub grouped_opens_not : (n : Named) → (k : Kind) → may_name (grouped n) k ≡ true → opens_parameters k ≡ false
+grouped_opens_not Never k h = absurd (true≢false (sym h))
+grouped_opens_not Plainly k h = word_opens k h
+grouped_opens_not Freely k h = word_opens k h
+
+-- specifiers end in front of a name
+word_ends : (k : Kind) → is_word k ≡ true → ends_specifiers k true ≡ true
+word_ends Identifier h = refl
+word_ends TypeName h = refl
+word_ends _ h = absurd (true≢false (sym h))
+
+plain_ends : (k : Kind) → is_identifier k ≡ true → ends_specifiers k false ≡ true
+plain_ends Identifier h = refl
+plain_ends _ h = absurd (true≢false (sym h))
+
+pub name_ends : (y t : Bool) → (k : Kind) → may_name (named_by y t) k ≡ true → ends_specifiers k t ≡ true
+name_ends false t k h = absurd (true≢false (sym h))
+name_ends true true k h = word_ends k h
+name_ends true false k h = plain_ends k h
+
+pub name_stands : (ks : List Kind) → (a : ℕ) → (y : Named) → names_at ks a y ≡ true → may_name y (kind_at ks a) ≡ true
 unfolding names_at
-name_stands_not ks a y h e k = true≢false (sym (both_true y (is_identifier (kind_at ks a)) e (ap is_identifier k)) ∙ h)
+name_stands ks a y h = h
+
+pub name_stands_not : (ks : List Kind) → (a : ℕ) → (y : Named) → names_at ks a y ≡ false → may_name y (kind_at ks a) ≡ true → ⊥
+unfolding names_at
+name_stands_not ks a y h e = true≢false (sym e ∙ h)
+
+-- which name may stand, as the code finds it
+pub behind_mapped : {A B : Type 0} → (f : A → B) → (n : Named) → (xs : List A) → behind_pointers n xs ≡ behind_pointers n (map f xs)
+behind_mapped f n [] = refl
+behind_mapped f n (x ∷ xs) = refl

@@ -1,5 +1,5 @@
 -- Parts of declarators that hold no expression (ISO C11 6.7.6, 6.7.7): qualifiers, pointers and lists of identifiers.
-use Rattle.std.specs.Prelude.{◌≡◌, ℕ, List, [], ◌∷◌, ◌++◌, Bool, true, false, ◌||◌}
+use Rattle.std.specs.Prelude.{◌≡◌, ℕ, List, [], ◌∷◌, ◌++◌, Bool, true, false, ◌||◌, Option, Some, None, is_some}
 use Rattle.tree_data.specs.Trees.{Declaring, Declaring_of, Grouping, No_group, Named_of, Group_of, Derivings, No_derivings, Deriving_then, needs_name}
 use Rattle.c_parser.specs.declared.kinds.Kind.{Kind}
 use Rattle.c_parser.specs.declared.kinds.Kind.TheVariants.{Star, Comma, Identifier}
@@ -33,15 +33,15 @@ abbrev pub AreThere : List ℕ → Type 0
 AreThere [] = ⊥
 AreThere (n ∷ ns) = Unit {0}
 
--- a name is declared
+-- the name that is declared
 abbrev mutual
-  pub names : Declaring → Bool
-  names (Declaring_of ps g ds) = names_one g
+  pub name_of : Declaring → Option ℕ
+  name_of (Declaring_of ps g ds) = name_in g
 
-  pub names_one : Grouping → Bool
-  names_one No_group = false
-  names_one (Named_of n) = true
-  names_one (Group_of o d c) = names d
+  pub name_in : Grouping → Option ℕ
+  name_in No_group = None
+  name_in (Named_of n) = Some n
+  name_in (Group_of o d c) = name_of d
 
 -- some of these stand behind a name alone
 abbrev pub need_name : Derivings → Bool
@@ -51,7 +51,7 @@ need_name (Deriving_then d ds) = needs_name d || need_name ds
 -- 6.7.6 direct-declarator : direct-declarator [ type-qualifier-list opt * ] | direct-declarator ( identifier-list )
 -- 6.7.7 direct-abstract-declarator : direct-abstract-declarator opt [ * ]
 abbrev pub MayDerive : Grouping → Derivings → Type 0
-MayDerive g ds = need_name ds ≡ true → names_one g ≡ true
+MayDerive g ds = need_name ds ≡ true → is_some (name_in g) ≡ true
 
 -- something stands in the declarator
 abbrev pub IsWritten : Declaring → Type 0

@@ -5,10 +5,11 @@ use Rattle.tree_data.specs.Trees.{Tree, Name_of, Constant_of, Text_of, Paren_of,
 use Rattle.c_parser.specs.declared.answers.ParseError.{ParseError}
 use Rattle.c_parser.specs.declared.answers.ParseError.TheVariants.{Syntax, TooDeep, NoMemory}
 use Rattle.c_parser.specs.declared.kinds.Kind.{Kind}
+use Rattle.c_parser.specs.declared.kinds.Named.{Named}
 use Rattle.c_parser.specs.declared.kinds.Kind.TheVariants.{Identifier, Constant, Text, OpenParen, CloseParen, OpenBracket, CloseBracket, OpenBrace, CloseBrace, Step, Question, Colon, Comma, Generic, OffsetOf, Default, Ellipsis, TypeName, Tag, Star, Atomic, Static}
 use Rattle.c_parser.specs.Brackets.{too_deep}
-use Rattle.c_parser.specs.Kinds.{kind_at, level_at, is_prefix, casts_at, is_size, is_word, is_equals, is_dot, is_member, is_type_word, is_storage, specifies_at}
-use Rattle.c_parser.specs.Declarators.{spell_pointers, spell_names, AreQualifiers, AreThere, ArePointers, AreNames, IsWritten, MayDerive}
+use Rattle.c_parser.specs.Kinds.{kind_at, level_at, is_prefix, casts_at, is_size, is_word, is_equals, is_dot, is_member, is_type_word, is_storage, specifies_at, may_name, named_by, grouped, behind_pointers, hides_one}
+use Rattle.c_parser.specs.Declarators.{spell_pointers, spell_names, AreQualifiers, AreThere, ArePointers, AreNames, IsWritten, MayDerive, name_of}
 use Rattle.c_parser.specs.Levels.{expression, assignment_expression, conditional_expression, logical_OR_expression, unary_expression, postfix_expression, primary_expression, IsBinary, behinds_level, rank}
 
 -- of a comma that may be left out
@@ -196,6 +197,18 @@ stores kinds (Specifier_then s ss) = stores_one kinds s || stores kinds ss
 -- they stand where a declaration has them, as a parameter does (6.7.6.3), and in no type's name (6.7.7)
 abbrev pub MayStand : List Kind → Bool → Specifyings → Type 0
 MayStand kinds named ss = stores kinds ss ≡ true → named ≡ true
+
+-- a type specifier stood before, or is among these
+abbrev pub typed_by : List Kind → Bool → Specifyings → Bool
+typed_by kinds typed No_specifiers = typed
+typed_by kinds typed (Specifier_then s ss) = typed_by kinds (has_type kinds s || typed) ss
+
+-- the name that stands in specifiers and a declarator, and whether it hides a typedef name
+abbrev pub name_by : Naming → Option ℕ
+name_by (Type_of ss d) = name_of d
+
+abbrev pub hides : List Kind → Naming → Bool
+hides kinds t = hides_one kinds (name_by t)
 
 abbrev pub AreSome : Specifyings → Type 0
 AreSome No_specifiers = ⊥
@@ -418,19 +431,24 @@ abbrev mutual
   -- 6.7.6 parameter-declaration : declaration-specifiers declarator | declaration-specifiers abstract-declarator opt, so far without
   -- `_Alignas`; `named` says whether a name may be declared
   pub IsNaming : List Kind → Bool → Naming → Type 0
-  IsNaming kinds named (Type_of ss d) = AreSome ss × AreSpecifying kinds false ss × IsDeclaring kinds named d × MayStand kinds named ss
+  IsNaming kinds named (Type_of ss d) =
+      AreSome ss
+      × AreSpecifying kinds false ss
+      × IsDeclaring kinds (named_by named (typed_by kinds false ss)) d
+      × MayStand kinds named ss
 
   -- 6.7.7 abstract-declarator : pointer | pointer opt direct-abstract-declarator, each part left out or there
-  pub IsDeclaring : List Kind → Bool → Declaring → Type 0
-  IsDeclaring kinds named (Declaring_of ps g ds) = ArePointers kinds ps × IsGrouping kinds named g × AreDerived kinds ds × MayDerive g ds
+  pub IsDeclaring : List Kind → Named → Declaring → Type 0
+  IsDeclaring kinds named (Declaring_of ps g ds) =
+      ArePointers kinds ps × IsGrouping kinds (behind_pointers named ps) g × AreDerived kinds ds × MayDerive g ds
 
   -- 6.7.7 direct-abstract-declarator : ( abstract-declarator ), in which something stands
-  pub IsGrouping : List Kind → Bool → Grouping → Type 0
+  pub IsGrouping : List Kind → Named → Grouping → Type 0
   IsGrouping kinds named No_group = Unit {0}
-  -- 6.7.6 direct-declarator : identifier | ( declarator ), so far an identifier that is no typedef name
-  IsGrouping kinds named (Named_of n) = (named ≡ true) × (kind_at kinds n ≡ Identifier)
+  -- 6.7.6 direct-declarator : identifier | ( declarator )
+  IsGrouping kinds named (Named_of n) = may_name named (kind_at kinds n) ≡ true
   IsGrouping kinds named (Group_of o d c) =
-      (kind_at kinds o ≡ OpenParen) × IsWritten d × IsDeclaring kinds named d × (kind_at kinds c ≡ CloseParen)
+      (kind_at kinds o ≡ OpenParen) × IsWritten d × IsDeclaring kinds (grouped named) d × (kind_at kinds c ≡ CloseParen)
 
   pub IsDerived : List Kind → Deriving → Type 0
   -- 6.7.7 direct-abstract-declarator opt [ .. ]
@@ -443,16 +461,18 @@ abbrev mutual
   -- 6.7.6 parameter-type-list : parameter-list | parameter-list , ...
   pub AreParameters : List Kind → Parameters → Type 0
   AreParameters kinds No_parameters = Unit {0}
-  AreParameters kinds (Fixed_of p ps) = IsNaming kinds true p × AreMore kinds ps
+  AreParameters kinds (Fixed_of p ps) = IsNaming kinds true p × AreMore kinds (hides kinds p) ps
   AreParameters kinds (Variadic_of p ps m d) =
-      IsNaming kinds true p × AreMore kinds ps × (kind_at kinds m ≡ Comma) × (kind_at kinds d ≡ Ellipsis)
+      IsNaming kinds true p × AreMore kinds (hides kinds p) ps × (kind_at kinds m ≡ Comma) × (kind_at kinds d ≡ Ellipsis)
   -- 6.7.6 direct-declarator ( identifier-list ), whose identifiers are no typedef names; `MayDerive` has it behind a name alone
   AreParameters kinds (Names_of n ns) = (kind_at kinds n ≡ Identifier) × AreNames kinds ns
 
-  -- 6.7.6 parameter-list : parameter-declaration | parameter-list , parameter-declaration
-  pub AreMore : List Kind → Row → Type 0
-  AreMore kinds No_more = Unit {0}
-  AreMore kinds (Parameter_then o p ps) = (kind_at kinds o ≡ Comma) × IsNaming kinds true p × AreMore kinds ps
+  -- 6.7.6 parameter-list : parameter-declaration | parameter-list , parameter-declaration, so far with no parameter behind one
+  -- whose name hides a typedef name, as `hidden` says of the one in front
+  pub AreMore : List Kind → Bool → Row → Type 0
+  AreMore kinds hidden No_more = Unit {0}
+  AreMore kinds hidden (Parameter_then o p ps) =
+      (kind_at kinds o ≡ Comma) × IsNaming kinds true p × AreMore kinds (hides kinds p) ps × (hidden ≡ false)
 
   pub AreDerived : List Kind → Derivings → Type 0
   AreDerived kinds No_derivings = Unit {0}

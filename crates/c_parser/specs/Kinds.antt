@@ -1,6 +1,8 @@
 -- The kinds of tokens by their numbers, and what those of operators begin or go on with (ISO C11 6.5).
-use Rattle.std.specs.Prelude.{ℕ, ◌+◌, ◌-◌, ◌<◌, ◌&&◌, ◌||◌, not, List, length, slice_index_or, Bool, true, false}
+use Rattle.std.specs.Prelude.{ℕ, ◌+◌, ◌-◌, ◌<◌, ◌&&◌, ◌||◌, not, Option, Some, None, List, [], ◌∷◌, length, slice_index_or, Bool, true, false}
 use Rattle.c_parser.specs.declared.kinds.Kind.{Kind}
+use Rattle.c_parser.specs.declared.kinds.Named.{Named}
+use Rattle.c_parser.specs.declared.kinds.Named.TheVariants.{Never, Plainly, Freely}
 use Rattle.c_parser.specs.declared.kinds.Kind.TheVariants.{Equals, Dot, Identifier, TypeName, OpenParen, CloseParen, OpenBracket, CloseBracket, Member, Step, SizeOf, AlignOf, TypeWord, Qualifier, Tag, Complement, Question, Assignment, Comma, Or, And, Bar, Caret, Ampersand, Equality, Relation, Shift, Sign, Star, Quotient, Colon, Atomic, Storage, Static, End}
 
 -- the level of precedence at which an expression goes on with such a token behind it, 0 where it doesn't: 1 for `,`,
@@ -127,17 +129,18 @@ ends_type Comma = true
 ends_type End = true
 ends_type _ = false
 
--- in front of such a token specifiers may end
-abbrev pub ends_specifiers : Kind → Bool
-ends_specifiers Star = true
-ends_specifiers Identifier = true
-ends_specifiers OpenParen = true
-ends_specifiers OpenBracket = true
-ends_specifiers CloseParen = true
-ends_specifiers Colon = true
-ends_specifiers Comma = true
-ends_specifiers End = true
-ends_specifiers _ = false
+-- in front of such a token specifiers may end; a typedef name is one of them where no type specifier stands before it
+abbrev pub ends_specifiers : Kind → Bool → Bool
+ends_specifiers Star typed = true
+ends_specifiers Identifier typed = true
+ends_specifiers TypeName typed = typed
+ends_specifiers OpenParen typed = true
+ends_specifiers OpenBracket typed = true
+ends_specifiers CloseParen typed = true
+ends_specifiers Colon typed = true
+ends_specifiers Comma typed = true
+ends_specifiers End typed = true
+ends_specifiers _ typed = false
 
 -- of the token with this number, `End` behind the last
 abbrev pub kind_at : List Kind → ℕ → Kind
@@ -197,9 +200,46 @@ abbrev pub is_identifier : Kind → Bool
 is_identifier Identifier = true
 is_identifier _ = false
 
+abbrev pub is_typedef : Kind → Bool
+is_typedef TypeName = true
+is_typedef _ = false
+
+-- which name a declarator has: none, as a type's name; an identifier that is no typedef name; any identifier
+abbrev pub may_name : Named → Kind → Bool
+may_name Never k = false
+may_name Plainly k = is_identifier k
+may_name Freely k = is_word k
+
+-- the declarator of a parameter, or of a type's name, behind specifiers: a typedef name stands behind a type specifier
+abbrev pub named_by : Bool → Bool → Named
+named_by false typed = Never
+named_by true false = Plainly
+named_by true true = Freely
+
+-- a declarator in parentheses: a typedef name behind its `(` is a parameter's type and no name (6.7.6.3p11)
+abbrev pub grouped : Named → Named
+grouped Never = Never
+grouped Plainly = Plainly
+grouped Freely = Plainly
+
+-- behind a `*` each identifier is a name
+abbrev pub pointed : Named → Named
+pointed Never = Never
+pointed Plainly = Freely
+pointed Freely = Freely
+
+abbrev pub behind_pointers : {A : Type 0} → Named → List A → Named
+behind_pointers named [] = named
+behind_pointers named (p ∷ ps) = pointed named
+
 -- the name that a declarator declares stands here, where it may have one
-unfoldable pub names_at : List Kind → ℕ → Bool → Bool
-names_at kinds at named = named && is_identifier (kind_at kinds at)
+unfoldable pub names_at : List Kind → ℕ → Named → Bool
+names_at kinds at named = may_name named (kind_at kinds at)
+
+-- this name hides a typedef name, if there is one
+abbrev pub hides_one : List Kind → Option ℕ → Bool
+hides_one kinds None = false
+hides_one kinds (Some n) = is_typedef (kind_at kinds n)
 
 -- a storage class or a function specifier stands here, among the specifiers of a type's name, which has none (6.7.2.1, 6.7.7)
 unfoldable pub stored_amiss : List Kind → ℕ → Bool → Bool

@@ -8,10 +8,11 @@ use Rattle.c_parser.specs.declared.answers.Stop.TheVariants.{Syntax, NoMemory}
 use Rattle.c_parser.specs.declared.kinds.Kind.{Kind}
 use Rattle.c_parser.specs.declared.kinds.Kind.TheVariants.{Identifier, Constant, Text, OpenParen, CloseParen, OpenBracket, CloseBracket, OpenBrace, CloseBrace, Step, Question, Colon, Comma, Generic, OffsetOf, Default, Ellipsis, TypeName, Tag, Star, Atomic, Static}
 use Rattle.c_parser.specs.Brackets.{too_deep}
-use Rattle.c_parser.specs.Grammar.{IsMore, IsAny, IsBefore, AreSteps, goes_on, has_type, AreSome, MayStand}
-use Rattle.c_parser.specs.Kinds.{kind_at, level_at, is_prefix, casts_at, is_size, is_word, is_equals, is_dot, is_member, specifies_at, qualifies_at}
+use Rattle.c_parser.specs.Grammar.{IsMore, IsAny, IsBefore, AreSteps, goes_on, has_type, AreSome, MayStand, typed_by, hides}
+use Rattle.c_parser.specs.Kinds.{kind_at, level_at, is_prefix, casts_at, is_size, is_word, is_equals, is_dot, is_member, specifies_at, qualifies_at, may_name, named_by, grouped, behind_pointers}
 use Rattle.c_parser.specs.Declarators.{AreThere, IsWritten, MayDerive}
 use Rattle.c_parser.specs.Levels.{IsBinary, behinds_level, rank}
+use Rattle.c_parser.specs.declared.kinds.Named.{Named}
 
 abbrev pub HoldTexts : List Kind → List ℕ → ℕ → ℕ → Type 0
 HoldTexts ks [] a b = (b ≡ a) × (kind_at ks a ≡ Text → ⊥)
@@ -185,17 +186,18 @@ abbrev mutual
 
   pub HoldsNaming : List Kind → Bool → Naming → ℕ → ℕ → Type 0
   HoldsNaming ks named (Type_of ss d) a b =
-      (m : ℕ) × AreSome ss × HoldSpecifyings ks false ss a m × HoldsDeclaring ks named d m b × MayStand ks named ss
+      (m : ℕ) × AreSome ss × HoldSpecifyings ks false ss a m × HoldsDeclaring ks (named_by named (typed_by ks false ss)) d m b
+      × MayStand ks named ss
 
-  pub HoldsDeclaring : List Kind → Bool → Declaring → ℕ → ℕ → Type 0
+  pub HoldsDeclaring : List Kind → Named → Declaring → ℕ → ℕ → Type 0
   HoldsDeclaring ks named (Declaring_of ps g ds) a b =
-      (m : ℕ) × (n : ℕ) × HoldPointers ks ps a m × HoldsGrouping ks named g m n × HoldDerivings ks ds n b × MayDerive g ds
+      (m : ℕ) × (n : ℕ) × HoldPointers ks ps a m × HoldsGrouping ks (behind_pointers named ps) g m n × HoldDerivings ks ds n b × MayDerive g ds
 
-  pub HoldsGrouping : List Kind → Bool → Grouping → ℕ → ℕ → Type 0
+  pub HoldsGrouping : List Kind → Named → Grouping → ℕ → ℕ → Type 0
   HoldsGrouping ks named No_group a b = b ≡ a
-  HoldsGrouping ks named (Named_of n) a b = (named ≡ true) × (n ≡ a) × (kind_at ks a ≡ Identifier) × (b ≡ a + 1)
+  HoldsGrouping ks named (Named_of n) a b = (n ≡ a) × (may_name named (kind_at ks a) ≡ true) × (b ≡ a + 1)
   HoldsGrouping ks named (Group_of o d c) a b =
-      (o ≡ a) × (kind_at ks a ≡ OpenParen) × IsWritten d × HoldsDeclaring ks named d (a + 1) c
+      (o ≡ a) × (kind_at ks a ≡ OpenParen) × IsWritten d × HoldsDeclaring ks (grouped named) d (a + 1) c
       × (kind_at ks c ≡ CloseParen) × (b ≡ c + 1)
 
   pub HoldsDeriving : List Kind → Deriving → ℕ → ℕ → Type 0
@@ -206,16 +208,16 @@ abbrev mutual
 
   pub HoldParameters : List Kind → Parameters → ℕ → ℕ → Type 0
   HoldParameters ks No_parameters a b = b ≡ a
-  HoldParameters ks (Fixed_of p ps) a b = (m : ℕ) × HoldsNaming ks true p a m × HoldRow ks ps m b
+  HoldParameters ks (Fixed_of p ps) a b = (m : ℕ) × HoldsNaming ks true p a m × HoldRow ks (hides ks p) ps m b
   HoldParameters ks (Variadic_of p ps o d) a b =
-      (m : ℕ) × HoldsNaming ks true p a m × HoldRow ks ps m o
+      (m : ℕ) × HoldsNaming ks true p a m × HoldRow ks (hides ks p) ps m o
       × (kind_at ks o ≡ Comma) × (d ≡ o + 1) × (kind_at ks d ≡ Ellipsis) × (b ≡ d + 1)
   HoldParameters ks (Names_of n ns) a b = (n ≡ a) × (kind_at ks a ≡ Identifier) × HoldNames ks ns (a + 1) b
 
-  pub HoldRow : List Kind → Row → ℕ → ℕ → Type 0
-  HoldRow ks No_more a b = b ≡ a
-  HoldRow ks (Parameter_then o p ps) a b =
-      (m : ℕ) × (o ≡ a) × (kind_at ks a ≡ Comma) × HoldsNaming ks true p (a + 1) m × HoldRow ks ps m b
+  pub HoldRow : List Kind → Bool → Row → ℕ → ℕ → Type 0
+  HoldRow ks hidden No_more a b = b ≡ a
+  HoldRow ks hidden (Parameter_then o p ps) a b =
+      (m : ℕ) × (o ≡ a) × (kind_at ks a ≡ Comma) × HoldsNaming ks true p (a + 1) m × HoldRow ks (hides ks p) ps m b × (hidden ≡ false)
 
   pub HoldDerivings : List Kind → Derivings → ℕ → ℕ → Type 0
   HoldDerivings ks No_derivings a b = b ≡ a

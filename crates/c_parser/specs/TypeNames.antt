@@ -10,6 +10,7 @@ use Rattle.c_parser.specs.Declarators.{need_name}
 use Rattle.c_parser.specs.Grammar.{has_type, MayStand}
 use Rattle.c_parser.specs.Kinds.{kind_at, ends_specifiers, qualifies_at}
 use Rattle.c_parser.specs.Reading.{HoldQualifiers, HoldPointers, HoldNames, HoldSpecifying, HoldSpecifyings, HoldsDeclaring, HoldsGrouping, HoldsDeriving, HoldDerivings, HoldsBound, HoldParameters, HoldRow, IsWant}
+use Rattle.c_parser.specs.declared.kinds.Named.{Named}
 
 -- no specifier or qualifier stands here
 abbrev pub NoMore : List Kind → Bool → ℕ → Type 0
@@ -29,7 +30,7 @@ Specified kinds typed at (Some r) =
 -- why it stops: one begins, and none stands whole
 abbrev pub FailsSpecifying : List Kind → Bool → ℕ → Stop → Type 0
 FailsSpecifying kinds typed at e =
-    (ends_specifiers (kind_at kinds at) ≡ false)
+    (ends_specifiers (kind_at kinds at) typed ≡ false)
     × ((s : Specifying) → (b : ℕ) → HoldSpecifying kinds typed s at b → IsWant e)
 
 pub record FoundSpecifiers (kinds : List Kind) (named : Bool) (a : ℕ) (ss : Specifyings) (b : ℕ) : Type 0 where
@@ -52,12 +53,12 @@ pub record FoundPointers (kinds : List Kind) (a : ℕ) (ps : List (ℕ × List �
   pub forth : a ≤ b
   pub inside : b ≤ length kinds
 
-pub record FoundDeclaring (kinds : List Kind) (named : Bool) (a : ℕ) (d : Declaring) (b : ℕ) : Type 0 where
+pub record FoundDeclaring (kinds : List Kind) (named : Named) (a : ℕ) (d : Declaring) (b : ℕ) : Type 0 where
   pub reads : HoldsDeclaring kinds named d a b
   pub forth : a ≤ b
   pub inside : b ≤ length kinds
 
-pub record FoundGrouping (kinds : List Kind) (named : Bool) (a : ℕ) (g : Grouping) (b : ℕ) : Type 0 where
+pub record FoundGrouping (kinds : List Kind) (named : Named) (a : ℕ) (g : Grouping) (b : ℕ) : Type 0 where
   pub reads : HoldsGrouping kinds named g a b
   pub forth : a ≤ b
   pub inside : b ≤ length kinds
@@ -96,8 +97,8 @@ pub data RowEnd (kinds : List Kind) (c : ℕ) : Type 0 where
   at_close : kind_at kinds c ≡ CloseParen → RowEnd kinds c
   at_dots : kind_at kinds c ≡ Comma → kind_at kinds (c + 1) ≡ Ellipsis → RowEnd kinds c
 
-pub record FoundRow (kinds : List Kind) (a : ℕ) (ps : Row) (b : ℕ) : Type 0 where
-  pub reads : HoldRow kinds ps a b
+pub record FoundRow (kinds : List Kind) (hidden : Bool) (a : ℕ) (ps : Row) (b : ℕ) : Type 0 where
+  pub reads : HoldRow kinds hidden ps a b
   pub dots : kind_at kinds b ≡ Comma → kind_at kinds (b + 1) ≡ Ellipsis
   pub forth : a ≤ b
   pub inside : b ≤ length kinds

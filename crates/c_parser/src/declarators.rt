@@ -4,14 +4,14 @@ ghost use Rattle.tree_data.specs.Seen.{pointers_of, declarator_of, group_of, der
 ghost use Rattle.tree_data.specs.Trees as tree;
 ghost use Rattle.tree_data.specs.Trees.{Declaring, Grouping, Derivings, No_derivings, needs_name};
 ghost use Rattle.c_parser.specs.declared.kinds.Kind.TheVariants.{Identifier, OpenParen, CloseParen, OpenBracket, CloseBracket, Static};
-ghost use Rattle.c_parser.specs.Declarators.{names, names_one, need_name, MayDerive};
+ghost use Rattle.c_parser.specs.Declarators.{name_of, name_in, need_name, MayDerive};
 ghost use Rattle.c_parser.specs.Kinds as spec;
 ghost use Rattle.c_parser.specs.Reading.{HoldsDeclaring, HoldsGrouping, HoldsDeriving, HoldDerivings, HoldsBound, HoldNames, HoldParameters, HoldRow, MustGive};
 ghost use Rattle.c_parser.specs.TypeNames.{FoundQualifiers, FoundPointers, FoundDeclaring, FoundGrouping, FoundDeriving, FoundDerivings, FoundBound, FoundNames, FoundParameters, FoundRow, RowEnd};
 
 use crate::answers::Stop;
 use crate::expressions::{ASSIGNMENT, level};
-use crate::kinds::{Kind, any_size_at, kind_at, names_at, qualifies_at};
+use crate::kinds::{Kind, Named, any_size_at, hides_one, kind_at, names_at, qualifies_at};
 use crate::type_names::specified;
 use std::alloc::Global;
 use tree_data::{Bound, Declarator, Deriving, Group, Parameters, Pointer, TypeName};
@@ -64,28 +64,33 @@ fn pointers(alloc: Global, kinds: &[Kind], at: u32) -> Result<(Vec<Pointer>, u32
     }
 }
 
-// A name where one may stand, a declarator in parentheses, or nothing, and whether a name stands in it. A `(` behind which `)`
+// A name where one may stand, a declarator in parentheses, or nothing, and the name that stands in it. A `(` behind which `)`
 // or what a parameter begins with stands opens the parameters of a function (6.7.6.3p11).
 #[cycle(parser)]
-fn group(alloc: Global, kinds: &[Kind], at: u32, named: bool) -> Result<(Group, bool, u32), Stop>
+fn group(
+    alloc: Global,
+    kinds: &[Kind],
+    at: u32,
+    named: Named,
+) -> Result<(Group, Option<u32>, u32), Stop>
     requires size { length kinds.now ≤ 2000000 }
     requires inside { at ≤ length kinds.now }
     ensures found { IfOk result (λ r. FoundGrouping kinds.now named at (group_of r.0) r.2) }
-    ensures told { IfOk result (λ r. r.1 ≡ names_one (group_of r.0)) }
+    ensures told { IfOk result (λ r. r.1 ≡ name_in (group_of r.0)) }
     ensures only { (g : Grouping) → (m : ℕ) → (ds : Derivings) → (end : ℕ) → HoldsGrouping kinds.now named g at m
         → HoldDerivings kinds.now ds m end → MayDerive g ds → spec.ends_type (spec.kind_at kinds.now end) ≡ true
         → MustGive result (λ r. (group_of r.0 ≡ g) × (r.2 ≡ m)) }
 {
     if names_at(kinds, at, named) {
-        return Ok((Group::named(at), true, at + 1));
+        return Ok((Group::named(at), Some(at), at + 1));
     }
     let Kind::OpenParen = kind_at(kinds, at) else {
-        return Ok((Group::none(), false, at));
+        return Ok((Group::none(), None, at));
     };
     if kind_at(kinds, at + 1).opens_parameters() {
-        return Ok((Group::none(), false, at));
+        return Ok((Group::none(), None, at));
     }
-    let (inner, declares, closing) = match declarator(alloc, kinds, at + 1, named) {
+    let (inner, name, closing) = match declarator(alloc, kinds, at + 1, named.grouped()) {
         Ok(found) => found,
         Err(stop) => return Err(stop),
     };
@@ -93,7 +98,7 @@ fn group(alloc: Global, kinds: &[Kind], at: u32, named: bool) -> Result<(Group, 
         return Err(Stop::Syntax(closing));
     };
     match Group::of(alloc, at, inner, closing) {
-        Ok(group) => Ok((group, declares, closing + 1)),
+        Ok(group) => Ok((group, name, closing + 1)),
         Err(_) => Err(Stop::NoMemory),
     }
 }
@@ -203,21 +208,24 @@ fn array(alloc: Global, kinds: &[Kind], at: u32) -> Result<(Deriving, u32), Stop
     Ok((Deriving::array(at, bound, closing), closing + 1))
 }
 
-// The parameters behind the first, each with the comma in front of it, up to a `,` with `...` behind it.
+// The parameters behind the first, each with the comma in front of it, up to a `,` with `...` behind it; whether the name of the one in
+// front hides a typedef name.
 #[cycle(parser)]
 fn more_parameters(
     alloc: Global,
     kinds: &[Kind],
     at: u32,
+    hidden: bool,
 ) -> Result<(Vec<(u32, TypeName)>, u32), Stop>
     requires size { length kinds.now ≤ 2000000 }
     requires inside { at ≤ length kinds.now }
-    ensures found { IfOk result (λ r. FoundRow kinds.now at (tree.row (parameter_row_of r.0.items) tree.No_more) r.1) }
-    ensures only { (ps : tree.Row) → (end : ℕ) → HoldRow kinds.now ps at end → RowEnd kinds.now end
+    ensures found { IfOk result (λ r. FoundRow kinds.now hidden at (tree.row (parameter_row_of r.0.items) tree.No_more) r.1) }
+    ensures only { (ps : tree.Row) → (end : ℕ) → HoldRow kinds.now hidden ps at end → RowEnd kinds.now end
         → MustGive result (λ r. (tree.row (parameter_row_of r.0.items) tree.No_more ≡ ps) × (r.1 ≡ end)) }
 {
     let mut more = Vec::new(alloc);
     let mut end = at;
+    let mut last = hidden;
     'parameters: loop {
         let Kind::Comma = kind_at(kinds, end) else {
             return Ok((more, end));
@@ -225,13 +233,17 @@ fn more_parameters(
         if let Kind::Ellipsis = kind_at(kinds, end + 1) {
             return Ok((more, end));
         }
-        let (one, next) = match specified(alloc, kinds, end + 1, true) {
+        if last {
+            return Err(Stop::Syntax(end + 1));
+        }
+        let (one, name, next) = match specified(alloc, kinds, end + 1, true) {
             Ok(found) => found,
             Err(stop) => return Err(stop),
         };
         let Ok(()) = more.push((end, one)) else {
             return Err(Stop::NoMemory);
         };
+        last = hides_one(kinds, name);
         end = next;
     }
 }
@@ -290,11 +302,12 @@ fn parameters(alloc: Global, kinds: &[Kind], at: u32) -> Result<(Parameters, u32
     if let Kind::Identifier = kind_at(kinds, at) {
         return identifier_list(alloc, kinds, at);
     }
-    let (first, behind) = match specified(alloc, kinds, at, true) {
+    let (first, name, behind) = match specified(alloc, kinds, at, true) {
         Ok(found) => found,
         Err(stop) => return Err(stop),
     };
-    let (more, end) = match more_parameters(alloc, kinds, behind) {
+    let hidden = hides_one(kinds, name);
+    let (more, end) = match more_parameters(alloc, kinds, behind, hidden) {
         Ok(found) => found,
         Err(stop) => return Err(stop),
     };
@@ -398,32 +411,43 @@ fn derivings(
     }
 }
 
-// A declarator, abstract or nothing, or one with a name where one may stand, and whether one stands in it.
+// Which name may stand behind these pointers.
+fn behind(named: Named, pointers: &[Pointer]) -> Named
+    ensures { result ≡ spec.behind_pointers named pointers.now }
+{
+    let Some(_) = pointers.first() else {
+        return named;
+    };
+    named.pointed()
+}
+
+// A declarator, abstract or nothing, or one with a name where one may stand, and the name that stands in it.
 #[cycle(parser)]
 pub(crate) fn declarator(
     alloc: Global,
     kinds: &[Kind],
     at: u32,
-    named: bool,
-) -> Result<(Declarator, bool, u32), Stop>
+    named: Named,
+) -> Result<(Declarator, Option<u32>, u32), Stop>
     requires size { length kinds.now ≤ 2000000 }
     requires inside { at ≤ length kinds.now }
     ensures found { IfOk result (λ r. FoundDeclaring kinds.now named at (declarator_of r.0) r.2) }
-    ensures told { IfOk result (λ r. r.1 ≡ names (declarator_of r.0)) }
+    ensures told { IfOk result (λ r. r.1 ≡ name_of (declarator_of r.0)) }
     ensures only { (d : Declaring) → (end : ℕ) → HoldsDeclaring kinds.now named d at end
         → spec.ends_type (spec.kind_at kinds.now end) ≡ true
         → MustGive result (λ r. (declarator_of r.0 ≡ d) × (r.2 ≡ end)) }
 {
-    let (pointers, behind) = match pointers(alloc, kinds, at) {
+    let (pointers, place) = match pointers(alloc, kinds, at) {
         Ok(found) => found,
         Err(stop) => return Err(stop),
     };
-    let (group, declares, next) = match group(alloc, kinds, behind, named) {
+    let which = behind(named, pointers.as_slice());
+    let (group, name, next) = match group(alloc, kinds, place, which) {
         Ok(found) => found,
         Err(stop) => return Err(stop),
     };
-    match derivings(alloc, kinds, next, declares) {
-        Ok((derivings, end)) => Ok((Declarator::new(pointers, group, derivings), declares, end)),
+    match derivings(alloc, kinds, next, name.is_some()) {
+        Ok((derivings, end)) => Ok((Declarator::new(pointers, group, derivings), name, end)),
         Err(stop) => Err(stop),
     }
 }

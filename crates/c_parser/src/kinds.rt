@@ -181,6 +181,12 @@ impl Kind {
         matches!(self, Kind::OpenBracket | Kind::OpenParen)
     }
 
+    pub fn is_typedef(self) -> bool
+        ensures { result ≡ spec.is_typedef self }
+    {
+        matches!(self, Kind::TypeName)
+    }
+
     pub fn is_star(self) -> bool
         ensures { result ≡ spec.is_star self }
     {
@@ -304,12 +310,74 @@ pub(crate) fn any_size_at(kinds: &[Kind], at: u32) -> bool
     kind_at(kinds, at).is_star() && kind_at(kinds, at + 1).is_closing_bracket()
 }
 
+// Which name a declarator may have.
+#[derive(Clone, Copy, Debug, PartialEq, Eq, Hash, Drop)]
+pub(crate) enum Named {
+    // None, as in the name of a type (6.7.7).
+    Never,
+    // An identifier that is no typedef name.
+    Plainly,
+    // Any identifier.
+    Freely,
+}
+
+impl Named {
+    // Which name a declarator in parentheses may have: there a typedef name behind the `(` is the type of a parameter (6.7.6.3p11).
+    pub fn grouped(self) -> Named
+        ensures { result ≡ spec.grouped self }
+    {
+        match self {
+            Named::Never => Named::Never,
+            Named::Plainly => Named::Plainly,
+            Named::Freely => Named::Plainly,
+        }
+    }
+
+    // Which name may stand behind a `*`.
+    pub fn pointed(self) -> Named
+        ensures { result ≡ spec.pointed self }
+    {
+        match self {
+            Named::Never => Named::Never,
+            Named::Plainly => Named::Freely,
+            Named::Freely => Named::Freely,
+        }
+    }
+}
+
+// Which name the declarator of a parameter may have, or of a type's name, behind specifiers of which one is a type specifier, or none.
+pub(crate) fn named_by(parameter: bool, typed: bool) -> Named
+    ensures { result ≡ spec.named_by parameter typed }
+{
+    if !parameter {
+        return Named::Never;
+    }
+    if typed {
+        return Named::Freely;
+    }
+    Named::Plainly
+}
+
 // Whether the name that a declarator declares stands here, where it may have one (6.7.6).
 #[tactic(auto, unfolding(crate::specs::Kinds::names_at))]
-pub(crate) fn names_at(kinds: &[Kind], at: u32, named: bool) -> bool
+pub(crate) fn names_at(kinds: &[Kind], at: u32, named: Named) -> bool
     ensures { result ≡ spec.names_at kinds.now at named }
 {
-    named && kind_at(kinds, at).is_identifier()
+    match named {
+        Named::Never => false,
+        Named::Plainly => kind_at(kinds, at).is_identifier(),
+        Named::Freely => kind_at(kinds, at).is_word(),
+    }
+}
+
+// Whether this name hides a typedef name, if there is one.
+pub(crate) fn hides_one(kinds: &[Kind], name: Option<u32>) -> bool
+    ensures { result ≡ spec.hides_one kinds.now name }
+{
+    match name {
+        Some(at) => kind_at(kinds, at).is_typedef(),
+        None => false,
+    }
 }
 
 // Whether a storage class or a function specifier stands here, among specifiers of which it is none (6.7.2.1).

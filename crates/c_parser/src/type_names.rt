@@ -3,7 +3,7 @@ ghost use Rattle.std.specs.Prelude.{◌≡◌, true, false, ℕ, ◌+◌, ◌<�
 ghost use Rattle.tree_data.specs.Seen.{specifier_of, specifiers_of, type_of};
 ghost use Rattle.tree_data.specs.Trees.{Naming, Atomic_of, Specifyings, No_specifiers, specifyings};
 ghost use Rattle.c_parser.specs.declared.kinds.Kind.TheVariants.{CloseParen};
-ghost use Rattle.c_parser.specs.Grammar.{MayStand};
+ghost use Rattle.c_parser.specs.Grammar.{MayStand, typed_by, name_by};
 ghost use Rattle.c_parser.specs.Kinds as spec;
 ghost use Rattle.c_parser.specs.Reading.{HoldsNaming, HoldsType, HoldSpecifyings, FoundNaming, FoundType, MustGive};
 ghost use Rattle.c_parser.specs.TypeNames.{FoundSpecifying, FoundSpecifiers, Specified, FailsSpecifying};
@@ -11,7 +11,7 @@ ghost use Rattle.c_parser.specs.TypeNames.{FoundSpecifying, FoundSpecifiers, Spe
 use crate::answers::Stop;
 use crate::before::typed;
 use crate::declarators::declarator;
-use crate::kinds::{Kind, atomic_opens, kind_at, stored_amiss};
+use crate::kinds::{Kind, atomic_opens, kind_at, named_by, stored_amiss};
 use std::alloc::Global;
 use tree_data::{Specifier, Specs, TypeName};
 
@@ -86,20 +86,22 @@ fn specifier(
     }
 }
 
-// All specifiers and qualifiers that stand here, with storage classes where a name may stand behind them.
+// All specifiers and qualifiers that stand here, with storage classes where a name may stand behind them, and whether a type specifier
+// is among them.
 #[cycle(parser)]
 fn specifiers(
     alloc: Global,
     kinds: &[Kind],
     at: u32,
     named: bool,
-) -> Result<(Vec<Specifier>, u32), Stop>
+) -> Result<(Vec<Specifier>, bool, u32), Stop>
     requires size { length kinds.now ≤ 2000000 }
     requires inside { at ≤ length kinds.now }
-    ensures found { IfOk result (λ r. FoundSpecifiers kinds.now named at (specifyings (specifiers_of r.0.items) No_specifiers) r.1) }
+    ensures found { IfOk result (λ r. FoundSpecifiers kinds.now named at (specifyings (specifiers_of r.0.items) No_specifiers) r.2) }
+    ensures told { IfOk result (λ r. r.1 ≡ typed_by kinds.now false (specifyings (specifiers_of r.0.items) No_specifiers)) }
     ensures only { (ss : Specifyings) → (end : ℕ) → HoldSpecifyings kinds.now false ss at end → MayStand kinds.now named ss
-        → spec.ends_specifiers (spec.kind_at kinds.now end) ≡ true
-        → MustGive result (λ r. (specifyings (specifiers_of r.0.items) No_specifiers ≡ ss) × (r.1 ≡ end)) }
+        → spec.ends_specifiers (spec.kind_at kinds.now end) (typed_by kinds.now false ss) ≡ true
+        → MustGive result (λ r. (specifyings (specifiers_of r.0.items) No_specifiers ≡ ss) × (r.2 ≡ end)) }
 {
     let mut specifiers = Vec::new(alloc);
     let mut end = at;
@@ -110,7 +112,7 @@ fn specifiers(
         }
         let (one, next, typed_then) = match specifier(alloc, kinds, end, typed) {
             Ok(Some((one, next, typed_then))) => (one, next, typed_then),
-            Ok(None) => return Ok((specifiers, end)),
+            Ok(None) => return Ok((specifiers, typed, end)),
             Err(stop) => return Err(stop),
         };
         let Ok(()) = specifiers.push(one) else {
@@ -121,29 +123,33 @@ fn specifiers(
     }
 }
 
-// Specifiers and a declarator, behind which `)`, `:`, `,` or nothing has to stand; whether it may have a name.
+// Specifiers and a declarator, behind which `)`, `:`, `,` or nothing has to stand, and the name that stands in it; whether it may have
+// one.
 #[cycle(parser)]
 pub(crate) fn specified(
     alloc: Global,
     kinds: &[Kind],
     at: u32,
     named: bool,
-) -> Result<(TypeName, u32), Stop>
+) -> Result<(TypeName, Option<u32>, u32), Stop>
     requires size { length kinds.now ≤ 2000000 }
     requires inside { at ≤ length kinds.now }
-    ensures found { IfOk result (λ r. FoundNaming kinds.now named at (type_of r.0) r.1) }
+    ensures found { IfOk result (λ r. FoundNaming kinds.now named at (type_of r.0) r.2) }
+    ensures told { IfOk result (λ r. r.1 ≡ name_by (type_of r.0)) }
     ensures only { (t : Naming) → (end : ℕ) → HoldsNaming kinds.now named t at end → spec.ends_type (spec.kind_at kinds.now end) ≡ true
-        → MustGive result (λ r. (type_of r.0 ≡ t) × (r.1 ≡ end)) }
+        → MustGive result (λ r. (type_of r.0 ≡ t) × (r.2 ≡ end)) }
 {
-    let (specifiers, behind) = match specifiers(alloc, kinds, at, named) {
+    let (specifiers, typed, behind) = match specifiers(alloc, kinds, at, named) {
         Ok(found) => found,
         Err(stop) => return Err(stop),
     };
     if specifiers.as_slice().is_empty() {
         return Err(Stop::Syntax(behind));
     }
-    match declarator(alloc, kinds, behind, named) {
-        Ok((declarator, _, end)) => Ok((TypeName::new(Specs::new(specifiers), declarator), end)),
+    match declarator(alloc, kinds, behind, named_by(named, typed)) {
+        Ok((declarator, name, end)) => {
+            Ok((TypeName::new(Specs::new(specifiers), declarator), name, end))
+        }
         Err(stop) => Err(stop),
     }
 }
@@ -157,5 +163,8 @@ pub(crate) fn type_name(alloc: Global, kinds: &[Kind], at: u32) -> Result<(TypeN
     ensures only { (t : Naming) → (end : ℕ) → HoldsType kinds.now t at end → spec.ends_type (spec.kind_at kinds.now end) ≡ true
         → MustGive result (λ r. (type_of r.0 ≡ t) × (r.1 ≡ end)) }
 {
-    specified(alloc, kinds, at, false)
+    match specified(alloc, kinds, at, false) {
+        Ok((name, _, end)) => Ok((name, end)),
+        Err(stop) => Err(stop),
+    }
 }

@@ -106,9 +106,10 @@ fn whole_type(alloc: Global, kinds: &[Kind]) -> Result<TypeName, ParseError>
 /// declarator. Of specifiers its grammar has keywords, qualifiers, `_Atomic ( type-name )`, tags without braces and, where no type specifier
 /// stands before it, a typedef name, which is an identifier among `names`; of declarators it has pointers, parentheses, arrays
 /// and functions, and their parameters (6.7.6.3), which are such specifiers, storage classes and function specifiers, and a declarator
-/// with a name that isn't among `names`, or with none; behind a name, or a declarator in parentheses with a name in it, a list of
-/// identifiers that aren't among `names` may stand in place of parameters (6.7.6). Braces, `_Alignas` and names that hide a typedef
-/// name are not in it yet. The tokens are at most 2,000,000.
+/// with a name or with none. An identifier among `names` is a parameter's name behind a type specifier of its own specifiers or a `*`, and
+/// else its type (6.7.6.3p11). Behind a name, or a declarator in parentheses with a name in it, a list of identifiers that aren't among
+/// `names` may stand in place of parameters (6.7.6). Braces, `_Alignas` and parameters behind one whose name is among `names`, which it
+/// hides, are not in it yet. The tokens are at most 2,000,000.
 ///
 /// Errors: TooDeep with the bracket that opens the 257th level, which is looked for first; Syntax(0) exactly where
 /// no name of the grammar spells the tokens and no bracket is too deep; NoMemory.

@@ -1,15 +1,14 @@
-use Rattle.c_parser.proofs.ParameterLists.{parameter_row_found, parameter_row_same, parameter_row_fails, parameter_row_push, none_same, first_missing, rest_missing, fixed_same, variadic_same, fixed_found, variadic_found}
+use Rattle.c_parser.proofs.ParameterLists.{parameter_row_found, parameter_row_same, parameter_row_fails, parameter_row_push, none_same, first_missing, rest_missing, fixed_same, variadic_same, fixed_found, variadic_found, parameter_row_hidden}
 use Rattle.c_parser.proofs.Abstract.{no_group, group_fails, group_left_open, group_found, group_same, static_fails, static_found, static_same, unsized_found, unsized_same, last_static_fails, last_static_found, last_static_same, sized_fails, sized_found, sized_same, any_found, any_same, array_fails, array_left_open, array_found, found_deriving_only, nothing_derives, derivings_found, derivings_same, derivings_fail, derivings_unnamed, derivings_push, group_missing, derivings_missing, declaring_found, declaring_same, name_found, name_same, function_found, function_fails, function_left_open}
-use Rattle.c_parser.proofs.SpecifierLists.{atomic_found, atomic_specified, atomic_fails, specifiers_end, specifiers_only, specifiers_fail, specifiers_refused, specifiers_push, specifiers_missing, none_specifying, some_specifying, declarator_missing, naming_found, name_only}
-use Rattle.c_parser.proofs.Words.{left_of, right_of, not_named, named_or, opens_inside, opens_next, name_stands, name_stands_not}
-use Rattle.c_parser.specs.Declarators.{names, names_one}
+use Rattle.c_parser.proofs.SpecifierLists.{atomic_found, atomic_specified, atomic_fails, specifiers_end, specifiers_only, specifiers_fail, specifiers_refused, specifiers_push, specifiers_missing, none_specifying, some_specifying, declarator_missing, naming_found, name_only, specifiers_told}
+use Rattle.c_parser.proofs.Words.{left_of, right_of, not_named, named_or, opens_inside, opens_next, name_stands, name_stands_not, behind_mapped}
 use Rattle.c_parser.specs.TypeNames.{FoundGrouping, FoundBound, FoundDeriving, FoundDeclaring, FoundParameters}
 use Rattle.tree_data.specs.Trees.{Atomic_of, Type_of, needs_name}
-use Rattle.tree_data.specs.Seen.{declarator_of, deriving_of}
+use Rattle.tree_data.specs.Seen.{declarator_of, deriving_of, pointing}
 use Rattle.c_parser.specs.declared.before.Begun.TheVariants.{Literal}
-use Rattle.std.proofs.Common.{ap, sym, ◌∙◌, subst, arith, ◌+◌, ◌≤◌, ◌<◌, ◌≡◌, refl, length, ◌==◌, not}
+use Rattle.std.proofs.Common.{ap, sym, ◌∙◌, subst, arith, ◌+◌, ◌≤◌, ◌<◌, ◌≡◌, refl, length, ◌==◌, not, is_some}
 use Rattle.c_parser.specs.Beginnings.{start_of}
-use Rattle.c_parser.specs.Kinds.{level_of, is_word, is_designating, is_prefix, is_deriving, opens_parameters}
+use Rattle.c_parser.specs.Kinds.{level_of, is_word, is_designating, is_prefix, is_deriving, opens_parameters, named_by, behind_pointers, hides_one}
 use Rattle.c_parser.specs.Reading.{Reads, Found, FoundBehind, FoundBraces, FoundInitial, FoundDesignator, FoundAssociation, FoundFront, FoundNaming}
 use Rattle.c_parser.proofs.Fronts.{value_fails, no_place, places_end, test_fails, middle_fails, no_colon, tests_end, unary_fails, operand_of_fails, unary_found}
 use Rattle.c_parser.proofs.Marks.{is_step, member_none}
@@ -21,6 +20,8 @@ use Rattle.c_parser.proofs.Operations.{comma_level, lifted, climb_ends, climb_ow
 use Rattle.c_parser.proofs.Pushes.{associations_push, steps_push, pieces_push, designators_push, operands_push, suffixes_push, choices_push, places_push, prefixes_push}
 use Rattle.c_parser.proofs.Views.{binary_view, postfix_view}
 use Rattle.c_parser.proofs.+parser.Goals as goal
+use Rattle.c_parser.specs.Declarators.{name_of, name_in}
+use Rattle.c_parser.specs.Grammar.{name_by}
 
 pub expressions::assignment-returns-in-Err-clause-only : goal.expressions::assignment-returns-in-Err-clause-only
 expressions::assignment-returns-in-Err-clause-only t c = value_fails _ _ _ _ _ c.places.invariant c.in-Err.ensures.only
@@ -908,18 +909,21 @@ type_names::specifier-returns-in-Err t c = record {
 pub type_names::specifiers-returns-in-Ok-None : goal.type_names::specifiers-returns-in-Ok-None
 type_names::specifiers-returns-in-Ok-None t c = record {
   found = specifiers_end _ _ _ _ _ _ c.specifiers.invariant;
+  told = specifiers_told _ _ _ _ _ _ c.specifiers.invariant;
   only = specifiers_only _ _ _ _ _ _ c.specifiers.invariant (rw c.in-Ok-None.field-0-is at c.in-Ok-None.ensures.found);
 }
 
 pub type_names::specifiers-returns-in-Err : goal.type_names::specifiers-returns-in-Err
 type_names::specifiers-returns-in-Err t c = record {
   found = tt;
+  told = tt;
   only = specifiers_fail _ _ _ _ _ _ c.specifiers.invariant _ c.in-Err.ensures.fails;
 }
 
 pub type_names::specifiers-returns-then-stored_amiss : goal.type_names::specifiers-returns-then-stored_amiss
 type_names::specifiers-returns-then-stored_amiss t c = record {
   found = tt;
+  told = tt;
   only = specifiers_refused _ _ _ _ _ _ c.specifiers.invariant (sym c.stored_amiss.ensures ∙ c.if-stored_amiss.true) c.args.at;
 }
 
@@ -942,11 +946,12 @@ type_names::specifiers-specifiers-preserved t c =
     c.in-Ok.ensures.items
 
 pub type_names::specified-returns-in-Err : goal.type_names::specified-returns-in-Err
-type_names::specified-returns-in-Err t c = record { found = tt; only = specifiers_missing _ _ _ _ c.in-Err.ensures.only }
+type_names::specified-returns-in-Err t c = record { found = tt; told = tt; only = specifiers_missing _ _ _ _ c.in-Err.ensures.only }
 
 pub type_names::specified-returns-then-is_empty : goal.type_names::specified-returns-then-is_empty
 type_names::specified-returns-then-is_empty t c = record {
   found = tt;
+  told = tt;
   only =
       none_specifying
       _
@@ -961,6 +966,7 @@ type_names::specified-returns-then-is_empty t c = record {
 pub type_names::specified-returns-in-Ok-declarator : goal.type_names::specified-returns-in-Ok-declarator
 type_names::specified-returns-in-Ok-declarator t c =
     let is = c.new-in-Ok-declarator.ensures ∙ ap (λ x. Type_of x (declarator_of c.in-Ok-declarator.declarator)) c.new.ensures in
+    let by = c.named_by.ensures ∙ ap (named_by c.args.named) c.in-Ok.ensures.told in
     record {
       found =
           subst
@@ -978,16 +984,31 @@ type_names::specified-returns-in-Ok-declarator t c =
           c.in-Ok.found.0.items
           (ap (λ xs. length xs == 0) (sym c.as_slice.ensures.value) ∙ sym c.if-is_empty.ensures))
           c.in-Ok.ensures.found
+          _
+          by
           c.in-Ok-declarator.ensures.found);
+      told = c.in-Ok-declarator.ensures.told ∙ ap name_by (sym is);
       only = λ u end h e.
-          let same = name_only _ _ _ _ _ _ _ c.in-Ok.ensures.only c.in-Ok-declarator.ensures.only u end h e in
+          let same = name_only _ _ _ _ _ _ _ c.in-Ok.ensures.only _ by c.in-Ok-declarator.ensures.only u end h e in
           (is ∙ same.0, same.1);
     }
 
 pub type_names::specified-returns-in-Err-declarator : goal.type_names::specified-returns-in-Err-declarator
 type_names::specified-returns-in-Err-declarator t c = record {
   found = tt;
-  only = declarator_missing _ _ _ _ _ c.in-Ok.ensures.only _ c.in-Err-declarator.ensures.only;
+  told = tt;
+  only =
+      declarator_missing
+      _
+      _
+      _
+      _
+      _
+      c.in-Ok.ensures.only
+      _
+      (c.named_by.ensures ∙ ap (named_by c.args.named) c.in-Ok.ensures.told)
+      _
+      c.in-Err-declarator.ensures.only;
 }
 
 pub declarators::group-returns-then-names_at : goal.declarators::group-returns-then-names_at
@@ -1000,7 +1021,7 @@ declarators::group-returns-then-names_at t c =
           (λ x. FoundGrouping c.args.kinds.now c.args.named c.args.at x (c.args.at + 1))
           (sym c.named.ensures)
           (name_found _ _ _ named);
-      told = ap names_one (sym c.named.ensures);
+      told = ap name_in (sym c.named.ensures);
       only = λ g m ds end h i q e. let same = only g m ds end h i q e in (c.named.ensures ∙ same.0, same.1);
     }
 
@@ -1019,7 +1040,7 @@ declarators::group-returns-in_default t c =
           (λ x. FoundGrouping c.args.kinds.now c.args.named c.args.at x c.args.at)
           (sym c.none.ensures)
           (record { reads = refl; forth = omega arith; inside = c.requires.inside });
-      told = ap names_one (sym c.none.ensures);
+      told = ap name_in (sym c.none.ensures);
       only = λ g m ds end h i q e. let same = only g m ds end h i q e in (c.none.ensures ∙ same.0, same.1);
     }
 
@@ -1033,7 +1054,7 @@ declarators::group-returns-then-opens_parameters t c =
           (λ x. FoundGrouping c.args.kinds.now c.args.named c.args.at x c.args.at)
           (sym c.none-then-opens_parameters.ensures)
           (record { reads = refl; forth = omega arith; inside = c.requires.inside });
-      told = ap names_one (sym c.none-then-opens_parameters.ensures);
+      told = ap name_in (sym c.none-then-opens_parameters.ensures);
       only = λ g m ds end h i q e. let same = only g m ds end h i q e in (c.none-then-opens_parameters.ensures ∙ same.0, same.1);
     }
 
@@ -1048,6 +1069,8 @@ declarators::group-returns-in-Err t c = record {
       _
       (sym c.in-OpenParen.ensures.kind)
       (ap opens_parameters (sym c.kind_at-2.ensures.kind) ∙ sym c.opens_parameters.ensures ∙ c.if-opens_parameters.false)
+      _
+      c.grouped.ensures
       _
       c.in-Err.ensures.only;
 }
@@ -1065,6 +1088,8 @@ declarators::group-returns-in_default-kind_at t c = record {
       (ap opens_parameters (sym c.kind_at-2.ensures.kind) ∙ sym c.opens_parameters.ensures ∙ c.if-opens_parameters.false)
       _
       _
+      _
+      c.grouped.ensures
       c.in-Ok.ensures.only
       (λ k. c.in_default-kind_at.not-CloseParen (c.kind_at-3.ensures.kind ∙ k))
       c.args.at;
@@ -1074,7 +1099,7 @@ pub declarators::group-returns-in-Ok-of : goal.declarators::group-returns-in-Ok-
 declarators::group-returns-in-Ok-of t c =
     let here = sym c.in-OpenParen.ensures.kind in
     let next = (ap opens_parameters (sym c.kind_at-2.ensures.kind) ∙ sym c.opens_parameters.ensures ∙ c.if-opens_parameters.false) in
-    let only = group_same _ c.args.named _ here next _ _ c.in-Ok.ensures.only in
+    let only = group_same _ c.args.named _ here next _ _ _ c.grouped.ensures c.in-Ok.ensures.only in
     record {
       found =
           subst
@@ -1088,10 +1113,12 @@ declarators::group-returns-in-Ok-of t c =
           next
           _
           _
+          _
+          c.grouped.ensures
           c.in-Ok.ensures.found
           (sym c.in-CloseParen.ensures.kind)
           c.in-CloseParen.ensures.inside);
-      told = c.in-Ok.ensures.told ∙ ap names_one (sym c.in-Ok-of.ensures);
+      told = c.in-Ok.ensures.told ∙ ap name_in (sym c.in-Ok-of.ensures);
       only = λ g m ds end h i q e. let same = only g m ds end h i q e in (c.in-Ok-of.ensures ∙ same.0, same.1);
     }
 
@@ -1329,7 +1356,18 @@ pub declarators::declarator-returns-in-Err-group : goal.declarators::declarator-
 declarators::declarator-returns-in-Err-group t c = record {
   found = tt;
   told = tt;
-  only = group_missing _ _ _ _ _ c.in-Ok.ensures.found _ c.in-Err-group.ensures.only;
+  only =
+      group_missing
+      _
+      _
+      _
+      _
+      _
+      c.in-Ok.ensures.found
+      _
+      (c.behind.ensures ∙ ap (behind_pointers c.args.named) c.as_slice.ensures.value ∙ behind_mapped pointing c.args.named c.in-Ok.found.0.items)
+      _
+      c.in-Err-group.ensures.only;
 }
 
 pub declarators::declarator-returns-in-Err-derivings : goal.declarators::declarator-returns-in-Err-derivings
@@ -1346,15 +1384,19 @@ declarators::declarator-returns-in-Err-derivings t c = record {
       c.in-Ok.ensures.found
       _
       _
+      _
+      (c.behind.ensures ∙ ap (behind_pointers c.args.named) c.as_slice.ensures.value ∙ behind_mapped pointing c.args.named c.in-Ok.found.0.items)
       c.in-Ok-group.ensures.only
       _
-      c.in-Ok-group.ensures.told
+      (c.is_some.ensures ∙ ap is_some c.in-Ok-group.ensures.told)
       _
       c.in-Err-derivings.ensures.only;
 }
 
 pub declarators::declarator-returns-in-Ok-derivings : goal.declarators::declarator-returns-in-Ok-derivings
 declarators::declarator-returns-in-Ok-derivings t c =
+    let by = c.behind.ensures ∙ ap (behind_pointers c.args.named) c.as_slice.ensures.value ∙ behind_mapped pointing c.args.named c.in-Ok.found.0.items in
+    let named = c.is_some.ensures ∙ ap is_some c.in-Ok-group.ensures.told in
     let only =
     declaring_same
     _
@@ -1365,9 +1407,11 @@ declarators::declarator-returns-in-Ok-derivings t c =
     c.in-Ok.ensures.found
     _
     _
+    _
+    by
     c.in-Ok-group.ensures.only
     _
-    c.in-Ok-group.ensures.told
+    named
     _
     _
     c.in-Ok-derivings.ensures.only in
@@ -1385,13 +1429,15 @@ declarators::declarator-returns-in-Ok-derivings t c =
           c.in-Ok.ensures.found
           _
           _
+          _
+          by
           c.in-Ok-group.ensures.found
           _
-          c.in-Ok-group.ensures.told
+          named
           _
           _
           c.in-Ok-derivings.ensures.found);
-      told = c.in-Ok-group.ensures.told ∙ ap names (sym c.new.ensures);
+      told = c.in-Ok-group.ensures.told ∙ ap name_of (sym c.new.ensures);
       only = λ d end h e. let same = only d end h e in (c.new.ensures ∙ same.0, same.1);
     }
 
@@ -1419,15 +1465,15 @@ before::size-typed-requires t c =
 pub declarators::more_parameters-returns-in_default : goal.declarators::more_parameters-returns-in_default
 declarators::more_parameters-returns-in_default t c =
     record {
-      found = parameter_row_found _ _ _ _ c.parameters.invariant (λ k. absurd (c.in_default.not-Comma (c.kind_at.ensures.kind ∙ k)));
-      only = parameter_row_same _ _ _ _ c.parameters.invariant (λ k. absurd (c.in_default.not-Comma (c.kind_at.ensures.kind ∙ k)));
+      found = parameter_row_found _ _ _ _ _ _ c.parameters.invariant (λ k. absurd (c.in_default.not-Comma (c.kind_at.ensures.kind ∙ k)));
+      only = parameter_row_same _ _ _ _ _ _ c.parameters.invariant (λ k. absurd (c.in_default.not-Comma (c.kind_at.ensures.kind ∙ k)));
     }
 
 pub declarators::more_parameters-returns-in-Ellipsis : goal.declarators::more_parameters-returns-in-Ellipsis
 declarators::more_parameters-returns-in-Ellipsis t c =
     record {
-      found = parameter_row_found _ _ _ _ c.parameters.invariant (λ k. sym c.in-Ellipsis.ensures.kind);
-      only = parameter_row_same _ _ _ _ c.parameters.invariant (λ k. sym c.in-Ellipsis.ensures.kind);
+      found = parameter_row_found _ _ _ _ _ _ c.parameters.invariant (λ k. sym c.in-Ellipsis.ensures.kind);
+      only = parameter_row_same _ _ _ _ _ _ c.parameters.invariant (λ k. sym c.in-Ellipsis.ensures.kind);
     }
 
 pub declarators::more_parameters-returns-in-Err : goal.declarators::more_parameters-returns-in-Err
@@ -1435,6 +1481,8 @@ declarators::more_parameters-returns-in-Err t c = record {
   found = tt;
   only =
       parameter_row_fails
+      _
+      _
       _
       _
       _
@@ -1456,12 +1504,35 @@ declarators::more_parameters-parameters-preserved t c =
     _
     _
     _
+    _
+    _
     c.parameters.invariant
     (sym c.in-Comma.ensures.kind)
     (λ k. c.in_default-kind_at.not-Ellipsis (c.kind_at-in-parameters.ensures.kind ∙ k))
+    c.if-last.false
     c.in-Ok.ensures.found
     c.in-Ok.ensures.only
+    _
+    (c.hides_one.ensures ∙ ap (hides_one c.args.kinds.now) c.in-Ok.ensures.told)
     c.in-Ok-push.ensures.items
+
+pub declarators::more_parameters-returns-then-last : goal.declarators::more_parameters-returns-then-last
+declarators::more_parameters-returns-then-last t c = record {
+  found = tt;
+  only =
+      parameter_row_hidden
+      _
+      _
+      _
+      _
+      _
+      _
+      c.parameters.invariant
+      (sym c.in-Comma.ensures.kind)
+      (λ k. c.in_default-kind_at.not-Ellipsis (c.kind_at-in-parameters.ensures.kind ∙ k))
+      c.if-last.true
+      c.args.at;
+}
 
 pub declarators::parameters-returns-in-CloseParen : goal.declarators::parameters-returns-in-CloseParen
 declarators::parameters-returns-in-CloseParen t c =
@@ -1484,7 +1555,7 @@ declarators::parameters-returns-in-Err t c = record {
 pub declarators::parameters-returns-in-Err-more_parameters : goal.declarators::parameters-returns-in-Err-more_parameters
 declarators::parameters-returns-in-Err-more_parameters t c = record {
   found = tt;
-  only = rest_missing _ _ (λ k. c.in_default.not-CloseParen (c.kind_at.ensures.kind ∙ k)) (λ k. c.in_default-kind_at.not-Identifier (c.kind_at-2.ensures.kind ∙ k)) _ _ c.in-Ok.ensures.only _ c.in-Err-more_parameters.ensures.only;
+  only = rest_missing _ _ (λ k. c.in_default.not-CloseParen (c.kind_at.ensures.kind ∙ k)) (λ k. c.in_default-kind_at.not-Identifier (c.kind_at-2.ensures.kind ∙ k)) _ _ c.in-Ok.ensures.only _ (c.hides_one.ensures ∙ ap (hides_one c.args.kinds.now) c.in-Ok.ensures.told) _ c.in-Err-more_parameters.ensures.only;
 }
 
 pub declarators::parameters-returns-in-Ok-fixed : goal.declarators::parameters-returns-in-Ok-fixed
@@ -1499,6 +1570,8 @@ declarators::parameters-returns-in-Ok-fixed t c =
     _
     c.in-Ok.ensures.only
     _
+    (c.hides_one.ensures ∙ ap (hides_one c.args.kinds.now) c.in-Ok.ensures.told)
+    _
     _
     c.in-Ok-more_parameters.ensures.only
     (λ k. c.in_default-kind_at-2.not-Comma (c.kind_at-3.ensures.kind ∙ k)) in
@@ -1507,7 +1580,7 @@ declarators::parameters-returns-in-Ok-fixed t c =
           subst
           (λ x. FoundParameters c.args.kinds.now c.args.at x c.in-Ok-more_parameters.found.1)
           (sym c.in-Ok-fixed.ensures)
-          (fixed_found _ _ _ _ c.in-Ok.ensures.found _ _ c.in-Ok-more_parameters.ensures.found);
+          (fixed_found _ _ _ _ c.in-Ok.ensures.found _ (c.hides_one.ensures ∙ ap (hides_one c.args.kinds.now) c.in-Ok.ensures.told) _ _ c.in-Ok-more_parameters.ensures.found);
       only = λ ps end h e. let same = only ps end h e in (c.in-Ok-fixed.ensures ∙ same.0, same.1);
     }
 
@@ -1523,6 +1596,8 @@ declarators::parameters-returns-in-Ok-variadic t c =
     _
     c.in-Ok.ensures.only
     _
+    (c.hides_one.ensures ∙ ap (hides_one c.args.kinds.now) c.in-Ok.ensures.told)
+    _
     _
     c.in-Ok-more_parameters.ensures.only
     (sym c.in-Comma.ensures.kind) in
@@ -1531,7 +1606,7 @@ declarators::parameters-returns-in-Ok-variadic t c =
           subst
           (λ x. FoundParameters c.args.kinds.now c.args.at x (c.in-Ok-more_parameters.found.1 + 2))
           (sym c.in-Ok-variadic.ensures)
-          (variadic_found _ _ _ _ c.in-Ok.ensures.found _ _ c.in-Ok-more_parameters.ensures.found (sym c.in-Comma.ensures.kind));
+          (variadic_found _ _ _ _ c.in-Ok.ensures.found _ (c.hides_one.ensures ∙ ap (hides_one c.args.kinds.now) c.in-Ok.ensures.told) _ _ c.in-Ok-more_parameters.ensures.found (sym c.in-Comma.ensures.kind));
       only = λ ps end h e. let same = only ps end h e in (c.in-Ok-variadic.ensures ∙ same.0, same.1);
     }
 

@@ -229,7 +229,7 @@ abbrev pub decreases-type_names::type_name : goal.decreases-type_names::type_nam
 decreases-type_names::type_name l = 64 * (length l.kinds.now - l.at) + 45
 
 abbrev pub invariant-declarators::more_parameters-parameters : goal.invariant-declarators::more_parameters-parameters
-invariant-declarators::more_parameters-parameters l = Rowing l.kinds l.fn.at (parameter_row_of l.more.items) l.end
+invariant-declarators::more_parameters-parameters l = Rowing l.kinds l.fn.hidden l.fn.at (parameter_row_of l.more.items) l.end l.last
 
 abbrev pub decreases-declarators::more_parameters-parameters : goal.decreases-declarators::more_parameters-parameters
 decreases-declarators::more_parameters-parameters l = length l.kinds - l.end
