@@ -1365,7 +1365,7 @@ declarators::declarator-returns-in-Err-group t c = record {
       _
       c.in-Ok.ensures.found
       _
-      (c.behind.ensures ∙ ap (behind_pointers c.args.named) c.as_slice.ensures.value ∙ behind_mapped pointing c.args.named c.in-Ok.found.0.items)
+      (c.behind-which.ensures ∙ ap (behind_pointers c.args.named) c.as_slice.ensures.value ∙ behind_mapped pointing c.args.named c.in-Ok.found.0.items)
       _
       c.in-Err-group.ensures.only;
 }
@@ -1385,7 +1385,7 @@ declarators::declarator-returns-in-Err-derivings t c = record {
       _
       _
       _
-      (c.behind.ensures ∙ ap (behind_pointers c.args.named) c.as_slice.ensures.value ∙ behind_mapped pointing c.args.named c.in-Ok.found.0.items)
+      (c.behind-which.ensures ∙ ap (behind_pointers c.args.named) c.as_slice.ensures.value ∙ behind_mapped pointing c.args.named c.in-Ok.found.0.items)
       c.in-Ok-group.ensures.only
       _
       (c.is_some.ensures ∙ ap is_some c.in-Ok-group.ensures.told)
@@ -1395,7 +1395,7 @@ declarators::declarator-returns-in-Err-derivings t c = record {
 
 pub declarators::declarator-returns-in-Ok-derivings : goal.declarators::declarator-returns-in-Ok-derivings
 declarators::declarator-returns-in-Ok-derivings t c =
-    let by = c.behind.ensures ∙ ap (behind_pointers c.args.named) c.as_slice.ensures.value ∙ behind_mapped pointing c.args.named c.in-Ok.found.0.items in
+    let by = c.behind-which.ensures ∙ ap (behind_pointers c.args.named) c.as_slice.ensures.value ∙ behind_mapped pointing c.args.named c.in-Ok.found.0.items in
     let named = c.is_some.ensures ∙ ap is_some c.in-Ok-group.ensures.told in
     let only =
     declaring_same
@@ -1513,7 +1513,7 @@ declarators::more_parameters-parameters-preserved t c =
     c.in-Ok.ensures.found
     c.in-Ok.ensures.only
     _
-    (c.hides_one.ensures ∙ ap (hides_one c.args.kinds.now) c.in-Ok.ensures.told)
+    (c.hides_one-last.ensures ∙ ap (hides_one c.args.kinds.now) c.in-Ok.ensures.told)
     c.in-Ok-push.ensures.items
 
 pub declarators::more_parameters-returns-then-last : goal.declarators::more_parameters-returns-then-last
@@ -1555,7 +1555,7 @@ declarators::parameters-returns-in-Err t c = record {
 pub declarators::parameters-returns-in-Err-more_parameters : goal.declarators::parameters-returns-in-Err-more_parameters
 declarators::parameters-returns-in-Err-more_parameters t c = record {
   found = tt;
-  only = rest_missing _ _ (λ k. c.in_default.not-CloseParen (c.kind_at.ensures.kind ∙ k)) (λ k. c.in_default-kind_at.not-Identifier (c.kind_at-2.ensures.kind ∙ k)) _ _ c.in-Ok.ensures.only _ (c.hides_one.ensures ∙ ap (hides_one c.args.kinds.now) c.in-Ok.ensures.told) _ c.in-Err-more_parameters.ensures.only;
+  only = rest_missing _ _ (λ k. c.in_default.not-CloseParen (c.kind_at.ensures.kind ∙ k)) (λ k. c.in_default-kind_at.not-Identifier (c.kind_at-2.ensures.kind ∙ k)) _ _ c.in-Ok.ensures.only _ (c.hides_one-hidden.ensures ∙ ap (hides_one c.args.kinds.now) c.in-Ok.ensures.told) _ c.in-Err-more_parameters.ensures.only;
 }
 
 pub declarators::parameters-returns-in-Ok-fixed : goal.declarators::parameters-returns-in-Ok-fixed
@@ -1570,7 +1570,7 @@ declarators::parameters-returns-in-Ok-fixed t c =
     _
     c.in-Ok.ensures.only
     _
-    (c.hides_one.ensures ∙ ap (hides_one c.args.kinds.now) c.in-Ok.ensures.told)
+    (c.hides_one-hidden.ensures ∙ ap (hides_one c.args.kinds.now) c.in-Ok.ensures.told)
     _
     _
     c.in-Ok-more_parameters.ensures.only
@@ -1580,7 +1580,7 @@ declarators::parameters-returns-in-Ok-fixed t c =
           subst
           (λ x. FoundParameters c.args.kinds.now c.args.at x c.in-Ok-more_parameters.found.1)
           (sym c.in-Ok-fixed.ensures)
-          (fixed_found _ _ _ _ c.in-Ok.ensures.found _ (c.hides_one.ensures ∙ ap (hides_one c.args.kinds.now) c.in-Ok.ensures.told) _ _ c.in-Ok-more_parameters.ensures.found);
+          (fixed_found _ _ _ _ c.in-Ok.ensures.found _ (c.hides_one-hidden.ensures ∙ ap (hides_one c.args.kinds.now) c.in-Ok.ensures.told) _ _ c.in-Ok-more_parameters.ensures.found);
       only = λ ps end h e. let same = only ps end h e in (c.in-Ok-fixed.ensures ∙ same.0, same.1);
     }
 
@@ -1596,7 +1596,7 @@ declarators::parameters-returns-in-Ok-variadic t c =
     _
     c.in-Ok.ensures.only
     _
-    (c.hides_one.ensures ∙ ap (hides_one c.args.kinds.now) c.in-Ok.ensures.told)
+    (c.hides_one-hidden.ensures ∙ ap (hides_one c.args.kinds.now) c.in-Ok.ensures.told)
     _
     _
     c.in-Ok-more_parameters.ensures.only
@@ -1606,7 +1606,7 @@ declarators::parameters-returns-in-Ok-variadic t c =
           subst
           (λ x. FoundParameters c.args.kinds.now c.args.at x (c.in-Ok-more_parameters.found.1 + 2))
           (sym c.in-Ok-variadic.ensures)
-          (variadic_found _ _ _ _ c.in-Ok.ensures.found _ (c.hides_one.ensures ∙ ap (hides_one c.args.kinds.now) c.in-Ok.ensures.told) _ _ c.in-Ok-more_parameters.ensures.found (sym c.in-Comma.ensures.kind));
+          (variadic_found _ _ _ _ c.in-Ok.ensures.found _ (c.hides_one-hidden.ensures ∙ ap (hides_one c.args.kinds.now) c.in-Ok.ensures.told) _ _ c.in-Ok-more_parameters.ensures.found (sym c.in-Comma.ensures.kind));
       only = λ ps end h e. let same = only ps end h e in (c.in-Ok-variadic.ensures ∙ same.0, same.1);
     }
 
