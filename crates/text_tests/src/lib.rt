@@ -2,8 +2,6 @@
 #![tactic(auto)]
 
 #[cfg(test)]
-mod document_script;
-#[cfg(test)]
 mod documents;
 #[cfg(test)]
 mod edits;
