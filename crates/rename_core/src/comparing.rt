@@ -3,7 +3,7 @@ ghost use Rattle.std.specs.Prelude.{◌≡◌, Some, option_map, IfOk};
 ghost use Rattle.std.specs.List.{find};
 ghost use Rattle.rename_core.specs.Clashes as spec;
 ghost use Rattle.rename_core.specs.Kept.{at, is_text, other_at, other_kinds_at};
-ghost use Rattle.rename_core.specs.Occurrences;
+ghost use Rattle.scope_tables.specs.Occurrences as occurs;
 ghost use Rattle.rename_core.specs.Occurrences.{first_some};
 
 use crate::class::Plan;
@@ -120,14 +120,14 @@ pub(crate) fn first_in_other(
 }
 
 fn same_anchor(before: &Anchor, after: &Anchor) -> bool
-    ensures { result ≡ Occurrences.same_anchor before.now after.now }
+    ensures { result ≡ occurs.same_anchor before.now after.now }
 {
     *before == *after
 }
 
 /// Whether one anchor became the other, where a name became another one.
 fn became_named(old: &Name, new: &Name, before: &Anchor, after: &Anchor) -> bool
-    ensures { result ≡ Occurrences.same_anchor (spec.renamed (Some old.now) new.now before.now) after.now }
+    ensures { result ≡ occurs.same_anchor (spec.renamed (Some old.now) new.now before.now) after.now }
 {
     if names(old, before) {
         return names(new, after);
@@ -137,7 +137,7 @@ fn became_named(old: &Name, new: &Name, before: &Anchor, after: &Anchor) -> bool
 
 /// Whether one anchor became the other.
 fn became(plan: &Plan, before: &Anchor, after: &Anchor) -> bool
-    ensures { result ≡ Occurrences.same_anchor (spec.renamed plan.now.class.external plan.now.new_name before.now) after.now }
+    ensures { result ≡ occurs.same_anchor (spec.renamed plan.now.class.external plan.now.new_name before.now) after.now }
 {
     match &plan.class.external {
         Some(old) => became_named(old, &plan.new_name, before, after),

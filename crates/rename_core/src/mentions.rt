@@ -4,6 +4,7 @@ ghost use Rattle.tok_data.specs.declared.sources.TokId.{TokId as Token};
 ghost use Rattle.rename_core.specs.declared.mentions.Denoted.{Denoted as Key};
 ghost use Rattle.rename_core.specs.Ties.Lists.{listed};
 ghost use Rattle.rename_core.specs.Mentions as spec;
+ghost use Rattle.scope_tables.specs.Occurrences as occurs;
 ghost use Rattle.rename_core.specs.Occurrences;
 
 use crate::grown::Grown;
@@ -30,7 +31,7 @@ pub(crate) enum Denoted {
 
 /// Whether a token with this role denotes an entity.
 pub(crate) fn counts(role: Role) -> bool
-    ensures { result ≡ Occurrences.counts role }
+    ensures { result ≡ occurs.counts role }
 {
     match role {
         Role::Defines => true,
@@ -59,7 +60,7 @@ fn tell_one(
     unit: usize,
     occ: &Occ,
 ) -> Result<(), AllocError>
-    ensures { OnOk result ((q : Token) → listed Occurrences.same_tok told.new q ≡ (if Occurrences.is_at q occ.now then listed Occurrences.same_tok told.old q ++ spec.told_in unit occ.now.anchor ∷ [] else listed Occurrences.same_tok told.old q)) }
+    ensures { OnOk result ((q : Token) → listed occurs.same_tok told.new q ≡ (if occurs.is_at q occ.now then listed occurs.same_tok told.old q ++ spec.told_in unit occ.now.anchor ∷ [] else listed occurs.same_tok told.old q)) }
 {
     if !counts(occ.role) {
         return Ok(());
@@ -76,7 +77,7 @@ fn tell_unit(
     unit: usize,
     occs: &[Occ],
 ) -> Result<(), AllocError>
-    ensures { OnOk result ((q : Token) → listed Occurrences.same_tok told.new q ≡ listed Occurrences.same_tok told.old q ++ map (spec.told_in unit) (Occurrences.anchors_at q occs.now)) }
+    ensures { OnOk result ((q : Token) → listed occurs.same_tok told.new q ≡ listed occurs.same_tok told.old q ++ map (spec.told_in unit) (Occurrences.anchors_at q occs.now)) }
 {
     let mut rest = occs;
     'occs: while let Some((occ, behind)) = rest.split_first() {
@@ -91,7 +92,7 @@ pub(crate) fn tell_all(
     alloc: Global,
     units: &[&[Occ]],
 ) -> Result<HashMap<TokId, Grown<Told>>, AllocError>
-    ensures { IfOk result (λ r. (q : Token) → listed Occurrences.same_tok r q ≡ spec.tolds 0 q (map (λ os. os.now) units.now)) }
+    ensures { IfOk result (λ r. (q : Token) → listed occurs.same_tok r q ≡ spec.tolds 0 q (map (λ os. os.now) units.now)) }
 {
     let mut told = no_lists(alloc);
     let mut unit = 0;

@@ -3,6 +3,7 @@ ghost use Rattle.std.specs.Prelude.{◌≡◌, ℕ, List, None, Some, if◌then�
 ghost use Rattle.tok_data.specs.declared.sources.TokId.{TokId as Token};
 ghost use Rattle.scope_tables.specs.declared.entities.Anchor.{Anchor as AnyAnchor};
 ghost use Rattle.unit_index.specs.Chains as spec;
+ghost use Rattle.scope_tables.specs.Occurrences as occurs;
 ghost use Rattle.unit_index.specs.Occurrences;
 ghost use Rattle.unit_index.specs.Speaking;
 
@@ -20,7 +21,7 @@ pub(crate) enum By {
 
 /// Whether a token with this role denotes an entity.
 pub(crate) fn counts(role: Role) -> bool
-    ensures { result ≡ Occurrences.counts role }
+    ensures { result ≡ occurs.counts role }
 {
     match role {
         Role::Defines => true,
@@ -54,7 +55,7 @@ pub(crate) fn put_token(
     tok: &TokId,
     place: usize,
 ) -> Result<(), AllocError>
-    ensures { OnOk result ((q : Token) → spec.at_tok places.new q ≡ (if Occurrences.same_tok tok.now q then Some place else spec.at_tok places.old q)) }
+    ensures { OnOk result ((q : Token) → spec.at_tok places.new q ≡ (if occurs.same_tok tok.now q then Some place else spec.at_tok places.old q)) }
 {
     let tok = tok.copy()?;
     places.insert(tok, place).map_err(AllocError::from)?;
@@ -62,7 +63,7 @@ pub(crate) fn put_token(
 }
 
 fn note_token(places: &mut HashMap<TokId, usize>, occ: &Occ, place: usize) -> Result<(), AllocError>
-    ensures { OnOk result ((q : Token) → spec.at_tok places.new q ≡ (if Occurrences.is_at q occ.now then Some place else spec.at_tok places.old q)) }
+    ensures { OnOk result ((q : Token) → spec.at_tok places.new q ≡ (if occurs.is_at q occ.now then Some place else spec.at_tok places.old q)) }
 {
     if !counts(occ.role) {
         return Ok(());
@@ -91,7 +92,7 @@ fn put_anchor(
     anchor: &Anchor,
     place: usize,
 ) -> Result<(), AllocError>
-    ensures { OnOk result ((q : AnyAnchor) → spec.at_anchor places.new q ≡ (if Occurrences.same_anchor anchor.now q then Some place else spec.at_anchor places.old q)) }
+    ensures { OnOk result ((q : AnyAnchor) → spec.at_anchor places.new q ≡ (if occurs.same_anchor anchor.now q then Some place else spec.at_anchor places.old q)) }
 {
     let anchor = anchor.share()?;
     places.insert(anchor, place).map_err(AllocError::from)?;
@@ -116,7 +117,7 @@ pub(crate) fn chain_tokens(
     alloc: Global,
     occs: &[Occ],
 ) -> Result<(HashMap<TokId, usize>, Vec<Option<usize>>), AllocError>
-    ensures first { IfOk result (λ r. (q : Token) → spec.at_tok r.0 q ≡ spec.first_from (Occurrences.is_at q) 0 occs.now) }
+    ensures first { IfOk result (λ r. (q : Token) → spec.at_tok r.0 q ≡ spec.first_from (occurs.is_at q) 0 occs.now) }
     ensures next { IfOk result (λ r. r.1.items ≡ spec.nexts spec.by_token 0 occs.now) }
 {
     let mut first = no_tokens(alloc);
