@@ -11,8 +11,6 @@ mod lines;
 mod run;
 mod serve;
 mod status;
-#[cfg(test)]
-mod tests;
 mod turn;
 mod writing;
 
