@@ -1,8 +1,14 @@
 pub mod AnswerLemmas
 pub mod ChainLemmas
+pub mod ClosingLemmas
+pub mod CrossLemmas
+pub mod FirstLemmas
 pub mod GroupLemmas
 pub mod IntroducedLemmas
 pub mod LookLemmas
+pub mod MatchLemmas
+pub mod MemberLemmas
+pub mod NeedLemmas
 pub mod OrderLemmas
 pub mod SharedLemmas
 pub mod SymbolLemmas

@@ -1,20 +1,28 @@
 // The units of a project, each with an index, and the questions that go over all of them (ISO C11 5.1.1.1, 6.2.1, 6.2.2).
 #![tactic(auto)]
 
+mod across;
 mod answers;
 mod chains;
+mod exported;
 mod files;
 mod groups;
+mod handles;
 mod hover;
 mod indexed;
 mod introduced;
+mod matching;
+mod members;
+mod needs;
 mod outline;
+mod pairs;
 mod sets;
 mod shared;
 mod under;
 mod unit;
 mod walks;
 
+pub use across::{CrossFault, Index, UnitExports};
 pub use answers::{Speaker, definition, references, speaking};
 pub use hover::hover_text;
 pub use outline::{symbol_number, symbols};

@@ -1,0 +1,9 @@
+use Rattle.unit_index.specs.Matching.{matched}
+use Rattle.unit_index.proofs.CrossLemmas.{exact_tells, matched_tells}
+use Rattle.unit_index.proofs.across.Index.cross_faults.Goals as goal
+
+pub returns-clause-meant : goal.returns-clause-meant
+returns-clause-meant c = λ test exact. c.in_ok-faults.ensures test (exact_tells test exact)
+
+pub returns-clause-value : goal.returns-clause-value
+returns-clause-value c = c.in_ok-faults.ensures matched matched_tells
