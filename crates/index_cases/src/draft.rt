@@ -1,7 +1,8 @@
 // A unit that is being told.
 use crate::notation::{add_tags, plain, tag, tag_info, type_named};
+use crate::tags::{DraftTag, add_member, export_told, settle_tags, tag_told};
 use crate::words::{anchor_named, path_named, role_named, symbol_named, token_named};
-use scope_tables::{Entity, EntityKind, Exports, Life, Linkage, Occ, Symbol, UnitMeaning};
+use scope_tables::{Entity, EntityKind, Export, Exports, Life, Linkage, Occ, Symbol, UnitMeaning};
 use shared_list::Listing;
 use shared_text::Name;
 use std::alloc::{AllocError, Global};
@@ -17,6 +18,8 @@ pub struct Draft {
     occs: Vec<Occ>,
     entities: Vec<Entity>,
     symbols: Vec<Symbol>,
+    tags: Vec<DraftTag>,
+    exports: Vec<Export>,
 }
 
 fn kind_named(alloc: Global, word: &str, name: &str) -> Result<EntityKind, AllocError> {
@@ -98,6 +101,8 @@ impl Draft {
             occs: Vec::new(alloc),
             entities: Vec::new(alloc),
             symbols: Vec::new(alloc),
+            tags: Vec::new(alloc),
+            exports: Vec::new(alloc),
         }
     }
 
@@ -140,6 +145,25 @@ impl Draft {
         Ok(())
     }
 
+    // What a line tells of what the unit shows to the others.
+    fn take_shown(&mut self, alloc: Global, line: &str) -> Result<bool, AllocError> {
+        if let Some(words) = line.strip_prefix("tag ") {
+            let tag = tag_told(alloc, words)?;
+            self.tags.push(tag)?;
+            return Ok(true);
+        }
+        if let Some(words) = line.strip_prefix("member ") {
+            add_member(alloc, &mut self.tags, words)?;
+            return Ok(true);
+        }
+        if let Some(words) = line.strip_prefix("export ") {
+            let export = export_told(alloc, words)?;
+            self.exports.push(export)?;
+            return Ok(true);
+        }
+        Ok(false)
+    }
+
     /// What a line tells of the unit; `false` where it tells nothing.
     pub fn take(&mut self, alloc: Global, line: &str) -> Result<bool, AllocError> {
         if let Some(words) = line.strip_prefix("occ ") {
@@ -154,7 +178,7 @@ impl Draft {
             self.add_symbol(alloc, words)?;
             return Ok(true);
         }
-        Ok(false)
+        self.take_shown(alloc, line)
     }
 
     // What was told, which is forgotten here.
@@ -162,13 +186,14 @@ impl Draft {
         let occs = mem::replace(&mut self.occs, Vec::new(alloc));
         let entities = mem::replace(&mut self.entities, Vec::new(alloc));
         let symbols = mem::replace(&mut self.symbols, Vec::new(alloc));
+        let exports = mem::replace(&mut self.exports, Vec::new(alloc));
         UnitMeaning {
             faults: Listing::from_vec(Vec::new(alloc)),
             occs: Listing::from_vec(occs),
             entities: Listing::from_vec(entities),
             symbols: Listing::from_vec(symbols),
             exports: Exports {
-                names: Listing::from_vec(Vec::new(alloc)),
+                names: Listing::from_vec(exports),
                 tags,
             },
         }
@@ -186,7 +211,9 @@ impl Draft {
         let Some(path) = self.own_path()? else {
             return Ok(None);
         };
-        let tags = tags_told(alloc)?;
+        let mut tags = tags_told(alloc)?;
+        let drafts = mem::replace(&mut self.tags, Vec::new(alloc));
+        settle_tags(alloc, &mut tags, drafts)?;
         let reads = mem::replace(&mut self.reads, Vec::new(alloc));
         let meaning = self.meaning(alloc, tags);
         match IndexedUnit::of(alloc, path, Listing::from_vec(reads), meaning) {

@@ -1,14 +1,17 @@
 // Questions over the units of a project, case by case. Standard input has a line a step. `unit PATH READ..` begins a unit that reads
-// these texts too; then `occ ROLE ANCHOR TOKEN`, `entity KIND ANCHOR NAME TYPE` and `symbol KIND NAME TOKEN` say what it means, where a
+// these texts too; then `occ ROLE ANCHOR TOKEN`, `entity KIND ANCHOR NAME TYPE` and `symbol KIND NAME TOKEN` say what it means, `tag LETTER
+// KIND NAME`, `member NAME TYPE` (of the tag before) and `export NAME TYPE TOKEN`, with the token that defines it behind, what it shows; a
 // token is `FILE:NUMBER`, an anchor `external:NAME`, `local:TOKEN` or `made:TOKEN:NAME`, a type as in `notation.rt`, and an enumerator's
 // type its value. `project` begins another project. `definition TOKEN`, `references TOKEN`, `uses TOKEN` (references without
-// declarations), `hover TOKEN`, `symbols PATH` and `under OFFSET RANGE..` ask, where a range is `iSTART-END` of an identifier, or with another
-// letter of another token: they are printed with their answers, as is every other line.
+// declarations), `hover TOKEN`, `symbols PATH`, `across` (the warnings across units), `matches PATH TYPE PATH TYPE` and `under OFFSET RANGE..`
+// ask, where a range is `iSTART-END` of an identifier, or with another letter of another token: they are printed with their answers, as is
+// every other line.
 #![tactic(auto)]
 
 mod draft;
 mod notation;
 mod play;
+mod tags;
 mod words;
 
 use play::Play;

@@ -1,6 +1,8 @@
-// Types in postfix notation, a character a part: `i` int, `c` char, `l` long, `m` unsigned long, `v` void, `S` a structure, `A` one without
-// a name, `E` an enumeration, `B` a type with a fault; then `*` a pointer, `k` a pointer to what is const, a digit an array of that
-// size, `_` one of no size, `?` one of an untold size, `o` a function `()`, `z` one of `(void)`, `n` one of `(int)`, `q` of `(char)`.
+// Types in postfix notation, a character a part: `i` int, `c` char, `l` long, `m` unsigned long, `u` unsigned int, `v` void, `S` a structure,
+// `A` one without a name, `E` an enumeration, `P` to `Z` a structure or union that the unit tells, `F` to `H` such an enumeration, `B` a
+// type with a fault; then `*` a pointer, `k` a pointer to what is const, a digit an array of that size, `_` one of no size, `?` one of an
+// untold size, `o` a function `()`, `z` one of `(void)`, `n` one of `(int)`, `q` of `(char)`, `r` of `(float)`, `p` of a pointer to `P`,
+// `w` of `(int, ...)`.
 use shared_list::Listing;
 use shared_text::Name;
 use std::alloc::{AllocError, Global};
@@ -71,6 +73,7 @@ fn basic(letter: u8) -> Option<Basic> {
         b'c' => Some(Basic::Char),
         b'l' => Some(Basic::Long),
         b'm' => Some(Basic::ULong),
+        b'u' => Some(Basic::UInt),
         _ => None,
     }
 }
@@ -84,6 +87,8 @@ fn base(alloc: Global, letter: u8) -> Result<CType, AllocError> {
         b'S' => Ok(CType::of(Node::Tagged(tag(alloc, 1)?))),
         b'A' => Ok(CType::of(Node::Tagged(tag(alloc, 2)?))),
         b'E' => Ok(CType::of(Node::Enumerated(tag(alloc, 3)?))),
+        b'P'..=b'Z' => Ok(CType::of(Node::Tagged(tag(alloc, u32::from(letter))?))),
+        b'F'..=b'H' => Ok(CType::of(Node::Enumerated(tag(alloc, u32::from(letter))?))),
         _ => Ok(CType::of(Node::Bad)),
     }
 }
@@ -91,6 +96,12 @@ fn base(alloc: Global, letter: u8) -> Result<CType, AllocError> {
 fn one(alloc: Global, basic: Basic) -> Result<Params, AllocError> {
     let ty = CType::of(Node::Basic(basic));
     Params::first(alloc, ty, plain(), Params::of(ParamList::Empty))
+}
+
+fn to_structure(alloc: Global) -> Result<Params, AllocError> {
+    let structure = CType::of(Node::Tagged(tag(alloc, u32::from(b'P'))?));
+    let ty = CType::pointer(alloc, structure, plain())?;
+    Params::first(alloc, ty, constant(), Params::of(ParamList::Empty))
 }
 
 fn function(alloc: Global, of: CType, letter: u8) -> Result<CType, AllocError> {
@@ -103,6 +114,18 @@ fn function(alloc: Global, of: CType, letter: u8) -> Result<CType, AllocError> {
         b'q' => {
             let params = one(alloc, Basic::Char)?;
             CType::function(alloc, of, params, Proto::Fixed)
+        }
+        b'r' => {
+            let params = one(alloc, Basic::Float)?;
+            CType::function(alloc, of, params, Proto::Fixed)
+        }
+        b'p' => {
+            let params = to_structure(alloc)?;
+            CType::function(alloc, of, params, Proto::Fixed)
+        }
+        b'w' => {
+            let params = one(alloc, Basic::Int)?;
+            CType::function(alloc, of, params, Proto::Variadic)
         }
         _ => CType::function(alloc, of, Params::of(ParamList::Empty), Proto::Fixed),
     }

@@ -1,13 +1,14 @@
 // The questions of a project, and their answers.
 use crate::draft::Draft;
+use crate::notation::type_named;
 use crate::words::{path_named, token_named};
 use shared_text::Name;
 use std::alloc::{AllocError, Global};
 use std::{io, mem};
 use tok_data::{PpKind, PpToken, TokId};
 use unit_index::{
-    IndexedUnit, are_apart, definition, hover_text, references, speaking, symbol_number, symbols,
-    token_under,
+    CrossFault, Index, IndexedUnit, UnitExports, are_apart, definition, hover_text, references,
+    speaking, symbol_number, symbols, token_under,
 };
 
 /// The units of a project, and the one that is being told.
@@ -82,6 +83,29 @@ fn under(alloc: Global, out: &mut String, words: &str) -> Result<(), AllocError>
     }
 }
 
+// What the units show.
+fn shown(alloc: Global, units: &[IndexedUnit]) -> Result<Vec<UnitExports<'_>>, AllocError> {
+    let mut out = Vec::new(alloc);
+    for unit in units {
+        out.push(UnitExports {
+            path: unit.path(),
+            exports: &unit.meaning().exports,
+        })?;
+    }
+    Ok(out)
+}
+
+// A warning: its unit where this isn't the text, the rule, the token and the message.
+fn push_fault(alloc: Global, out: &mut String, fault: &CrossFault) -> Result<(), AllocError> {
+    let unit = fault.unit.as_str();
+    let rule = fault.fault.rule;
+    let file = fault.fault.tok.file.as_str();
+    let at = fault.fault.tok.at;
+    let text = fault.fault.text.as_str();
+    let shown = format!(in alloc; " [{unit} {rule} {file}:{at} {text}]")?;
+    out.push_str(shown.as_str())
+}
+
 impl Play {
     pub fn new(alloc: Global) -> Play {
         Play {
@@ -147,6 +171,49 @@ impl Play {
         Ok(())
     }
 
+    fn crossed(&self, alloc: Global, out: &mut String) -> Result<(), AllocError> {
+        let units = shown(alloc, self.units.as_slice())?;
+        let index = Index::of(alloc, units.as_slice())?;
+        let faults = index.cross_faults(alloc)?;
+        for fault in faults.as_slice() {
+            push_fault(alloc, out, fault)?;
+        }
+        Ok(())
+    }
+
+    // Whether a type of one unit is compatible with one of another: `PATH TYPE PATH TYPE`.
+    fn compared(&self, alloc: Global, out: &mut String, words: &str) -> Result<(), AllocError> {
+        let mut words = words.split_ascii_whitespace();
+        let Some(left) = path_named(alloc, words.next().unwrap_or("/"))? else {
+            return Ok(());
+        };
+        let a = type_named(alloc, words.next().unwrap_or("i"))?;
+        let Some(right) = path_named(alloc, words.next().unwrap_or("/"))? else {
+            return Ok(());
+        };
+        let b = type_named(alloc, words.next().unwrap_or("i"))?;
+        let units = shown(alloc, self.units.as_slice())?;
+        let index = Index::of(alloc, units.as_slice())?;
+        if index.matches_across(alloc, &left, &a, &right, &b)? {
+            return out.push_str(" yes");
+        }
+        out.push_str(" no")
+    }
+
+    // The answer to a question across units.
+    fn answer_across(&self, alloc: Global, line: &str) -> Result<Option<String>, AllocError> {
+        let mut out = String::new(alloc);
+        if line == "across" {
+            self.crossed(alloc, &mut out)?;
+            return Ok(Some(out));
+        }
+        if let Some(words) = line.strip_prefix("matches ") {
+            self.compared(alloc, &mut out, words)?;
+            return Ok(Some(out));
+        }
+        Ok(None)
+    }
+
     // The answer to a question, or none where the line asks nothing.
     fn answer(&self, alloc: Global, line: &str) -> Result<Option<String>, AllocError> {
         let mut out = String::new(alloc);
@@ -174,7 +241,7 @@ impl Play {
             under(alloc, &mut out, words)?;
             return Ok(Some(out));
         }
-        Ok(None)
+        self.answer_across(alloc, line)
     }
 
     fn tell(&mut self, alloc: Global, line: &str) -> Result<bool, AllocError> {
