@@ -1,5 +1,5 @@
--- Trees without addresses (ISO C11 6.5, 6.7.7, 6.7.9).
-use Rattle.std.specs.Prelude.{ℕ, Bool, true, false, List, [], ◌∷◌, Option}
+-- Trees without addresses (ISO C11 6.5, 6.7, 6.9).
+use Rattle.std.specs.Prelude.{ℕ, Bool, true, false, List, [], ◌∷◌, Option, Some, None}
 
 mutual
   pub data Tree : Type 0 where
@@ -131,6 +131,17 @@ mutual
     Static_sized_of : ℕ → List ℕ → Tree → Bound
     Sized_static_of : List ℕ → ℕ → Tree → Bound
 
+-- `_Static_assert ( condition , text ) ;`
+pub data Assertion : Type 0 where
+  Assertion_of : ℕ → ℕ → Tree → ℕ → List ℕ → ℕ → ℕ → Assertion
+
+-- an external declaration up to and with its `;`, or up to and with the `{` of its body: specifiers, and declarators with their
+-- initializers or without; or a static assertion. The tokens `,`, `=`, `;` and `{` have no number here: they stand between and behind
+-- these parts.
+pub data Heading : Type 0 where
+  Declares_of : Specifyings → List (Declaring × Option Initial) → Bool → Heading
+  Asserts_of : Assertion → Heading
+
 -- some in front of others
 abbrev pub behinds : List Behind → Behinds → Behinds
 behinds [] more = more
@@ -169,6 +180,13 @@ operand p = Operand_of p.0 p.1
 
 abbrev pub left : Tree × ℕ → Front
 left p = Left_of p.0 p.1
+
+-- the number of a keyword
+abbrev pub word_in : Specifying → Option ℕ
+word_in (Word_of n) = Some n
+word_in (Typedef_of n) = None
+word_in (Tag_of k n) = None
+word_in (Atomic_of k o t c) = None
 
 abbrev pub are_some : List ℕ → Bool
 are_some [] = false

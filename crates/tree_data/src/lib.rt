@@ -1,13 +1,15 @@
-// The trees of C (ISO C11 6.5, 6.7.7, 6.7.9).
+// The trees of C (ISO C11 6.5, 6.7, 6.9).
 #![tactic(auto)]
 
 mod expr;
+mod heads;
 mod inits;
 mod parts;
 mod selections;
 mod types;
 
 pub use expr::Expr;
+pub use heads::{Assertion, Head};
 pub use inits::{Braces, Designator, Init, Piece};
 pub use parts::{Choice, Suffix};
 pub use selections::Association;

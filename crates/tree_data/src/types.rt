@@ -150,6 +150,18 @@ impl Specifier {
         let name = Box::new(alloc, name)?;
         Ok(Specifier::Atomic(keyword, opening, name, closing))
     }
+
+    /// The number of a keyword that stands for itself.
+    pub fn as_word(&self) -> Option<u32>
+        ensures { result ≡ spec.word_in (specifier_of self.now) }
+    {
+        match self {
+            Specifier::Word(at) => Some(*at),
+            Specifier::TypedefName(_) => None,
+            Specifier::Tag(_, _) => None,
+            Specifier::Atomic(_, _, _, _) => None,
+        }
+    }
 }
 
 impl Specs {
