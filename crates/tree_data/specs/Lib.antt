@@ -1,3 +1,5 @@
 pub mod Heads
 pub mod Seen
+pub mod Stated
+pub mod Statements
 pub mod Trees

@@ -1,4 +1,4 @@
-// The trees of C (ISO C11 6.5, 6.7, 6.9).
+// The trees of C (ISO C11 6.5, 6.7, 6.8, 6.9).
 #![tactic(auto)]
 
 mod expr;
@@ -6,6 +6,7 @@ mod heads;
 mod inits;
 mod parts;
 mod selections;
+mod statements;
 mod types;
 
 pub use expr::Expr;
@@ -13,6 +14,7 @@ pub use heads::{Assertion, Head};
 pub use inits::{Braces, Designator, Init, Piece};
 pub use parts::{Choice, Suffix};
 pub use selections::Association;
+pub use statements::{Item, Lead, Stmt};
 pub use types::{
     Bound, Declarator, Deriving, Group, Parameters, Pointer, Prefix, Specifier, Specs, TypeName,
 };

@@ -1,0 +1,14 @@
+use Rattle.std.proofs.Common.{ap, sym, ◌∙◌}
+use Rattle.tree_data.specs.Stated.{item_of, lead_of, stmt_of, item_step, lead_step, stmt_step}
+use Rattle.tree_data.specs.Statements as spec
+use Rattle.tree_data.specs.Statements.{Statement}
+use Rattle.tree_data.specs.declared.statements.Item.TheFolds.{fold-roll-Lead}
+use Rattle.tree_data.specs.declared.statements.Item.TheOpen as layer
+use Rattle.tree_data.specs.declared.statements.Lead.TheVariants.{rolls-Label}
+use Rattle.tree_data.proofs.statements.Lead.label.Goals as goal
+
+pub returns : goal.returns
+unfolding item_of lead_of stmt_of item_step lead_step stmt_step
+returns c =
+    ap lead_of (sym (rolls-Label c.args.name c.args.colon))
+    ∙ fold-roll-Lead spec.Item spec.Lead Statement item_step lead_step stmt_step (layer.Label c.args.name c.args.colon)
