@@ -11,9 +11,10 @@
 //   PATH|change|VERSION|FROM,TO,TEXT.. changes of the first line, from one character to another, in order
 //   PATH|rewrite|LETTERS               changes of the whole text to so many `a`, and then to `int a;`
 //   PATH|close                         the document is closed
+//   rename|NAME|PATH,FROM-TO..|..      the texts with a name in place of ranges of their bytes, which nothing else sees
 #![tactic(auto)]
 
-use doc_texts::{DocError, Docs};
+use doc_texts::{ByteRange, DocError, Docs, TextEdits};
 use std::alloc::{AllocError, Global};
 use std::io;
 use std::io::Read;
@@ -171,6 +172,54 @@ fn call(
     }
 }
 
+/// A range of bytes, as `FROM-TO`.
+fn range(word: &str) -> ByteRange {
+    let mut words = word.split('-');
+    let start = number(words.next());
+    let end = number(words.next());
+    ByteRange { start, end }
+}
+
+/// Ranges of a text, as `PATH,FROM-TO..`.
+fn text_edits(alloc: Global, word: &str) -> Result<Option<TextEdits>, AllocError> {
+    let mut words = word.split(',');
+    let Some(path) = Path::read(alloc, words.next().unwrap_or(""))? else {
+        return Ok(None);
+    };
+    let mut ranges = Vec::new(alloc);
+    for word in words {
+        ranges.push(range(word))?;
+    }
+    Ok(Some(TextEdits { path, ranges }))
+}
+
+fn all_edits(alloc: Global, words: &mut Split<'_, char>) -> Result<Vec<TextEdits>, AllocError> {
+    let mut edits = Vec::new(alloc);
+    for word in words {
+        if let Some(of_one) = text_edits(alloc, word)? {
+            edits.push(of_one)?;
+        }
+    }
+    Ok(edits)
+}
+
+/// What stands at the paths of edits once these are made.
+fn rename(rt: &HostRuntime, docs: &Docs, words: &mut Split<'_, char>) -> io::Result<()> {
+    let name = words.next().unwrap_or("");
+    let edits = all_edits(rt.alloc(), words)?;
+    if name.len() > 1_023 {
+        return println!(rt; "too long a name");
+    }
+    if !docs.can_be_edited(&edits) {
+        return println!(rt; "can't be made");
+    }
+    let made = docs.edited(&edits, name)?;
+    for of_one in &edits {
+        show(rt, &made, &of_one.path, of_one.path.as_str())?;
+    }
+    Ok(())
+}
+
 fn turn(rt: &HostRuntime, docs: &mut Docs, line: &str) -> io::Result<()> {
     println!(rt; "> {line}")?;
     let mut words = line.split('|');
@@ -186,6 +235,7 @@ fn turn(rt: &HostRuntime, docs: &mut Docs, line: &str) -> io::Result<()> {
             let count = number(words.next());
             fill(rt, docs, files, count)
         }
+        "rename" => rename(rt, docs, &mut words),
         _ => call(rt, docs, first, &mut words),
     }
 }

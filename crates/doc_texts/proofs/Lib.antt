@@ -7,3 +7,7 @@ pub mod Dropped
 pub mod Meant
 pub mod Remembered
 pub mod Followed
+pub mod Renamed
+pub mod Copied
+pub mod EditsFollowed
+pub mod Placed

@@ -29,7 +29,7 @@ pub(crate) fn edited(
         rest = behind;
         make(&mut text, change, encoding)?;
     }
-    Ok(KeptText::from_string(text))
+    Ok(KeptText::from_string(text)?)
 }
 
 /// Makes one change.

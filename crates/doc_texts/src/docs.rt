@@ -1,15 +1,18 @@
 // The texts that stand, and the calls that change them.
-ghost use Rattle.std.specs.Prelude.{◌≡◌, ◌≢◌, ◌≤◌, ◌<◌, ◌^◌, ◌+◌, ◌-◌, ℕ, length, Err, Some, None, option_map, IfOk, IfSome, OnOk, OnErr};
+ghost use Rattle.std.specs.Prelude.{◌≡◌, ◌≢◌, ◌↔◌, true, false, ◌≤◌, ◌<◌, ◌^◌, ◌+◌, ◌-◌, ℕ, length, Err, Some, None, option_map, IsTrue, IfOk, IfSome, OnOk, OnErr};
 ghost use Rattle.doc_texts.specs.Texts.{text_at, version_at, uri_at, paths_of, file_count, byte_count, texts_under, add_all, with_disk, without_disk, with_open, without_open};
 ghost use Rattle.doc_texts.specs.Docs.{is_outside, allowed, fits, loaded, opened, changed, closed, IsDone};
+ghost use Rattle.doc_texts.specs.Edited.{with_text_at, with_edits, edited, CanBeMade, CanAllBeMade};
 ghost use Rattle.doc_texts.specs.Kept.{Counted, files_with, disk_size, open_size};
-ghost use Rattle.doc_texts.specs.Limits.{longest_text, longest_kept};
+ghost use Rattle.doc_texts.specs.Limits.{longest_text, longest_kept, longest_name};
 ghost use Rattle.std.specs.FinMap.{get, contains_key, keys};
 
 use crate::changes::edited;
+use crate::copies::{disk_again, opened_again, root_again};
 use crate::error::DocError;
 use crate::kept::{KeptText, OpenDoc};
 use crate::path_set::PathSet;
+use crate::ranges::{TextEdits, can_be_made, renamed};
 use std::alloc::{AllocError, Global};
 use std::collections::BTreeMap;
 use std::marker::Model;
@@ -25,6 +28,9 @@ const LONGEST_TEXT: usize = 4_194_304;
 
 /// The most bytes of all texts together.
 const MOST_BYTES: u128 = 67_108_864;
+
+/// The most files or bytes that are counted: more have no room in memory.
+const MOST_COUNTED: u128 = 18_446_744_073_709_551_615;
 
 /// How many paths have a text, and the bytes of all texts.
 #[derive(Clone, Copy, Drop)]
@@ -218,6 +224,144 @@ impl Docs {
         self.list_disk(&mut set)?;
         self.list_open(&mut set)?;
         set.paths()
+    }
+
+    /// Whether these edits can be made: a text that stands at one of their paths has at most 4,194,304 bytes, and the ranges stand in
+    /// it in order and apart, none of which is empty or cuts a code point. It takes no memory, and costs a logarithm of the number
+    /// of files for each path and a step for each range.
+    pub fn can_be_edited(&self, edits: &[TextEdits]) -> bool
+        ensures { IsTrue result ↔ CanAllBeMade self.now edits.now }
+    {
+        let mut rest = edits;
+        'turn: while let Some((text_edits, behind)) = rest.split_first() {
+            rest = behind;
+            if !self.can_edit(text_edits) {
+                return false;
+            }
+        }
+        true
+    }
+
+    /// Whether the edits of one text can be made.
+    fn can_edit(&self, text_edits: &TextEdits) -> bool
+        ensures { IsTrue result ↔ CanBeMade self.now text_edits.now }
+    {
+        match self.text(&text_edits.path) {
+            Some(text) => can_be_made(text, text_edits.ranges.as_slice()),
+            None => true,
+        }
+    }
+
+    /// The texts with a name in place of ranges of the texts that stand, all of them as they are now (LSP 3.17, WorkspaceEdit). A
+    /// path without a text is passed over, and no limit on texts is looked for. It costs a copy of each text that is edited, and
+    /// n log n for n files; all other texts are shared. `can_be_edited` tells whether the edits can be made; the name has at most
+    /// 1,023 bytes.
+    #[tactic(auto, unfolding(crate::specs::Edited::all_made, crate::specs::Edited::edited))]
+    pub fn edited(&self, edits: &[TextEdits], new_name: &str) -> Result<Docs, AllocError>
+        requires can { CanAllBeMade self.now edits.now }
+        requires short { length new_name.now ≤ longest_name }
+        ensures { IfOk result (λ docs. docs ≡ edited self.now edits.now new_name.now) }
+    {
+        let mut made = self.again()?;
+        let mut rest = edits;
+        'turn: while let Some((text_edits, behind)) = rest.split_first() {
+            rest = behind;
+            self.edit_in(&mut made, text_edits, new_name)?;
+        }
+        Ok(made)
+    }
+
+    /// The same texts, which are shared.
+    fn again(&self) -> Result<Docs, AllocError>
+        ensures { IfOk result (λ docs. docs ≡ self.now) }
+    {
+        let root = root_again(&self.root)?;
+        let disk = disk_again(self.alloc, &self.disk)?;
+        let opened = opened_again(self.alloc, &self.opened)?;
+        Ok(Docs {
+            alloc: self.alloc,
+            root,
+            disk,
+            opened,
+            files: self.files,
+            bytes: self.bytes,
+        })
+    }
+
+    /// Makes the edits of one text, as it stands here, in other texts.
+    fn edit_in(
+        &self,
+        made: &mut Docs,
+        text_edits: &TextEdits,
+        new_name: &str,
+    ) -> Result<(), AllocError>
+        requires can { CanBeMade self.now text_edits.now }
+        requires short { length new_name.now ≤ longest_name }
+        ensures { OnOk result (made.new ≡ with_edits made.old text_edits.now new_name.now (text_at self.now text_edits.now.path)) }
+    {
+        match self.text(&text_edits.path) {
+            Some(text) => {
+                let text = renamed(self.alloc(), text, text_edits.ranges.as_slice(), new_name)?;
+                made.put_text_at(&text_edits.path, text)?;
+                Ok(())
+            }
+            None => Ok(()),
+        }
+    }
+
+    /// Puts a text in place of the one that stands at a path.
+    fn put_text_at(&mut self, path: &Path, text: KeptText) -> Result<(), AllocError>
+        ensures { OnOk result (self.new ≡ with_text_at self.old path.now text) }
+    {
+        if self.is_open(path) {
+            return self.put_in_open(path, text);
+        }
+        self.put_on_disk(path, text)
+    }
+
+    /// Puts a text in place of that of the document that is open at a path.
+    fn put_in_open(&mut self, path: &Path, text: KeptText) -> Result<(), AllocError>
+        requires { contains_key self.old.opened path.now ≡ true }
+        ensures { OnOk result (self.new ≡ with_text_at self.old path.now text) }
+    {
+        let bytes = self.total() - self.open_len(path) as u128 + text.as_str().len() as u128;
+        let bytes = counted(bytes)?;
+        self.swap_text(path, text, bytes);
+        Ok(())
+    }
+
+    /// Puts a text in place of that on disk at a path, where no document is open.
+    fn put_on_disk(&mut self, path: &Path, text: KeptText) -> Result<(), AllocError>
+        requires { contains_key self.old.opened path.now ≡ false }
+        ensures { OnOk result (self.new ≡ with_text_at self.old path.now text) }
+    {
+        let bytes = self.total() - self.disk_len(path) as u128 + text.as_str().len() as u128;
+        let bytes = counted(bytes)?;
+        let files = counted(self.files_with(path))?;
+        let key = path.share()?;
+        self.put_disk(key, text, Counts { files, bytes })?;
+        Ok(())
+    }
+
+    /// How many bytes the text of the document that is open at a path has, or 0.
+    fn open_len(&self, path: &Path) -> usize
+        ensures { result ≡ open_size self.now path.now }
+    {
+        match self.open_text(path) {
+            Some(text) => text.len(),
+            None => 0,
+        }
+    }
+
+    /// Keeps another text of the document that is open at a path, in its version, with which there are so many bytes of texts.
+    fn swap_text(&mut self, path: &Path, text: KeptText, bytes: usize)
+        requires { IfSome (get self.old.opened path.now) (λ document. bytes ≡ byte_count (with_open self.old path.now (record { uri = document.uri; version = document.version; text = text }))) }
+        ensures { IfSome (get self.old.opened path.now) (λ document. self.new ≡ with_open self.old path.now (record { uri = document.uri; version = document.version; text = text })) }
+    {
+        if let Some(document) = self.opened.get_mut(path) {
+            document.set_text(text);
+            self.bytes = bytes;
+        }
     }
 
     /// Adds the paths that have a text on disk.
@@ -424,4 +568,14 @@ fn check_limits(files: u128, bytes: u128) -> Result<Counts, DocError>
         files: files as usize,
         bytes: bytes as usize,
     })
+}
+
+/// So many, if they have room in memory.
+fn counted(number: u128) -> Result<usize, AllocError>
+    ensures { IfOk result (λ count. count ≡ number) }
+{
+    if number > MOST_COUNTED {
+        return Err(AllocError);
+    }
+    Ok(number as usize)
 }

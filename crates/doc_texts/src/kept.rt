@@ -5,32 +5,35 @@ ghost use Rattle.doc_texts.specs.Limits.{longest_kept};
 
 use std::alloc::{AllocError, Global};
 use std::marker::Model;
+use std::rc::RcStr;
 
-/// A text of at most 4,290,772,992 bytes, as many as a text may have that is lexed. Contracts see it as its bytes.
+/// A text of at most 4,290,772,992 bytes, as many as a text may have that is lexed. It may be shared. Contracts see it as its
+/// bytes.
 #[derive(Debug, Drop)]
 pub(crate) struct KeptText {
-    text: String,
+    text: RcStr,
 }
 
 impl Model for KeptText {
     ghost use Rattle.std.specs.Prelude.{◌≤◌, ℕ, List, length};
-    ghost use Rattle.std.specs.String.{string_bytes};
+    ghost use Rattle.std.specs.Rc.{rc_str_bytes};
     ghost use Rattle.doc_texts.specs.Limits.{longest_kept};
 
     ghost Value = { List ℕ };
 
-    ghost view = { λ kept. string_bytes kept.text };
+    ghost view = { λ kept. rc_str_bytes kept.text };
 
-    ghost invariant = { λ kept. length (string_bytes kept.text) ≤ longest_kept };
+    ghost invariant = { λ kept. length (rc_str_bytes kept.text) ≤ longest_kept };
 }
 
 impl KeptText {
     /// This text.
-    pub(crate) fn from_string(text: String) -> KeptText
+    pub(crate) fn from_string(text: String) -> Result<KeptText, AllocError>
         requires { length (string_bytes text) ≤ longest_kept }
-        ensures { result ≡ string_bytes text }
+        ensures { IfOk result (λ kept. kept ≡ string_bytes text) }
     {
-        KeptText { text }
+        let text = RcStr::from_string(text)?;
+        Ok(KeptText { text })
     }
 
     /// A copy of this text.
@@ -38,7 +41,15 @@ impl KeptText {
         requires { length text.now ≤ longest_kept }
         ensures { IfOk result (λ kept. kept ≡ text.now) }
     {
-        let text = String::from_str(alloc, text)?;
+        let text = RcStr::from_str(alloc, text)?;
+        Ok(KeptText { text })
+    }
+
+    /// The same text, shared. It takes no memory but may be refused where the text is shared 2^64 times.
+    pub(crate) fn share(&self) -> Result<KeptText, AllocError>
+        ensures { IfOk result (λ copy. copy ≡ self.now) }
+    {
+        let text = self.text.clone()?;
         Ok(KeptText { text })
     }
 
@@ -47,27 +58,27 @@ impl KeptText {
         ensures text { result.now ≡ self.now }
         ensures short { length self.now ≤ longest_kept }
     {
-        self.text.as_str()
+        &self.text
     }
 }
 
 /// An open document. Contracts see it as an `OpenText`.
 #[derive(Debug, Drop)]
 pub(crate) struct OpenDoc {
-    uri: String,
+    uri: RcStr,
     version: i32,
     text: KeptText,
 }
 
 impl Model for OpenDoc {
-    ghost use Rattle.std.specs.String.{string_bytes};
+    ghost use Rattle.std.specs.Rc.{rc_str_bytes};
     ghost use Rattle.doc_texts.specs.Texts.{OpenText, document_code};
 
     ghost Value = { OpenText };
 
     ghost coded = { document_code };
 
-    ghost view = { λ document. record { uri = string_bytes document.uri; version = document.version; text = document.text } };
+    ghost view = { λ document. record { uri = rc_str_bytes document.uri; version = document.version; text = document.text } };
 }
 
 impl OpenDoc {
@@ -81,9 +92,22 @@ impl OpenDoc {
         requires { length text.now ≤ longest_kept }
         ensures { IfOk result (λ document. document ≡ record { uri = uri.now; version = version; text = text.now }) }
     {
-        let uri = String::from_str(alloc, uri)?;
+        let uri = RcStr::from_str(alloc, uri)?;
         let text = KeptText::from_str(alloc, text)?;
         Ok(OpenDoc { uri, version, text })
+    }
+
+    /// The same document, its URI and its text shared. It takes no memory but may be refused where these are shared 2^64 times.
+    pub(crate) fn share(&self) -> Result<OpenDoc, AllocError>
+        ensures { IfOk result (λ copy. copy ≡ self.now) }
+    {
+        let uri = self.uri.clone()?;
+        let text = self.text.share()?;
+        Ok(OpenDoc {
+            uri,
+            version: self.version,
+            text,
+        })
     }
 
     /// The text.
@@ -105,7 +129,7 @@ impl OpenDoc {
     pub(crate) fn uri(&self) -> &str
         ensures { result.now ≡ self.now.uri }
     {
-        self.uri.as_str()
+        &self.uri
     }
 
     /// Another text, with its version.
@@ -113,6 +137,13 @@ impl OpenDoc {
         ensures { self.new ≡ record { uri = self.old.uri; version = version; text = text } }
     {
         self.version = version;
+        self.text = text;
+    }
+
+    /// Another text, with the version that there is.
+    pub(crate) fn set_text(&mut self, text: KeptText)
+        ensures { self.new ≡ record { uri = self.old.uri; version = self.old.version; text = text } }
+    {
         self.text = text;
     }
 }

@@ -1,10 +1,12 @@
 // What changes of the texts leave, as laws of the definitions.
-ghost use Rattle.std.specs.Prelude.{◌≡◌, ◌≢◌, ℕ, List, Some, None, is_some, bytes_eq};
+ghost use Rattle.std.specs.Prelude.{◌≡◌, ◌≢◌, ℕ, List, Some, None, option_map, is_some, bytes_eq};
 ghost use Rattle.std.specs.Cmp.Lexicographic.{slice_cmp};
 ghost use Rattle.std.specs.FinMap.{get};
-ghost use Rattle.std.specs.List.{list_any};
+ghost use Rattle.std.specs.List.{list_any, AllByRecursion};
 ghost use Rattle.std.specs.List.Sorted.{IsStrictlySortedBy};
 ghost use Rattle.std.specs.Ordering.{nat_cmp};
+ghost use Rattle.doc_texts.specs.Edited.{renamed, edited, AreApart};
+ghost use Rattle.doc_texts.specs.declared.ranges.TextEdits.{TextEdits};
 ghost use Rattle.doc_texts.specs.Texts.{Texts, OpenText, shown, text_at, version_at, uri_at, path_set, paths_of, with_disk, without_disk, with_open, without_open};
 
 /// A law of the definitions, which has nothing to run: what the text at a path is after each change, at its path and at others.
@@ -39,4 +41,15 @@ pub fn paths_are_sets()
     ensures set_ascends { (paths : List (List ℕ)) → IsStrictlySortedBy (slice_cmp nat_cmp) (path_set paths) }
     ensures members { (t : Texts) (q : List ℕ) → list_any (bytes_eq q) (paths_of t) ≡ is_some (text_at t q) }
     ensures ascends { (t : Texts) → IsStrictlySortedBy (slice_cmp nat_cmp) (paths_of t) }
+{}
+
+/// A law of the definitions, which has nothing to run: what edits leave at each path. A text whose path has edits is the one that
+/// stood there with its ranges replaced, all others are what they were, the same paths have a text, and the same documents are
+/// open, with their versions and URIs.
+pub fn edits_follow()
+    ensures made { (t : Texts) (edits : List TextEdits) (name : List ℕ) → AreApart edits → AllByRecursion (λ e. text_at (edited t edits name) e.path ≡ option_map (renamed name e.ranges.items) (text_at t e.path)) edits }
+    ensures others { (t : Texts) (edits : List TextEdits) (name q : List ℕ) → AllByRecursion (λ e. q ≢ e.path) edits → text_at (edited t edits name) q ≡ text_at t q }
+    ensures held { (t : Texts) (edits : List TextEdits) (name q : List ℕ) → is_some (text_at (edited t edits name) q) ≡ is_some (text_at t q) }
+    ensures version { (t : Texts) (edits : List TextEdits) (name q : List ℕ) → version_at (edited t edits name) q ≡ version_at t q }
+    ensures uri { (t : Texts) (edits : List TextEdits) (name q : List ℕ) → uri_at (edited t edits name) q ≡ uri_at t q }
 {}

@@ -2,15 +2,18 @@
 #![tactic(auto)]
 
 mod changes;
+mod copies;
 mod docs;
 mod error;
 mod kept;
 mod laws;
 mod path_set;
 mod prior;
+mod ranges;
 
 pub use docs::Docs;
 pub use error::DocError;
-pub use laws::{documents_follow, paths_are_sets, texts_follow};
+pub use laws::{documents_follow, edits_follow, paths_are_sets, texts_follow};
 pub use path_set::PathSet;
 pub use prior::PriorTexts;
+pub use ranges::{ByteRange, TextEdits};
