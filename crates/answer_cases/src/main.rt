@@ -6,12 +6,15 @@
 //   locations ID, symbols ID                             the tokens that there are
 //   hover ID LINE CHARACTER LINE CHARACTER TEXT          plain text about a range
 //   renamable ID LINE CHARACTER LINE CHARACTER NAME      a name that may be renamed
+//   edits ID NAME                                        the tokens that there are get a name
 #![tactic(auto)]
 
 ghost use Rattle.std.specs.Prelude.{OnOk};
 
 use json_view::Id;
-use lsp_answers::{JsonText, Located, hover, locations, renamable, response, response_of, symbols};
+use lsp_answers::{
+    JsonText, Located, edits, hover, locations, renamable, response, response_of, symbols,
+};
 use shared_text::Name;
 use std::alloc::Global;
 use std::io;
@@ -106,6 +109,17 @@ fn show_renamable(rt: &HostRuntime, words: &mut SplitWhitespace<'_>) -> io::Resu
     show(rt, message)
 }
 
+fn show_edits(
+    rt: &HostRuntime,
+    toks: &[Located],
+    words: &mut SplitWhitespace<'_>,
+) -> io::Result<()> {
+    let id = number(words);
+    let name = words.next().unwrap_or("");
+    let answer = edits(rt.alloc(), toks, name)?;
+    show_listed(rt, id, answer)
+}
+
 fn answer(rt: &HostRuntime, toks: &mut Vec<Located>, line: &str) -> io::Result<()> {
     let mut words = line.split_whitespace();
     match words.next().unwrap_or("") {
@@ -128,6 +142,7 @@ fn answer(rt: &HostRuntime, toks: &mut Vec<Located>, line: &str) -> io::Result<(
         }
         "hover" => show_hover(rt, &mut words),
         "renamable" => show_renamable(rt, &mut words),
+        "edits" => show_edits(rt, toks.as_slice(), &mut words),
         _ => {
             println!(rt; "no question")?;
             Ok(())

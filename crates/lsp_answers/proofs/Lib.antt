@@ -1,4 +1,5 @@
 pub mod Floats
 pub mod Frames
 pub mod Listing
+pub mod Renaming
 pub mod Responding

@@ -1,4 +1,5 @@
 pub mod Located
 pub mod Places
+pub mod Renames
 pub mod Replies
 pub mod Ties

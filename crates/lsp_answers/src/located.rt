@@ -68,7 +68,7 @@ fn element_text(alloc: Global, form: Form, tok: &Located) -> Result<String, Allo
     value.to_string(alloc)
 }
 
-fn push_comma_if(body: &mut String, later: bool) -> Result<(), AllocError>
+pub(crate) fn push_comma_if(body: &mut String, later: bool) -> Result<(), AllocError>
     ensures { OnOk result (string_bytes body.new ≡ string_bytes body.old ++ comma_if later) }
 {
     if later {
