@@ -3,8 +3,8 @@ use Rattle.std.proofs.Common.{◌≡◌, ap, sym, ◌∙◌, subst, ℕ, ◌+◌
 use Rattle.tree_data.specs.Trees.{Tree, Name_of, Constant_of, Text_of, Paren_of, Postfix_of, Unary_of, Binary_of, Conditional_of, Assign_of, Of_type, Compound_of, Behind, Operand_of, Index_of, Call_of, Call_with_of, Member_of, Step_of, Behinds, None_behind, Behind_then, Front, Operator_of, Cast_of, Choice_of, Left_of, Fronts, None_before, Front_then, Braces, Braces_of, Initial, Value_of, List_of, Piece, Plain_of, Designated_of, Pieces, No_pieces, Piece_then, Designator, Element_of, Field_of, Designators, No_designators, Designator_then, Generic_of, Offset_of, Association, Typed_of, Default_of, Associations, No_associations, Association_then, Specifying, Word_of, Typedef_of, Tag_of, Atomic_of, Specifyings, No_specifiers, Specifier_then, Naming, Type_of, Declaring, Declaring_of, No_parameters, Fixed_of, Variadic_of, Names_of, Parameters, Row, No_more, Parameter_then, Named_of, Grouping, No_group, Group_of, Deriving, Array_of, Function_of, Derivings, No_derivings, Deriving_then, Bound, Unsized_of, Any_size_of, Sized_of, Static_sized_of, Sized_static_of}
 use Rattle.c_parser.specs.declared.kinds.Kind.{Kind}
 use Rattle.c_parser.specs.declared.kinds.Kind.TheVariants.{OpenBrace}
-use Rattle.c_parser.specs.Grammar.{IsFormed, IsBehind, AreBehind, IsInFront, AreInFront, GoOn, IsComma, AreBraced, IsInitial, IsPiece, ArePieces, IsDesignator, AreDesignators, IsAssociated, AreAssociated, has_type, IsSpecifying, AreSpecifying, IsNaming, AreParameters, AreMore, IsDeclaring, IsGrouping, IsDerived, AreDerived, IsBound, typed_by, hides}
-use Rattle.c_parser.specs.Kinds.{kind_at, level_at, is_prefix, is_size, casts_at, is_dot, is_member, specifies_at, named_by, grouped, behind_pointers, may_name}
+use Rattle.c_parser.specs.Grammar.{IsFormed, IsBehind, AreBehind, IsInFront, AreInFront, GoOn, IsComma, AreBraced, IsInitial, IsPiece, ArePieces, IsDesignator, AreDesignators, IsAssociated, AreAssociated, has_type, IsSpecifying, AreSpecifying, IsNaming, AreParameters, AreMore, IsDeclaring, IsGrouping, IsDerived, AreDerived, IsBound, typed_by, past}
+use Rattle.c_parser.specs.Kinds.{kind_at, level_at, is_prefix, is_size, casts_at, is_dot, is_member, specifies_at, named_by, grouped, behind_pointers, may_name, is_typedef}
 use Rattle.c_parser.specs.Levels.{behinds_level}
 use Rattle.c_parser.proofs.NameLists.{names_formed}
 use Rattle.c_parser.proofs.Types.{qualifiers_formed, pointers_formed}
@@ -145,7 +145,7 @@ mutual
 
   pub formed_specifying : (ks : List Kind) → (y : Bool) → (s : Specifying) → (a b : ℕ) → HoldSpecifying ks y s a b → IsSpecifying ks y s
   formed_specifying ks y (Word_of n) a b h = ap (λ x. specifies_at ks x) h.0 ∙ h.1
-  formed_specifying ks y (Typedef_of n) a b h = (h.1, ap (λ x. kind_at ks x) h.0 ∙ h.2)
+  formed_specifying ks y (Typedef_of n) a b h = (h.1, ap (λ x. is_typedef (kind_at ks x)) h.0 ∙ h.2)
   formed_specifying ks y (Tag_of k n) a b h = (ap (λ x. kind_at ks x) h.0 ∙ h.1, h.3)
   formed_specifying ks y (Atomic_of k o t c) a b h =
       (ap (λ x. kind_at ks x) h.0 ∙ h.1, h.3, formed_naming ks false t (o + 1) c h.4, h.5)
@@ -177,15 +177,15 @@ mutual
 
   pub formed_parameters : (ks : List Kind) → (ps : Parameters) → (a b : ℕ) → HoldParameters ks ps a b → AreParameters ks ps
   formed_parameters ks No_parameters a b h = tt
-  formed_parameters ks (Fixed_of p ps) a b h = (formed_naming ks true p a h.0 h.1, formed_row ks (hides ks p) ps h.0 b h.2)
+  formed_parameters ks (Fixed_of p ps) a b h = (formed_naming ks true p a h.0 h.1, formed_row (past ks p) ps h.0 b h.2)
   formed_parameters ks (Names_of n ns) a b h = (ap (λ x. kind_at ks x) h.0 ∙ h.1, names_formed ks ns (a + 1) b h.2)
   formed_parameters ks (Variadic_of p ps o d) a b h =
-      (formed_naming ks true p a h.0 h.1, formed_row ks (hides ks p) ps h.0 o h.2, h.3, h.5)
+      (formed_naming ks true p a h.0 h.1, formed_row (past ks p) ps h.0 o h.2, h.3, h.5)
 
-  pub formed_row : (ks : List Kind) → (z : Bool) → (ps : Row) → (a b : ℕ) → HoldRow ks z ps a b → AreMore ks z ps
-  formed_row ks z No_more a b h = tt
-  formed_row ks z (Parameter_then o p ps) a b h =
-      (ap (λ x. kind_at ks x) h.1 ∙ h.2, formed_naming ks true p (a + 1) h.0 h.3, formed_row ks (hides ks p) ps h.0 b h.4, h.5)
+  pub formed_row : (ks : List Kind) → (ps : Row) → (a b : ℕ) → HoldRow ks ps a b → AreMore ks ps
+  formed_row ks No_more a b h = tt
+  formed_row ks (Parameter_then o p ps) a b h =
+      (ap (λ x. kind_at ks x) h.1 ∙ h.2, formed_naming ks true p (a + 1) h.0 h.3, formed_row (past ks p) ps h.0 b h.4)
 
   pub formed_derivings : (ks : List Kind) → (ds : Derivings) → (a b : ℕ) → HoldDerivings ks ds a b → AreDerived ks ds
   formed_derivings ks No_derivings a b h = tt

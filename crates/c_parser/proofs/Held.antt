@@ -3,8 +3,8 @@ use Rattle.std.proofs.Common.{◌≡◌, ap, sym, ◌∙◌, subst, ℕ, ◌+◌
 use Rattle.tree_data.specs.Trees.{Tree, Name_of, Constant_of, Text_of, Paren_of, Postfix_of, Unary_of, Binary_of, Conditional_of, Assign_of, Of_type, Compound_of, Behind, Operand_of, Index_of, Call_of, Call_with_of, Member_of, Step_of, Behinds, None_behind, Behind_then, Front, Operator_of, Cast_of, Choice_of, Left_of, Fronts, None_before, Front_then, Braces, Braces_of, Initial, Value_of, List_of, Piece, Plain_of, Designated_of, Pieces, No_pieces, Piece_then, Designator, Element_of, Field_of, Designators, No_designators, Designator_then, Generic_of, Offset_of, Association, Typed_of, Default_of, Associations, No_associations, Association_then, Specifying, Word_of, Typedef_of, Tag_of, Atomic_of, Specifyings, No_specifiers, Specifier_then, Naming, Type_of, Declaring, Declaring_of, No_parameters, Fixed_of, Variadic_of, Names_of, Parameters, Row, No_more, Parameter_then, Named_of, Grouping, No_group, Group_of, Deriving, Array_of, Function_of, Derivings, No_derivings, Deriving_then, Bound, Unsized_of, Any_size_of, Sized_of, Static_sized_of, Sized_static_of}
 use Rattle.c_parser.specs.declared.kinds.Kind.{Kind}
 use Rattle.c_parser.specs.declared.kinds.Kind.TheVariants.{Text, OpenBrace}
-use Rattle.c_parser.specs.Grammar.{spell, spell_behind, spell_behinds, spell_front, spell_fronts, IsFormed, IsBehind, AreBehind, IsInFront, AreInFront, GoOn, spell_comma, spell_braces, spell_initial, spell_piece, spell_pieces, spell_designator, spell_designators, IsComma, AreBraced, IsInitial, IsPiece, ArePieces, IsDesignator, AreDesignators, spell_association, spell_associations, IsAssociated, AreAssociated, spell_specifying, spell_specifyings, spell_type, spell_declaring, spell_grouping, spell_deriving, spell_derivings, spell_bound, has_type, IsSpecifying, AreSpecifying, IsNaming, AreParameters, AreMore, spell_parameters, spell_row, IsDeclaring, IsGrouping, IsDerived, AreDerived, IsBound, typed_by, hides}
-use Rattle.c_parser.specs.Kinds.{kind_at, level_at, is_prefix, is_size, casts_at, is_dot, is_member, specifies_at, named_by, grouped, behind_pointers, may_name}
+use Rattle.c_parser.specs.Grammar.{spell, spell_behind, spell_behinds, spell_front, spell_fronts, IsFormed, IsBehind, AreBehind, IsInFront, AreInFront, GoOn, spell_comma, spell_braces, spell_initial, spell_piece, spell_pieces, spell_designator, spell_designators, IsComma, AreBraced, IsInitial, IsPiece, ArePieces, IsDesignator, AreDesignators, spell_association, spell_associations, IsAssociated, AreAssociated, spell_specifying, spell_specifyings, spell_type, spell_declaring, spell_grouping, spell_deriving, spell_derivings, spell_bound, has_type, IsSpecifying, AreSpecifying, IsNaming, AreParameters, AreMore, spell_parameters, spell_row, IsDeclaring, IsGrouping, IsDerived, AreDerived, IsBound, typed_by, past}
+use Rattle.c_parser.specs.Kinds.{kind_at, level_at, is_prefix, is_size, casts_at, is_dot, is_member, specifies_at, named_by, grouped, behind_pointers, may_name, is_typedef}
 use Rattle.c_parser.specs.Levels.{behinds_level}
 use Rattle.c_parser.specs.Declarators.{spell_pointers}
 use Rattle.c_parser.proofs.Numbers.{Spans, spans_split}
@@ -291,7 +291,7 @@ mutual
   pub held_specifying : (ks : List Kind) → (y : Bool) → (x : Specifying) → (a b : ℕ) → IsSpecifying ks y x → Spans (spell_specifying x) a b
       → HoldSpecifying ks y x a b
   held_specifying ks y (Word_of n) a b f s = (s.0, ap (λ x. specifies_at ks x) (sym s.0) ∙ f, s.1)
-  held_specifying ks y (Typedef_of n) a b f s = (s.0, f.0, ap (λ x. kind_at ks x) (sym s.0) ∙ f.1, s.1)
+  held_specifying ks y (Typedef_of n) a b f s = (s.0, f.0, ap (λ x. is_typedef (kind_at ks x)) (sym s.0) ∙ f.1, s.1)
   held_specifying ks y (Tag_of k n) a b f s =
       (s.0, ap (λ x. kind_at ks x) (sym s.0) ∙ f.0, s.1.0, f.1, s.1.1 ∙ ap (λ x. x + 1) (sym s.1.0))
   held_specifying ks y (Atomic_of k o t c) a b f s =
@@ -369,7 +369,7 @@ mutual
   held_parameters ks No_parameters a b f s = s
   held_parameters ks (Fixed_of p ps) a b f s =
       let r = spans_split (spell_type p) (spell_row ps) a b s in
-      (r.at, held_naming ks true p a r.at f.0 r.front, held_row ks (hides ks p) ps r.at b f.1 r.back)
+      (r.at, held_naming ks true p a r.at f.0 r.front, held_row (past ks p) ps r.at b f.1 r.back)
   held_parameters ks (Names_of n ns) a b f s =
       (s.0, ap (λ x. kind_at ks x) (sym s.0) ∙ f.0, names_held ks ns (a + 1) b f.1 s.1)
   held_parameters ks (Variadic_of p ps o d) a b f s =
@@ -377,23 +377,22 @@ mutual
       let q = spans_split (spell_row ps) (o ∷ d ∷ []) r.at b r.back in (
         r.at,
         held_naming ks true p a r.at f.0 r.front,
-        subst (λ x. HoldRow ks (hides ks p) ps r.at x) (sym q.back.0) (held_row ks (hides ks p) ps r.at q.at f.1 q.front),
+        subst (λ x. HoldRow (past ks p) ps r.at x) (sym q.back.0) (held_row (past ks p) ps r.at q.at f.1 q.front),
         f.2,
         q.back.1.0 ∙ ap (λ x. x + 1) (sym q.back.0),
         f.3,
         q.back.1.1 ∙ ap (λ x. x + 1) (sym q.back.1.0),
       )
 
-  pub held_row : (ks : List Kind) → (z : Bool) → (ps : Row) → (a b : ℕ) → AreMore ks z ps → Spans (spell_row ps) a b → HoldRow ks z ps a b
-  held_row ks z No_more a b f s = s
-  held_row ks z (Parameter_then o p ps) a b f s =
+  pub held_row : (ks : List Kind) → (ps : Row) → (a b : ℕ) → AreMore ks ps → Spans (spell_row ps) a b → HoldRow ks ps a b
+  held_row ks No_more a b f s = s
+  held_row ks (Parameter_then o p ps) a b f s =
       let r = spans_split (spell_type p) (spell_row ps) (a + 1) b s.1 in (
         r.at,
         s.0,
         ap (λ x. kind_at ks x) (sym s.0) ∙ f.0,
         held_naming ks true p (a + 1) r.at f.1 r.front,
-        held_row ks (hides ks p) ps r.at b f.2 r.back,
-        f.3,
+        held_row (past ks p) ps r.at b f.2 r.back,
       )
 
   pub held_derivings : (ks : List Kind) → (ds : Derivings) → (a b : ℕ) → AreDerived ks ds → Spans (spell_derivings ds) a b → HoldDerivings ks ds a b

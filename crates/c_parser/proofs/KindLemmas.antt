@@ -1,13 +1,13 @@
 -- The kinds of tokens under two tests that agree.
-use Rattle.std.proofs.Common.{◌≡◌, refl, ap, ◌∙◌, ℕ, List, [], ◌∷◌, map, Bool}
+use Rattle.std.proofs.Common.{◌≡◌, refl, ap, ◌∙◌, ℕ, List, [], ◌∷◌, map, Option}
 use Rattle.tok_data.specs.declared.tokens.OutToken.{OutToken}
 use Rattle.tok_data.specs.declared.tokens.PpKind.{PpKind}
 use Rattle.tok_data.specs.declared.tokens.PpKind.TheVariants as pp
 use Rattle.c_parser.specs.Tokens.{kind_of, pp_kind_of, word_of}
 
-same_kind : (f g : List ℕ → Bool) → ((text : List ℕ) → f text ≡ g text) → (k : PpKind) → (text : List ℕ)
+same_kind : (f g : List ℕ → Option ℕ) → ((text : List ℕ) → f text ≡ g text) → (k : PpKind) → (text : List ℕ)
     → pp_kind_of f k text ≡ pp_kind_of g k text
-same_kind f g h pp.Ident text = ap (λ b. word_of b text) (h text)
+same_kind f g h pp.Ident text = ap (λ o. word_of o text) (h text)
 same_kind f g h pp.Number text = refl
 same_kind f g h pp.Char text = refl
 same_kind f g h pp.Str text = refl
@@ -15,7 +15,7 @@ same_kind f g h pp.Header text = refl
 same_kind f g h pp.Punct text = refl
 same_kind f g h pp.Stray text = refl
 
-pub same_kinds : (f g : List ℕ → Bool) → ((text : List ℕ) → f text ≡ g text) → (ts : List OutToken)
+pub same_kinds : (f g : List ℕ → Option ℕ) → ((text : List ℕ) → f text ≡ g text) → (ts : List OutToken)
     → map (kind_of f) ts ≡ map (kind_of g) ts
 same_kinds f g h [] = refl
 same_kinds f g h (t ∷ ts) =

@@ -4,6 +4,7 @@ mod Forth
 mod Fronts
 mod Generics
 mod Held
+mod Hiding
 mod Initials
 mod Joins
 mod KindLemmas
@@ -17,6 +18,7 @@ mod ParameterLists
 mod Parsing
 mod Pushes
 mod SameParts
+mod ScopeLemmas
 mod Spanned
 mod Spans
 mod SpecifierLists

@@ -7,7 +7,7 @@ use Rattle.c_parser.specs.Reading.{Stops}
 
 abbrev pub code_of : Kind → ℕ
 code_of Identifier = 1
-code_of TypeName = 2
+code_of (TypeName n) = 2
 code_of Constant = 3
 code_of Text = 4
 code_of OpenParen = 5
@@ -189,7 +189,7 @@ pub no_type : (k : Kind) → is_start k ≡ true → starts_type k ≡ false
 no_type TypeWord h = absurd (true≢false (sym h))
 no_type Qualifier h = absurd (true≢false (sym h))
 no_type Tag h = absurd (true≢false (sym h))
-no_type TypeName h = absurd (true≢false (sym h))
+no_type (TypeName n) h = absurd (true≢false (sym h))
 no_type Atomic h = absurd (true≢false (sym h))
 no_type Storage h = absurd (true≢false (sym h))
 no_type Static h = absurd (true≢false (sym h))

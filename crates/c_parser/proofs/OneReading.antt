@@ -376,7 +376,7 @@ mutual
   pub association_only : (ks : List Kind) → (x : Association) → (a b : ℕ) → From ks a → HoldsAssociation ks x a b → Stops ks 2 b
       → (x' : Association) → (b' : ℕ) → HoldsAssociation ks x' a b' → Stops ks 2 b' → (x ≡ x') × (b ≡ b')
   association_only ks (Typed_of t c e) a b w h s (Typed_of t' c' e') b' h' s' =
-      let one = w a (omega arith) false t c h.0 (ap ends_type h.1) t' c' h'.0 (ap ends_type h'.1) in
+      let one = w ks refl a (omega arith) false t c h.0 (ap ends_type h.1) t' c' h'.0 (ap ends_type h'.1) in
       let two =
       placed ks 2 e (c + 1) b (later ks a (c + 1) (omega (arith, type_forth ks t a c h.0)) w) (omega arith) (h.2, h.3) s (own_only ks e (c + 1) b (later ks a (c + 1) (omega (arith, type_forth ks t a c h.0)) w) h.3 (looser ks 2 (rank ks e) b h.2 s))
       e' b' (h'.2, subst (λ x. Holds ks e' (x + 1) b') (sym one.1) h'.3) s' in (

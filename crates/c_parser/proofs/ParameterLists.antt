@@ -14,19 +14,20 @@ use Rattle.c_parser.specs.TypeNames.{RowEnd, at_close, at_dots, FoundParameters,
 use Rattle.c_parser.proofs.Abstract.{OnlyParameters, FailsParameters}
 use Rattle.c_parser.proofs.Marks.{clash}
 use Rattle.c_parser.proofs.SpecifierLists.{FailsNaming}
-use Rattle.c_parser.proofs.TypeReading.{parameters_view, Parametered, none_told, some_told, Closing, fixed, variadic, row_ends, no_parameter, names_told, row_moved}
+use Rattle.c_parser.proofs.TypeReading.{parameters_view, Parametered, none_told, some_told, Closing, fixed, variadic, no_parameter, names_told, row_moved, past_ends}
 use Rattle.c_parser.proofs.Types.{naming_starts}
 use Rattle.c_parser.proofs.Words.{test_inside}
-use Rattle.c_parser.specs.Grammar.{hides}
+use Rattle.c_parser.specs.Grammar.{past, name_by}
+use Rattle.c_parser.proofs.Hiding.{hidden_length, row_end_kept, comma_kept, dots_was}
 
 abbrev pub OnlyParameter : List Kind → ℕ → Naming → ℕ → Type 0
 OnlyParameter ks a t c = (t' : Naming) → (c' : ℕ) → HoldsNaming ks true t' a c' → ends_type (kind_at ks c') ≡ true → (t ≡ t') × (c ≡ c')
 
-abbrev pub OnlyRow : List Kind → Bool → ℕ → Row → ℕ → Type 0
-OnlyRow ks z a ps c = (ps' : Row) → (c' : ℕ) → HoldRow ks z ps' a c' → RowEnd ks c' → (ps ≡ ps') × (c ≡ c')
+abbrev pub OnlyRow : List Kind → ℕ → Row → ℕ → Type 0
+OnlyRow ks a ps c = (ps' : Row) → (c' : ℕ) → HoldRow ks ps' a c' → RowEnd ks c' → (ps ≡ ps') × (c ≡ c')
 
-abbrev pub FailsRow : List Kind → Bool → ℕ → Stop → Type 0
-FailsRow ks z a e = (ps : Row) → (c : ℕ) → HoldRow ks z ps a c → RowEnd ks c → IsWant e
+abbrev pub FailsRow : List Kind → ℕ → Stop → Type 0
+FailsRow ks a e = (ps : Row) → (c : ℕ) → HoldRow ks ps a c → RowEnd ks c → IsWant e
 
 abbrev pub OnlyNames : List Kind → ℕ → List (ℕ × ℕ) → ℕ → Type 0
 OnlyNames ks a ns c = (ns' : List (ℕ × ℕ)) → (c' : ℕ) → HoldNames ks ns' a c' → kind_at ks c' ≡ CloseParen → (ns ≡ ns') × (c ≡ c')
@@ -38,37 +39,47 @@ row_snoc : (done : List (ℕ × Naming)) → (p : ℕ × Naming) → (more : Row
 row_snoc [] p more = refl
 row_snoc (x ∷ xs) p more = ap (λ y. Parameter_then x.0 x.1 y) (row_snoc xs p more)
 
-pub record RowLeft (ks : List Kind) (z : Bool) (done : List (ℕ × Naming)) (at : ℕ) (ps : Row) (m : ℕ) : Type 0 where
+pub record RowLeft (ks : List Kind) (done : List (ℕ × Naming)) (at : ℕ) (ps : Row) (m : ℕ) : Type 0 where
   pub left : Row
   pub is : ps ≡ row done left
-  pub holds : HoldRow ks z left at m
+  pub holds : HoldRow ks left at m
+  pub ends : RowEnd ks m
 
--- whether a name hides a typedef name: of the parameter in front of all of these, and of the last one
-pub record Rowing (ks : List Kind) (first : Bool) (start : ℕ) (done : List (ℕ × Naming)) (at : ℕ) (z : Bool) : Type 0 where
-  pub grows : (ps : Row) → (b : ℕ) → HoldRow ks z ps at b → HoldRow ks first (row done ps) start b
-  pub only : (ps : Row) → (b : ℕ) → HoldRow ks first ps start b → RowEnd ks b → RowLeft ks z done at ps b
+-- under the kinds of tokens in front of all of these, and those behind the last one
+pub record Rowing (first : List Kind) (start : ℕ) (done : List (ℕ × Naming)) (at : ℕ) (ks : List Kind) : Type 0 where
+  pub grows : (ps : Row) → (b : ℕ) → HoldRow ks ps at b → HoldRow first (row done ps) start b
+  pub only : (ps : Row) → (b : ℕ) → HoldRow first ps start b → RowEnd first b → RowLeft ks done at ps b
+  pub same : length ks ≡ length first
+  pub commas : (x : ℕ) → kind_at first x ≡ Comma → kind_at ks x ≡ Comma
+  pub dots : (x : ℕ) → kind_at ks x ≡ Ellipsis → kind_at first x ≡ Ellipsis
   pub forth : start ≤ at
   pub inside : at ≤ length ks
 
-pub rowing_start : (ks : List Kind) → (first : Bool) → (at : ℕ) → at ≤ length ks → Rowing ks first at [] at first
-rowing_start ks first at i = record {
+rowing_start : (ks : List Kind) → (at : ℕ) → at ≤ length ks → Rowing ks at [] at ks
+rowing_start ks at i = record {
   grows = λ ps b h. h;
-  only = λ ps b h e. record { left = ps; is = refl; holds = h };
+  only = λ ps b h e. record { left = ps; is = refl; holds = h; ends = e };
+  same = refl;
+  commas = λ x h. h;
+  dots = λ x h. h;
   forth = omega arith;
   inside = i;
 }
+
+pub rowing_start_with : (ks : List Kind) → (at : ℕ) → (items : List (ℕ × TypeName)) → items ≡ [] → at ≤ length ks → Rowing ks at (parameter_row_of items) at ks
+rowing_start_with ks at items is i = subst (λ xs. Rowing ks at (parameter_row_of xs) at ks) (sym is) (rowing_start ks at i)
 
 -- behind a comma in front of no `...` a parameter stands
 goes_on : {A : Type 0} → (ks : List Kind) → (at : ℕ) → kind_at ks at ≡ Comma → (kind_at ks (at + 1) ≡ Ellipsis → ⊥) → RowEnd ks at → A
 goes_on ks at k n (at_close e) = clash (kind_at ks at) Comma CloseParen k e (λ x. omega (arith, x))
 goes_on ks at k n (at_dots e d) = absurd (n d)
 
-left_turns : (ks : List Kind) → (z : Bool) → (done : List (ℕ × Naming)) → (at : ℕ) → kind_at ks at ≡ Comma → (kind_at ks (at + 1) ≡ Ellipsis → ⊥) → (p : Naming)
-    → (k : ℕ) → OnlyParameter ks (at + 1) p k → (w : Bool) → w ≡ hides ks p → (ps left : Row) → (m : ℕ) → ps ≡ row done left → HoldRow ks z left at m
-    → RowEnd ks m → RowLeft ks w (done ++ (at, p) ∷ []) k ps m
-left_turns ks z done at c n p k only w told ps No_more m is h e = goes_on ks at c n (subst (λ x. RowEnd ks x) h e)
-left_turns ks z done at c n p k only w told ps (Parameter_then o p' left) m is h e =
-    let one = only p' h.0 h.3 (row_ends ks (hides ks p') left h.0 m h.4 e) in
+left_turns : (ks : List Kind) → (done : List (ℕ × Naming)) → (at : ℕ) → kind_at ks at ≡ Comma → (kind_at ks (at + 1) ≡ Ellipsis → ⊥) → (p : Naming)
+    → (k : ℕ) → OnlyParameter ks (at + 1) p k → (ls : List Kind) → ls ≡ past ks p → (ps left : Row) → (m : ℕ) → ps ≡ row done left → HoldRow ks left at m
+    → RowEnd ks m → RowLeft ls (done ++ (at, p) ∷ []) k ps m
+left_turns ks done at c n p k only ls told ps No_more m is h e = goes_on ks at c n (subst (λ x. RowEnd ks x) h e)
+left_turns ks done at c n p k only ls told ps (Parameter_then o p' left) m is h e =
+    let one = only p' h.0 h.3 (past_ends ks p' left h.0 m h.4 e) in
     record {
       left = left;
       is =
@@ -76,79 +87,88 @@ left_turns ks z done at c n p k only w told ps (Parameter_then o p' left) m is h
           ∙ ap (λ x. row done (Parameter_then x p' left)) h.1
           ∙ ap (λ x. row done (Parameter_then at x left)) (sym one.0)
           ∙ sym (row_snoc done (at, p) left);
-      holds = subst (λ x. HoldRow ks x left k m) (sym told) (row_moved ks p p' one.0 left k h.0 m one.1 h.4);
+      holds = subst (λ x. HoldRow x left k m) (sym told) (row_moved ks p p' one.0 left k h.0 m one.1 h.4);
+      ends = subst (λ x. RowEnd x m) (sym told) (row_end_kept ks (name_by p) m e);
     }
 
-rowing_turn : (ks : List Kind) → (first : Bool) → (start : ℕ) → (done : List (ℕ × Naming)) → (at : ℕ) → (z : Bool) → (p : Naming) → (m : ℕ)
-    → Rowing ks first start done at z → kind_at ks at ≡ Comma → (kind_at ks (at + 1) ≡ Ellipsis → ⊥) → z ≡ false → FoundNaming ks true (at + 1) p m
-    → OnlyParameter ks (at + 1) p m → (w : Bool) → w ≡ hides ks p → Rowing ks first start (done ++ (at, p) ∷ []) m w
-rowing_turn ks first start done at z p m loop c n free found only w told =
+past_length : (ks ls : List Kind) → (p : Naming) → ls ≡ past ks p → length ls ≡ length ks
+past_length ks ls p told = ap (λ x. length x) told ∙ hidden_length ks (name_by p)
+
+rowing_turn : (first : List Kind) → (start : ℕ) → (done : List (ℕ × Naming)) → (at : ℕ) → (ks : List Kind) → (p : Naming) → (m : ℕ)
+    → Rowing first start done at ks → kind_at ks at ≡ Comma → (kind_at ks (at + 1) ≡ Ellipsis → ⊥) → FoundNaming ks true (at + 1) p m
+    → OnlyParameter ks (at + 1) p m → (ls : List Kind) → ls ≡ past ks p → Rowing first start (done ++ (at, p) ∷ []) m ls
+rowing_turn first start done at ks p m loop c n found only ls told =
     let one : start ≤ at = loop.forth in
     let two : at + 1 < m = found.forth in
+    let three : length ls ≡ length ks = past_length ks ls p told in
     record {
       grows = λ ps b h.
           subst
-          (λ xs. HoldRow ks first xs start b)
+          (λ xs. HoldRow first xs start b)
           (sym (row_snoc done (at, p) ps))
-          (loop.grows (Parameter_then at p ps) b (m, refl, c, found.reads, subst (λ x. HoldRow ks x ps m b) told h, free));
+          (loop.grows (Parameter_then at p ps) b (m, refl, c, found.reads, subst (λ x. HoldRow x ps m b) told h));
       only = λ ps b h e.
           let a = loop.only ps b h e in
-          left_turns ks z done at c n p m only w told ps a.left b a.is a.holds e;
+          left_turns ks done at c n p m only ls told ps a.left b a.is a.holds a.ends;
+      same = three ∙ loop.same;
+      commas = λ x h. subst (λ y. kind_at y x ≡ Comma) (sym told) (comma_kept ks (name_by p) x (loop.commas x h));
+      dots = λ x h. loop.dots x (dots_was ks (name_by p) x (subst (λ y. kind_at y x ≡ Ellipsis) told h));
       forth = omega arith;
-      inside = found.inside;
+      inside = subst (λ x. m ≤ x) (sym three) found.inside;
     }
 
-pub parameter_row_push : (ks : List Kind) → (first : Bool) → (start : ℕ) → (items more : List (ℕ × TypeName)) → (at : ℕ) → (z : Bool) → (t : TypeName)
-    → (m : ℕ) → Rowing ks first start (parameter_row_of items) at z → kind_at ks at ≡ Comma → (kind_at ks (at + 1) ≡ Ellipsis → ⊥) → z ≡ false
-    → FoundNaming ks true (at + 1) (type_of t) m → OnlyParameter ks (at + 1) (type_of t) m → (w : Bool) → w ≡ hides ks (type_of t)
-    → more ≡ items ++ (at, t) ∷ [] → Rowing ks first start (parameter_row_of more) m w
-parameter_row_push ks first start items more at z t m loop c n free found only w told grown =
+pub parameter_row_push : (first : List Kind) → (start : ℕ) → (items more : List (ℕ × TypeName)) → (at : ℕ) → (ks : List Kind) → (t : TypeName)
+    → (m : ℕ) → Rowing first start (parameter_row_of items) at ks → kind_at ks at ≡ Comma → (kind_at ks (at + 1) ≡ Ellipsis → ⊥)
+    → FoundNaming ks true (at + 1) (type_of t) m → OnlyParameter ks (at + 1) (type_of t) m → (ls : List Kind) → ls ≡ past ks (type_of t)
+    → more ≡ items ++ (at, t) ∷ [] → Rowing first start (parameter_row_of more) m ls
+parameter_row_push first start items more at ks t m loop c n found only ls told grown =
     subst
-    (λ xs. Rowing ks first start xs m w)
+    (λ xs. Rowing first start xs m ls)
     (sym (ap parameter_row_of grown ∙ map-append (λ p. (p.0, type_of p.1)) items ((at, t) ∷ [])))
-    (rowing_turn ks first start (parameter_row_of items) at z (type_of t) m loop c n free found only w told)
+    (rowing_turn first start (parameter_row_of items) at ks (type_of t) m loop c n found only ls told)
 
-pub parameter_row_found : (ks : List Kind) → (first : Bool) → (start : ℕ) → (done : List (ℕ × Naming)) → (at : ℕ) → (z : Bool)
-    → Rowing ks first start done at z → (kind_at ks at ≡ Comma → kind_at ks (at + 1) ≡ Ellipsis) → FoundRow ks first start (row done No_more) at
-parameter_row_found ks first start done at z loop d =
-    record { reads = loop.grows No_more at refl; dots = d; forth = loop.forth; inside = loop.inside }
+pub parameter_row_found : (first : List Kind) → (start : ℕ) → (done : List (ℕ × Naming)) → (at : ℕ) → (ks : List Kind) → Rowing first start done at ks
+    → (kind_at ks at ≡ Comma → kind_at ks (at + 1) ≡ Ellipsis) → FoundRow first start (row done No_more) at
+parameter_row_found first start done at ks loop d =
+    record {
+      reads = loop.grows No_more at refl;
+      dots = λ e. loop.dots (at + 1) (d (loop.commas at e));
+      forth = loop.forth;
+      inside = subst (λ x. at ≤ x) loop.same loop.inside;
+    }
 
-no_more_left : (ks : List Kind) → (z : Bool) → (done : List (ℕ × Naming)) → (at : ℕ) → (kind_at ks at ≡ Comma → kind_at ks (at + 1) ≡ Ellipsis)
-    → (ps left : Row) → (m : ℕ) → ps ≡ row done left → HoldRow ks z left at m → (row done No_more ≡ ps) × (at ≡ m)
-no_more_left ks z done at d ps No_more m is h = (sym is, sym h)
-no_more_left ks z done at d ps (Parameter_then o p left) m is h =
+-- the same under a list that is equal
+pub row_found_under : (first ks : List Kind) → first ≡ ks → (a : ℕ) → (ps : Row) → (b : ℕ) → FoundRow first a ps b → FoundRow ks a ps b
+row_found_under first ks is a ps b found = subst (λ x. FoundRow x a ps b) is found
+
+pub row_only_under : (first ks : List Kind) → first ≡ ks → (a : ℕ) → (ps : Row) → (b : ℕ) → OnlyRow first a ps b → OnlyRow ks a ps b
+row_only_under first ks is a ps b only = subst (λ x. OnlyRow x a ps b) is only
+
+pub row_fails_under : (first ks : List Kind) → first ≡ ks → (a : ℕ) → (e : Stop) → FailsRow first a e → FailsRow ks a e
+row_fails_under first ks is a e fails = subst (λ x. FailsRow x a e) is fails
+
+no_more_left : (ks : List Kind) → (done : List (ℕ × Naming)) → (at : ℕ) → (kind_at ks at ≡ Comma → kind_at ks (at + 1) ≡ Ellipsis)
+    → (ps left : Row) → (m : ℕ) → ps ≡ row done left → HoldRow ks left at m → (row done No_more ≡ ps) × (at ≡ m)
+no_more_left ks done at d ps No_more m is h = (sym is, sym h)
+no_more_left ks done at d ps (Parameter_then o p left) m is h =
     absurd (true≢false (sym (naming_starts ks true p (at + 1) h.0 h.3) ∙ ap starts_type (d h.2)))
 
-pub parameter_row_same : (ks : List Kind) → (first : Bool) → (start : ℕ) → (done : List (ℕ × Naming)) → (at : ℕ) → (z : Bool)
-    → Rowing ks first start done at z → (kind_at ks at ≡ Comma → kind_at ks (at + 1) ≡ Ellipsis) → OnlyRow ks first start (row done No_more) at
-parameter_row_same ks first start done at z loop d ps m h e =
+pub parameter_row_same : (first : List Kind) → (start : ℕ) → (done : List (ℕ × Naming)) → (at : ℕ) → (ks : List Kind) → Rowing first start done at ks
+    → (kind_at ks at ≡ Comma → kind_at ks (at + 1) ≡ Ellipsis) → OnlyRow first start (row done No_more) at
+parameter_row_same first start done at ks loop d ps m h e =
     let a = loop.only ps m h e in
-    no_more_left ks z done at d ps a.left m a.is a.holds
+    no_more_left ks done at d ps a.left m a.is a.holds
 
-stop_left : (ks : List Kind) → (z : Bool) → (at : ℕ) → kind_at ks at ≡ Comma → (kind_at ks (at + 1) ≡ Ellipsis → ⊥) → (e : Stop)
-    → FailsNaming ks true (at + 1) e → (left : Row) → (m : ℕ) → HoldRow ks z left at m → RowEnd ks m → IsWant e
-stop_left ks z at c n e fails No_more m h f = goes_on ks at c n (subst (λ x. RowEnd ks x) h f)
-stop_left ks z at c n e fails (Parameter_then o p left) m h f = fails p h.0 h.3 (row_ends ks (hides ks p) left h.0 m h.4 f)
+stop_left : (ks : List Kind) → (at : ℕ) → kind_at ks at ≡ Comma → (kind_at ks (at + 1) ≡ Ellipsis → ⊥) → (e : Stop) → FailsNaming ks true (at + 1) e
+    → (left : Row) → (m : ℕ) → HoldRow ks left at m → RowEnd ks m → IsWant e
+stop_left ks at c n e fails No_more m h f = goes_on ks at c n (subst (λ x. RowEnd ks x) h f)
+stop_left ks at c n e fails (Parameter_then o p left) m h f = fails p h.0 h.3 (past_ends ks p left h.0 m h.4 f)
 
-pub parameter_row_fails : (ks : List Kind) → (first : Bool) → (start : ℕ) → (done : List (ℕ × Naming)) → (at : ℕ) → (z : Bool)
-    → Rowing ks first start done at z → kind_at ks at ≡ Comma → (kind_at ks (at + 1) ≡ Ellipsis → ⊥) → (e : Stop) → FailsNaming ks true (at + 1) e
-    → FailsRow ks first start e
-parameter_row_fails ks first start done at z loop c n e fails ps m h f =
+pub parameter_row_fails : (first : List Kind) → (start : ℕ) → (done : List (ℕ × Naming)) → (at : ℕ) → (ks : List Kind) → Rowing first start done at ks
+    → kind_at ks at ≡ Comma → (kind_at ks (at + 1) ≡ Ellipsis → ⊥) → (e : Stop) → FailsNaming ks true (at + 1) e → FailsRow first start e
+parameter_row_fails first start done at ks loop c n e fails ps m h f =
     let a = loop.only ps m h f in
-    stop_left ks z at c n e fails a.left m a.holds f
-
--- behind a name that hides a typedef name no parameter stands
-hidden_left : (ks : List Kind) → (z : Bool) → (at : ℕ) → kind_at ks at ≡ Comma → (kind_at ks (at + 1) ≡ Ellipsis → ⊥) → z ≡ true → (left : Row) → (m : ℕ)
-    → HoldRow ks z left at m → RowEnd ks m → ⊥
-hidden_left ks z at c n t No_more m h f = goes_on ks at c n (subst (λ x. RowEnd ks x) h f)
-hidden_left ks z at c n t (Parameter_then o p left) m h f = true≢false (sym t ∙ h.5)
-
-pub parameter_row_hidden : (ks : List Kind) → (first : Bool) → (start : ℕ) → (done : List (ℕ × Naming)) → (at : ℕ) → (z : Bool)
-    → Rowing ks first start done at z → kind_at ks at ≡ Comma → (kind_at ks (at + 1) ≡ Ellipsis → ⊥) → z ≡ true → (k : ℕ)
-    → FailsRow ks first start (stop.Syntax k)
-parameter_row_hidden ks first start done at z loop c n t k ps m h f =
-    let a = loop.only ps m h f in
-    hidden_left ks z at c n t a.left m a.holds f
+    stop_left ks at c n e fails a.left m a.holds a.ends
 
 -- all of them
 none_by : (ks : List Kind) → (a : ℕ) → kind_at ks a ≡ CloseParen → (ps : Parameters) → (c : ℕ) → Parametered ks ps a c → (No_parameters ≡ ps) × (a ≡ c)
@@ -163,23 +183,27 @@ first_by : (ks : List Kind) → (a : ℕ) → (kind_at ks a ≡ CloseParen → �
     → kind_at ks c ≡ CloseParen → Parametered ks ps a c → IsWant e
 first_by ks a u s e fails ps c l (names_told ns i k h) = absurd (s k)
 first_by ks a u s e fails ps c l (none_told i f) = absurd (u (ap (λ x. kind_at ks x) (sym f) ∙ l))
-first_by ks a u s e fails ps c l (some_told p q m n h g z v) = fails p m h (row_ends ks (hides ks p) q m n g z)
+first_by ks a u s e fails ps c l (some_told p q m n h g z v) = fails p m h (past_ends ks p q m n g z)
 
 pub first_missing : (ks : List Kind) → (a : ℕ) → (kind_at ks a ≡ CloseParen → ⊥) → (kind_at ks a ≡ Identifier → ⊥) → (e : Stop) → FailsNaming ks true a e → FailsParameters ks a e
 first_missing ks a u s e fails ps c h l = first_by ks a u s e fails ps c l (parameters_view ks ps a c h l)
 
-rest_by : (ks : List Kind) → (a : ℕ) → (kind_at ks a ≡ CloseParen → ⊥) → (kind_at ks a ≡ Identifier → ⊥) → (t : Naming) → (k : ℕ) → OnlyParameter ks a t k → (w : Bool)
-    → w ≡ hides ks t → (e : Stop) → FailsRow ks w k e
+rest_by : (ks : List Kind) → (a : ℕ) → (kind_at ks a ≡ CloseParen → ⊥) → (kind_at ks a ≡ Identifier → ⊥) → (t : Naming) → (k : ℕ) → OnlyParameter ks a t k → (ls : List Kind)
+    → ls ≡ past ks t → (e : Stop) → FailsRow ls k e
     → (ps : Parameters) → (c : ℕ) → kind_at ks c ≡ CloseParen → Parametered ks ps a c → IsWant e
-rest_by ks a u s t k only w told e fails ps c l (names_told ns i l' h) = absurd (s l')
-rest_by ks a u s t k only w told e fails ps c l (none_told i f) = absurd (u (ap (λ x. kind_at ks x) (sym f) ∙ l))
-rest_by ks a u s t k only w told e fails ps c l (some_told p q m n h g z v) =
-    let same = only p m h (row_ends ks (hides ks p) q m n g z) in
-    fails q n (subst (λ x. HoldRow ks x q k n) (sym told) (row_moved ks t p same.0 q k m n same.1 g)) z
+rest_by ks a u s t k only ls told e fails ps c l (names_told ns i l' h) = absurd (s l')
+rest_by ks a u s t k only ls told e fails ps c l (none_told i f) = absurd (u (ap (λ x. kind_at ks x) (sym f) ∙ l))
+rest_by ks a u s t k only ls told e fails ps c l (some_told p q m n h g z v) =
+    let same = only p m h (past_ends ks p q m n g z) in
+    fails
+    q
+    n
+    (subst (λ x. HoldRow x q k n) (sym told) (row_moved ks t p same.0 q k m n same.1 g))
+    (subst (λ x. RowEnd x n) (sym told) (row_end_kept ks (name_by t) n z))
 
-pub rest_missing : (ks : List Kind) → (a : ℕ) → (kind_at ks a ≡ CloseParen → ⊥) → (kind_at ks a ≡ Identifier → ⊥) → (t : Naming) → (k : ℕ) → OnlyParameter ks a t k → (w : Bool)
-    → w ≡ hides ks t → (e : Stop) → FailsRow ks w k e → FailsParameters ks a e
-rest_missing ks a u s t k only w told e fails ps c h l = rest_by ks a u s t k only w told e fails ps c l (parameters_view ks ps a c h l)
+pub rest_missing : (ks : List Kind) → (a : ℕ) → (kind_at ks a ≡ CloseParen → ⊥) → (kind_at ks a ≡ Identifier → ⊥) → (t : Naming) → (k : ℕ) → OnlyParameter ks a t k → (ls : List Kind)
+    → ls ≡ past ks t → (e : Stop) → FailsRow ls k e → FailsParameters ks a e
+rest_missing ks a u s t k only ls told e fails ps c h l = rest_by ks a u s t k only ls told e fails ps c l (parameters_view ks ps a c h l)
 
 -- names alone
 names_by : (ks : List Kind) → (a : ℕ) → kind_at ks a ≡ Identifier → (ns : List (ℕ × ℕ)) → (b : ℕ) → OnlyNames ks (a + 1) ns b → (ps : Parameters)
@@ -216,29 +240,39 @@ dots_by : (ks : List Kind) → (ps : Parameters) → (p : Naming) → (q : Row) 
 dots_by ks ps p q n c k (fixed i f l) = clash (kind_at ks n) Comma CloseParen k l (λ x. omega (arith, x))
 dots_by ks ps p q n c k (variadic i f l) = (sym i, sym f)
 
-fixed_by : (ks : List Kind) → (a : ℕ) → (kind_at ks a ≡ CloseParen → ⊥) → (kind_at ks a ≡ Identifier → ⊥) → (t : Naming) → (k : ℕ) → OnlyParameter ks a t k → (w : Bool)
-    → w ≡ hides ks t → (r : Row) → (b : ℕ) → OnlyRow ks w k r b → (kind_at ks b ≡ Comma → ⊥) → (ps : Parameters) → (c : ℕ) → kind_at ks c ≡ CloseParen → Parametered ks ps a c
+fixed_by : (ks : List Kind) → (a : ℕ) → (kind_at ks a ≡ CloseParen → ⊥) → (kind_at ks a ≡ Identifier → ⊥) → (t : Naming) → (k : ℕ) → OnlyParameter ks a t k → (ls : List Kind)
+    → ls ≡ past ks t → (r : Row) → (b : ℕ) → OnlyRow ls k r b → (kind_at ks b ≡ Comma → ⊥) → (ps : Parameters) → (c : ℕ) → kind_at ks c ≡ CloseParen → Parametered ks ps a c
     → (Fixed_of t r ≡ ps) × (b ≡ c)
-fixed_by ks a u s t k only w told r b rest n ps c l (names_told ns i l' h) = absurd (s l')
-fixed_by ks a u s t k only w told r b rest n ps c l (none_told i f) = absurd (u (ap (λ x. kind_at ks x) (sym f) ∙ l))
-fixed_by ks a u s t k only w told r b rest n ps c l (some_told p q m o h g z v) =
-    let one = only p m h (row_ends ks (hides ks p) q m o g z) in
-    let two = rest q o (subst (λ x. HoldRow ks x q k o) (sym told) (row_moved ks t p one.0 q k m o one.1 g)) z in
+fixed_by ks a u s t k only ls told r b rest n ps c l (names_told ns i l' h) = absurd (s l')
+fixed_by ks a u s t k only ls told r b rest n ps c l (none_told i f) = absurd (u (ap (λ x. kind_at ks x) (sym f) ∙ l))
+fixed_by ks a u s t k only ls told r b rest n ps c l (some_told p q m o h g z v) =
+    let one = only p m h (past_ends ks p q m o g z) in
+    let two =
+    rest
+    q
+    o
+    (subst (λ x. HoldRow x q k o) (sym told) (row_moved ks t p one.0 q k m o one.1 g))
+    (subst (λ x. RowEnd x o) (sym told) (row_end_kept ks (name_by t) o z)) in
     let last = closed_by ks ps p q o c (λ e. n (ap (λ x. kind_at ks x) two.1 ∙ e)) v in
     (ap (λ x. Fixed_of x r) one.0 ∙ ap (λ x. Fixed_of p x) two.0 ∙ last.0, two.1 ∙ last.1)
 
-pub fixed_same : (ks : List Kind) → (a : ℕ) → (kind_at ks a ≡ CloseParen → ⊥) → (kind_at ks a ≡ Identifier → ⊥) → (t : Naming) → (k : ℕ) → OnlyParameter ks a t k → (w : Bool)
-    → w ≡ hides ks t → (r : Row) → (b : ℕ) → OnlyRow ks w k r b → (kind_at ks b ≡ Comma → ⊥) → OnlyParameters ks a (Fixed_of t r) b
-fixed_same ks a u s t k only w told r b rest n ps c h l = fixed_by ks a u s t k only w told r b rest n ps c l (parameters_view ks ps a c h l)
+pub fixed_same : (ks : List Kind) → (a : ℕ) → (kind_at ks a ≡ CloseParen → ⊥) → (kind_at ks a ≡ Identifier → ⊥) → (t : Naming) → (k : ℕ) → OnlyParameter ks a t k → (ls : List Kind)
+    → ls ≡ past ks t → (r : Row) → (b : ℕ) → OnlyRow ls k r b → (kind_at ks b ≡ Comma → ⊥) → OnlyParameters ks a (Fixed_of t r) b
+fixed_same ks a u s t k only ls told r b rest n ps c h l = fixed_by ks a u s t k only ls told r b rest n ps c l (parameters_view ks ps a c h l)
 
-variadic_by : (ks : List Kind) → (a : ℕ) → (kind_at ks a ≡ CloseParen → ⊥) → (kind_at ks a ≡ Identifier → ⊥) → (t : Naming) → (k : ℕ) → OnlyParameter ks a t k → (w : Bool)
-    → w ≡ hides ks t → (r : Row) → (b : ℕ) → OnlyRow ks w k r b → kind_at ks b ≡ Comma → (ps : Parameters) → (c : ℕ) → kind_at ks c ≡ CloseParen → Parametered ks ps a c
+variadic_by : (ks : List Kind) → (a : ℕ) → (kind_at ks a ≡ CloseParen → ⊥) → (kind_at ks a ≡ Identifier → ⊥) → (t : Naming) → (k : ℕ) → OnlyParameter ks a t k → (ls : List Kind)
+    → ls ≡ past ks t → (r : Row) → (b : ℕ) → OnlyRow ls k r b → kind_at ks b ≡ Comma → (ps : Parameters) → (c : ℕ) → kind_at ks c ≡ CloseParen → Parametered ks ps a c
     → (Variadic_of t r b (b + 1) ≡ ps) × (b + 2 ≡ c)
-variadic_by ks a u s t k only w told r b rest e ps c l (names_told ns i l' h) = absurd (s l')
-variadic_by ks a u s t k only w told r b rest e ps c l (none_told i f) = absurd (u (ap (λ x. kind_at ks x) (sym f) ∙ l))
-variadic_by ks a u s t k only w told r b rest e ps c l (some_told p q m o h g z v) =
-    let one = only p m h (row_ends ks (hides ks p) q m o g z) in
-    let two = rest q o (subst (λ x. HoldRow ks x q k o) (sym told) (row_moved ks t p one.0 q k m o one.1 g)) z in
+variadic_by ks a u s t k only ls told r b rest e ps c l (names_told ns i l' h) = absurd (s l')
+variadic_by ks a u s t k only ls told r b rest e ps c l (none_told i f) = absurd (u (ap (λ x. kind_at ks x) (sym f) ∙ l))
+variadic_by ks a u s t k only ls told r b rest e ps c l (some_told p q m o h g z v) =
+    let one = only p m h (past_ends ks p q m o g z) in
+    let two =
+    rest
+    q
+    o
+    (subst (λ x. HoldRow x q k o) (sym told) (row_moved ks t p one.0 q k m o one.1 g))
+    (subst (λ x. RowEnd x o) (sym told) (row_end_kept ks (name_by t) o z)) in
     let last = dots_by ks ps p q o c (ap (λ x. kind_at ks x) (sym two.1) ∙ e) v in (
       ap (λ x. Variadic_of x r b (b + 1)) one.0
           ∙ ap (λ x. Variadic_of p x b (b + 1)) two.0
@@ -247,32 +281,42 @@ variadic_by ks a u s t k only w told r b rest e ps c l (some_told p q m o h g z 
       ap (λ x. x + 2) two.1 ∙ last.1,
     )
 
-pub variadic_same : (ks : List Kind) → (a : ℕ) → (kind_at ks a ≡ CloseParen → ⊥) → (kind_at ks a ≡ Identifier → ⊥) → (t : Naming) → (k : ℕ) → OnlyParameter ks a t k → (w : Bool)
-    → w ≡ hides ks t → (r : Row) → (b : ℕ) → OnlyRow ks w k r b → kind_at ks b ≡ Comma → OnlyParameters ks a (Variadic_of t r b (b + 1)) (b + 2)
-variadic_same ks a u s t k only w told r b rest e ps c h l = variadic_by ks a u s t k only w told r b rest e ps c l (parameters_view ks ps a c h l)
+pub variadic_same : (ks : List Kind) → (a : ℕ) → (kind_at ks a ≡ CloseParen → ⊥) → (kind_at ks a ≡ Identifier → ⊥) → (t : Naming) → (k : ℕ) → OnlyParameter ks a t k → (ls : List Kind)
+    → ls ≡ past ks t → (r : Row) → (b : ℕ) → OnlyRow ls k r b → kind_at ks b ≡ Comma → OnlyParameters ks a (Variadic_of t r b (b + 1)) (b + 2)
+variadic_same ks a u s t k only ls told r b rest e ps c h l = variadic_by ks a u s t k only ls told r b rest e ps c l (parameters_view ks ps a c h l)
 
-pub fixed_found : (ks : List Kind) → (a : ℕ) → (t : Naming) → (k : ℕ) → FoundNaming ks true a t k → (w : Bool)
-    → w ≡ hides ks t → (r : Row) → (b : ℕ) → FoundRow ks w k r b
-    → FoundParameters ks a (Fixed_of t r) b
-fixed_found ks a t k x w told r b y =
+pub fixed_found : (ks : List Kind) → (a : ℕ) → (t : Naming) → (k : ℕ) → FoundNaming ks true a t k → (ls : List Kind)
+    → ls ≡ past ks t → (r : Row) → (b : ℕ) → FoundRow ls k r b → FoundParameters ks a (Fixed_of t r) b
+fixed_found ks a t k x ls told r b y =
     let one : a < k = x.forth in
     let two : k ≤ b = y.forth in
-    record { reads = (k, x.reads, subst (λ z. HoldRow ks z r k b) told y.reads); forth = omega arith; inside = y.inside }
+    record {
+      reads = (k, x.reads, subst (λ z. HoldRow z r k b) told y.reads);
+      forth = omega arith;
+      inside = subst (λ n. b ≤ n) (past_length ks ls t told) y.inside;
+    }
 
 abbrev is_dots : Kind → Bool
 is_dots Ellipsis = true
 is_dots _ = false
 
-pub variadic_found : (ks : List Kind) → (a : ℕ) → (t : Naming) → (k : ℕ) → FoundNaming ks true a t k → (w : Bool)
-    → w ≡ hides ks t → (r : Row) → (b : ℕ) → FoundRow ks w k r b
-    → kind_at ks b ≡ Comma → FoundParameters ks a (Variadic_of t r b (b + 1)) (b + 2)
-variadic_found ks a t k x w told r b y e =
-    let i : b + 1 < length ks = test_inside is_dots refl ks (b + 1) (ap is_dots (y.dots e)) in
+-- behind the comma that ends the row stands `...`
+pub row_dots : (ks : List Kind) → (t : Naming) → (ls : List Kind) → ls ≡ past ks t → (k : ℕ) → (r : Row) → (b : ℕ) → FoundRow ls k r b → kind_at ks b ≡ Comma
+    → kind_at ks (b + 1) ≡ Ellipsis
+row_dots ks t ls told k r b y e =
+    let here : kind_at ls b ≡ Comma = subst (λ x. kind_at x b ≡ Comma) (sym told) (comma_kept ks (name_by t) b e) in
+    dots_was ks (name_by t) (b + 1) (subst (λ x. kind_at x (b + 1) ≡ Ellipsis) told (y.dots here))
+
+pub variadic_found : (ks : List Kind) → (a : ℕ) → (t : Naming) → (k : ℕ) → FoundNaming ks true a t k → (ls : List Kind)
+    → ls ≡ past ks t → (r : Row) → (b : ℕ) → FoundRow ls k r b → kind_at ks b ≡ Comma → FoundParameters ks a (Variadic_of t r b (b + 1)) (b + 2)
+variadic_found ks a t k x ls told r b y e =
+    let dots = row_dots ks t ls told k r b y e in
+    let i : b + 1 < length ks = test_inside is_dots refl ks (b + 1) (ap is_dots dots) in
     let one : a < k = x.forth in
     let two : k ≤ b = y.forth in
     let three : b + 2 ≡ (b + 1) + 1 = omega arith in
     record {
-      reads = (k, x.reads, subst (λ z. HoldRow ks z r k b) told y.reads, e, refl, y.dots e, three);
+      reads = (k, x.reads, subst (λ z. HoldRow z r k b) told y.reads, e, refl, dots, three);
       forth = omega arith;
       inside = omega arith;
     }

@@ -2,7 +2,7 @@
 use Rattle.std.proofs.Common.{refl, ap, ◌∙◌, subst, ℕ, ◌+◌, List, [], ◌∷◌, ◌++◌, ◌||◌, Bool, true, false, Option, Some, None}
 use Rattle.tree_data.specs.Trees.{Tree, Name_of, Constant_of, Text_of, Paren_of, Postfix_of, Unary_of, Binary_of, Conditional_of, Assign_of, Of_type, Compound_of, Behind, Operand_of, Index_of, Call_of, Call_with_of, Member_of, Step_of, Behinds, None_behind, Behind_then, Front, Operator_of, Cast_of, Choice_of, Left_of, Fronts, None_before, Front_then, Braces, Braces_of, Initial, Value_of, List_of, Piece, Plain_of, Designated_of, Pieces, No_pieces, Piece_then, Designator, Element_of, Field_of, Designators, No_designators, Designator_then, Generic_of, Offset_of, Association, Typed_of, Default_of, Associations, No_associations, Association_then, Specifying, Word_of, Typedef_of, Tag_of, Atomic_of, Specifyings, No_specifiers, Specifier_then, Naming, Type_of, Declaring, Declaring_of, No_parameters, Fixed_of, Variadic_of, Names_of, Parameters, Row, No_more, Parameter_then, Named_of, Grouping, No_group, Group_of, Deriving, Array_of, Function_of, Derivings, No_derivings, Deriving_then, Bound, Unsized_of, Any_size_of, Sized_of, Static_sized_of, Sized_static_of}
 use Rattle.c_parser.specs.declared.kinds.Kind.{Kind}
-use Rattle.c_parser.specs.Grammar.{spell, spell_behind, spell_behinds, spell_front, spell_fronts, spell_comma, spell_braces, spell_initial, spell_piece, spell_pieces, spell_designator, spell_designators, spell_association, spell_associations, spell_specifying, spell_specifyings, spell_type, spell_declaring, spell_grouping, spell_deriving, spell_derivings, spell_bound, has_type, spell_parameters, spell_row, typed_by, hides}
+use Rattle.c_parser.specs.Grammar.{spell, spell_behind, spell_behinds, spell_front, spell_fronts, spell_comma, spell_braces, spell_initial, spell_piece, spell_pieces, spell_designator, spell_designators, spell_association, spell_associations, spell_specifying, spell_specifyings, spell_type, spell_declaring, spell_grouping, spell_deriving, spell_derivings, spell_bound, has_type, spell_parameters, spell_row, typed_by, past}
 use Rattle.c_parser.specs.Levels.{behinds_level}
 use Rattle.c_parser.specs.Declarators.{spell_pointers}
 use Rattle.c_parser.proofs.Numbers.{Spans, spans_join}
@@ -332,7 +332,7 @@ mutual
   pub spanned_parameters : (ks : List Kind) → (ps : Parameters) → (a b : ℕ) → HoldParameters ks ps a b → Spans (spell_parameters ps) a b
   spanned_parameters ks No_parameters a b h = h
   spanned_parameters ks (Fixed_of p ps) a b h =
-      spans_join (spell_type p) (spell_row ps) a h.0 b (spanned_naming ks true p a h.0 h.1) (spanned_row ks (hides ks p) ps h.0 b h.2)
+      spans_join (spell_type p) (spell_row ps) a h.0 b (spanned_naming ks true p a h.0 h.1) (spanned_row (past ks p) ps h.0 b h.2)
   spanned_parameters ks (Names_of n ns) a b h = (h.0, names_spanned ks ns (a + 1) b h.2)
   spanned_parameters ks (Variadic_of p ps o d) a b h =
       spans_join
@@ -342,11 +342,11 @@ mutual
       h.0
       b
       (spanned_naming ks true p a h.0 h.1)
-      (spans_join (spell_row ps) (o ∷ d ∷ []) h.0 o b (spanned_row ks (hides ks p) ps h.0 o h.2) (refl, (h.4, h.6 ∙ ap (λ x. x + 1) h.4)))
+      (spans_join (spell_row ps) (o ∷ d ∷ []) h.0 o b (spanned_row (past ks p) ps h.0 o h.2) (refl, (h.4, h.6 ∙ ap (λ x. x + 1) h.4)))
 
-  pub spanned_row : (ks : List Kind) → (z : Bool) → (ps : Row) → (a b : ℕ) → HoldRow ks z ps a b → Spans (spell_row ps) a b
-  spanned_row ks z No_more a b h = h
-  spanned_row ks z (Parameter_then o p ps) a b h = (
+  pub spanned_row : (ks : List Kind) → (ps : Row) → (a b : ℕ) → HoldRow ks ps a b → Spans (spell_row ps) a b
+  spanned_row ks No_more a b h = h
+  spanned_row ks (Parameter_then o p ps) a b h = (
     h.1,
     spans_join
         (spell_type p)
@@ -355,7 +355,7 @@ mutual
         h.0
         b
         (spanned_naming ks true p (a + 1) h.0 h.3)
-        (spanned_row ks (hides ks p) ps h.0 b h.4),
+        (spanned_row (past ks p) ps h.0 b h.4),
   )
 
   pub spanned_derivings : (ks : List Kind) → (ds : Derivings) → (a b : ℕ) → HoldDerivings ks ds a b → Spans (spell_derivings ds) a b

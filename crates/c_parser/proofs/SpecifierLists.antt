@@ -7,16 +7,16 @@ use Rattle.tree_data.specs.Trees.{Specifying, Word_of, Typedef_of, Tag_of, Atomi
 use Rattle.c_parser.specs.declared.answers.Stop.{Stop}
 use Rattle.c_parser.specs.declared.answers.Stop.TheVariants as stop
 use Rattle.c_parser.specs.declared.kinds.Kind.{Kind}
-use Rattle.c_parser.specs.declared.kinds.Kind.TheVariants.{TypeWord, Qualifier, Storage, Static, TypeName, Tag, Atomic, CloseParen}
+use Rattle.c_parser.specs.declared.kinds.Kind.TheVariants.{TypeWord, Qualifier, Storage, Static, Tag, Atomic, CloseParen}
 use Rattle.c_parser.specs.Beginnings.{IsNamed}
 use Rattle.c_parser.specs.Grammar.{has_type, AreSome, MayStand, stores, stores_one, typed_by}
-use Rattle.c_parser.specs.Kinds.{kind_at, is_word, is_type_word, ends_type, ends_specifiers, specifies_at, atomic_opens, is_storage, stored_amiss, named_by}
+use Rattle.c_parser.specs.Kinds.{kind_at, is_word, is_type_word, ends_type, ends_specifiers, specifies_at, atomic_opens, is_storage, stored_amiss, named_by, is_typedef}
 use Rattle.c_parser.specs.Reading.{HoldSpecifying, HoldSpecifyings, HoldsNaming, HoldsType, HoldsDeclaring, FoundNaming, IsWant}
 use Rattle.c_parser.specs.TypeNames.{NoMore, FoundSpecifying, FoundSpecifiers, FoundDeclaring, FailsSpecifying}
 use Rattle.c_parser.proofs.Marks.{clash}
 use Rattle.c_parser.proofs.Forth.{specifyings_forth}
 use Rattle.c_parser.proofs.TypeReading.{everywhere, specifying_only, specifying_strict, no_specifying, declaring_begins, named_moved}
-use Rattle.c_parser.proofs.Words.{specifies_not, specifies_none, atomic_not, opens_kind, opens_next, opens_both, either, or_left, or_right, amiss_storage, amiss_unnamed, storage_allowed}
+use Rattle.c_parser.proofs.Words.{specifies_not, specifies_none, atomic_not, opens_kind, opens_next, opens_both, either, or_left, or_right, amiss_storage, amiss_unnamed, storage_allowed, specifies_untyped, typedef_not, typedef_stores_not}
 use Rattle.c_parser.specs.declared.kinds.Named.{Named}
 
 one_only : (ks : List Kind) → (y : Bool) → (s : Specifying) → (a b : ℕ) → HoldSpecifying ks y s a b
@@ -37,7 +37,7 @@ word_found ks y at s z e w i f = (
   f ∙ ap (λ x. has_type ks x || y) (sym e),
 )
 
-pub typedef_found : (ks : List Kind) → (y : Bool) → (at : ℕ) → (s : Specifying) → s ≡ Typedef_of at → y ≡ false → kind_at ks at ≡ TypeName
+pub typedef_found : (ks : List Kind) → (y : Bool) → (at : ℕ) → (s : Specifying) → s ≡ Typedef_of at → y ≡ false → is_typedef (kind_at ks at) ≡ true
     → at < length ks → FoundSpecifying ks y at s (at + 1) × (true ≡ (has_type ks s || y))
 typedef_found ks y at s e u k i = (
   record { reads = subst (λ x. HoldSpecifying ks y x at (at + 1)) (sym e) (refl, u, k, refl); forth = omega arith; inside = omega arith },
@@ -57,23 +57,23 @@ tag_found ks y at s e k w i =
     )
 
 pub nothing_stands : (ks : List Kind) → (y : Bool) → (at : ℕ) → atomic_opens ks at ≡ false → (specifies_at ks at ≡ true → ⊥)
-    → (y ≡ false → kind_at ks at ≡ TypeName → ⊥) → (kind_at ks at ≡ Tag → is_word (kind_at ks (at + 1)) ≡ true → ⊥) → NoMore ks y at
+    → (y ≡ false → is_typedef (kind_at ks at) ≡ true → ⊥) → (kind_at ks at ≡ Tag → is_word (kind_at ks (at + 1)) ≡ true → ⊥) → NoMore ks y at
 nothing_stands ks y at o w n t (Word_of k) b h = w h.1
 nothing_stands ks y at o w n t (Typedef_of k) b h = n h.1 h.2
 nothing_stands ks y at o w n t (Tag_of k m) b h = t h.1 (ap (λ x. is_word (kind_at ks x)) (sym h.2) ∙ h.3)
 nothing_stands ks y at o w n t (Atomic_of k p u c) b h =
     true≢false (sym (opens_both ks at h.1 (ap (λ x. kind_at ks x) (sym h.2) ∙ h.3)) ∙ o)
 
-pub typedef_hides : (ks : List Kind) → (y : Bool) → (at : ℕ) → atomic_opens ks at ≡ false → kind_at ks at ≡ TypeName → y ≡ true → NoMore ks y at
+pub typedef_hides : (ks : List Kind) → (y : Bool) → (at : ℕ) → atomic_opens ks at ≡ false → is_typedef (kind_at ks at) ≡ true → y ≡ true → NoMore ks y at
 typedef_hides ks y at o k t =
     nothing_stands
     ks
     y
     at
     o
-    (λ w. specifies_not ks at TypeName w k refl refl)
+    (λ w. specifies_untyped ks at w k)
     (λ f x. true≢false (sym t ∙ f))
-    (λ x w. clash (kind_at ks at) TypeName Tag k x (λ z. omega (arith, z)))
+    (λ x w. typedef_not (kind_at ks at) Tag k x refl)
 
 pub untagged : (ks : List Kind) → (y : Bool) → (at : ℕ) → atomic_opens ks at ≡ false → kind_at ks at ≡ Tag → is_word (kind_at ks (at + 1)) ≡ false
     → NoMore ks y at
@@ -84,13 +84,13 @@ untagged ks y at o k n =
     at
     o
     (λ w. specifies_not ks at Tag w k refl refl)
-    (λ f x. clash (kind_at ks at) Tag TypeName k x (λ z. omega (arith, z)))
+    (λ f x. typedef_not (kind_at ks at) Tag x k refl)
     (λ x w. true≢false (sym w ∙ n))
 
 pub no_kind : (ks : List Kind) → (y : Bool) → (at : ℕ) → (k : Kind) → atomic_opens ks at ≡ false → k ≡ kind_at ks at → (k ≡ TypeWord → ⊥)
-    → (k ≡ Qualifier → ⊥) → (k ≡ Storage → ⊥) → (k ≡ Static → ⊥) → (k ≡ Atomic → ⊥) → (k ≡ TypeName → ⊥) → (k ≡ Tag → ⊥) → NoMore ks y at
+    → (k ≡ Qualifier → ⊥) → (k ≡ Storage → ⊥) → (k ≡ Static → ⊥) → (k ≡ Atomic → ⊥) → (is_typedef k ≡ true → ⊥) → (k ≡ Tag → ⊥) → NoMore ks y at
 no_kind ks y at k o e w q c s a n t =
-    nothing_stands ks y at o (specifies_none ks at k e w q c s a) (λ f x. n (e ∙ x)) (λ x i. t (e ∙ x))
+    nothing_stands ks y at o (specifies_none ks at k e w q c s a) (λ f x. n (ap is_typedef e ∙ x)) (λ x i. t (e ∙ x))
 
 -- `_Atomic ( type-name )`
 pub atomic_found : (ks : List Kind) → (at : ℕ) → (s : Specifying) → (t : Naming) → (c : ℕ) → atomic_opens ks at ≡ true → s ≡ Atomic_of at (at + 1) t c
@@ -111,7 +111,7 @@ atomic_found ks at s t c o e n =
 atomic_by : (ks : List Kind) → (y : Bool) → (s : Specifying) → (a b : ℕ) → atomic_opens ks a ≡ true → HoldSpecifying ks false s a b
     → HoldSpecifying ks y s a b × (true ≡ (has_type ks s || y))
 atomic_by ks y (Word_of n) a b o h = atomic_not ks a h.1 (opens_kind ks a o) (opens_next ks a o)
-atomic_by ks y (Typedef_of n) a b o h = clash (kind_at ks a) TypeName Atomic h.2 (opens_kind ks a o) (λ x. omega (arith, x))
+atomic_by ks y (Typedef_of n) a b o h = typedef_not (kind_at ks a) Atomic h.2 (opens_kind ks a o) refl
 atomic_by ks y (Tag_of k n) a b o h = clash (kind_at ks a) Tag Atomic h.1 (opens_kind ks a o) (λ x. omega (arith, x))
 atomic_by ks y (Atomic_of k p t c) a b o h = (h, refl)
 
@@ -125,7 +125,7 @@ atomic_none : (ks : List Kind) → (y : Bool) → (a : ℕ) → (e : Stop) → a
     → ((t : Naming) → (c : ℕ) → HoldsType ks t ((a + 1) + 1) c → kind_at ks c ≡ CloseParen → IsWant e)
     → (s : Specifying) → (b : ℕ) → HoldSpecifying ks y s a b → IsWant e
 atomic_none ks y a e o fails (Word_of n) b h = atomic_not ks a h.1 (opens_kind ks a o) (opens_next ks a o)
-atomic_none ks y a e o fails (Typedef_of n) b h = clash (kind_at ks a) TypeName Atomic h.2 (opens_kind ks a o) (λ x. omega (arith, x))
+atomic_none ks y a e o fails (Typedef_of n) b h = typedef_not (kind_at ks a) Atomic h.2 (opens_kind ks a o) refl
 atomic_none ks y a e o fails (Tag_of k n) b h = clash (kind_at ks a) Tag Atomic h.1 (opens_kind ks a o) (λ x. omega (arith, x))
 atomic_none ks y a e o fails (Atomic_of k p t c) b h = fails t c (subst (λ x. HoldsType ks t (x + 1) c) h.2 h.4) h.5
 
@@ -178,7 +178,7 @@ left_turns ks y done at s k z h f ss (Specifier_then s' left) m is g e =
 -- a specifier is a storage class where its token is
 stores_at : (ks : List Kind) → (y : Bool) → (s : Specifying) → (a b : ℕ) → HoldSpecifying ks y s a b → stores_one ks s ≡ is_storage (kind_at ks a)
 stores_at ks y (Word_of n) a b h = ap (λ x. is_storage (kind_at ks x)) h.0
-stores_at ks y (Typedef_of n) a b h = sym (ap is_storage h.2)
+stores_at ks y (Typedef_of n) a b h = sym (typedef_stores_not (kind_at ks a) h.2)
 stores_at ks y (Tag_of k n) a b h = sym (ap is_storage h.1)
 stores_at ks y (Atomic_of k o t c) a b h = sym (ap is_storage h.1)
 

@@ -5,19 +5,20 @@ use Rattle.tree_data.specs.Trees.{Tree, Name_of, Constant_of, Text_of, Paren_of,
 use Rattle.c_parser.specs.declared.kinds.Kind.{Kind}
 use Rattle.c_parser.specs.declared.kinds.Kind.TheVariants.{Identifier, Constant, Text, TypeName, Tag, Atomic, Storage, Static, Star, OpenParen, CloseParen, OpenBracket, CloseBracket, Generic, OffsetOf, Colon, Comma, End, TypeWord, Qualifier}
 use Rattle.c_parser.specs.Declarators.{AreThere, IsWritten, MayDerive, need_name}
-use Rattle.c_parser.specs.Grammar.{IsBefore, has_type, typed_by, hides}
-use Rattle.c_parser.specs.Kinds.{kind_at, is_size, starts_type, ends_type, ends_specifiers, opens_parameters, qualifies_at, is_word, named_by, grouped, behind_pointers}
+use Rattle.c_parser.specs.Grammar.{IsBefore, has_type, typed_by, past, name_by}
+use Rattle.c_parser.specs.Kinds.{kind_at, is_size, starts_type, ends_type, ends_specifiers, opens_parameters, qualifies_at, is_word, named_by, grouped, behind_pointers, is_typedef}
 use Rattle.c_parser.specs.Reading.{Holds, HoldFronts, HoldQualifiers, Reads, HoldSpecifying, HoldSpecifyings, HoldsNaming, HoldsType, HoldParameters, HoldRow, HoldsDeclaring, HoldsGrouping, HoldsDeriving, HoldDerivings, HoldsBound, HoldNames}
 use Rattle.c_parser.specs.TypeNames.{RowEnd, at_close, at_dots}
 use Rattle.c_parser.proofs.OneReading.{placed_only}
 use Rattle.c_parser.proofs.Forth.{type_forth, naming_forth, specifyings_forth, grouping_forth, deriving_forth}
 use Rattle.c_parser.proofs.Marks.{clash, stops_at, is_start, no_type}
-use Rattle.c_parser.proofs.Typed.{Typed, From, later, next}
+use Rattle.c_parser.proofs.Typed.{Typed, From, later, next, under}
 use Rattle.c_parser.proofs.Types.{starting, naming_starts, pointers_only, pointers_forth, qualifiers_only, qualifiers_forth}
 use Rattle.c_parser.proofs.Views.{starts, front_starts}
-use Rattle.c_parser.proofs.Words.{Qualifies, by_qualifier, by_lone, qualifies_view, qualifies_starts, specifies_not, atomic_not, static_qualifies_not, or_left, named_word, grouped_opens_not, name_ends}
+use Rattle.c_parser.proofs.Words.{Qualifies, by_qualifier, by_lone, qualifies_view, qualifies_starts, specifies_not, atomic_not, static_qualifies_not, or_left, named_word, grouped_opens_not, name_ends, typedef_not, specifies_untyped}
 use Rattle.c_parser.proofs.NameLists.{names_only, closes}
 use Rattle.c_parser.specs.declared.kinds.Named.{Named}
+use Rattle.c_parser.proofs.Hiding.{hidden_length, ends_was, row_end_kept}
 
 -- behind a `*` in front of an operand something begins too
 mutual
@@ -207,55 +208,64 @@ row_ends_by : (ks : List Kind) → (c : ℕ) → RowEnd ks c → ends_type (kind
 row_ends_by ks c (at_close e) = ap ends_type e
 row_ends_by ks c (at_dots e d) = ap ends_type e
 
-pub row_ends : (ks : List Kind) → (z : Bool) → (ps : Row) → (m c : ℕ) → HoldRow ks z ps m c → RowEnd ks c → ends_type (kind_at ks m) ≡ true
-row_ends ks z No_more m c h e = ap (λ x. ends_type (kind_at ks x)) (sym h) ∙ row_ends_by ks c e
-row_ends ks z (Parameter_then o p ps) m c h e = ap ends_type h.2
+pub row_ends : (ks : List Kind) → (ps : Row) → (m c : ℕ) → HoldRow ks ps m c → RowEnd ks c → ends_type (kind_at ks m) ≡ true
+row_ends ks No_more m c h e = ap (λ x. ends_type (kind_at ks x)) (sym h) ∙ row_ends_by ks c e
+row_ends ks (Parameter_then o p ps) m c h e = ap ends_type h.2
+
+-- behind a parameter the name of a type may end
+pub past_ends : (ks : List Kind) → (p : Naming) → (ps : Row) → (m c : ℕ) → HoldRow (past ks p) ps m c → RowEnd ks c → ends_type (kind_at ks m) ≡ true
+past_ends ks p ps m c h e = ends_was ks (name_by p) m (row_ends (past ks p) ps m c h (row_end_kept ks (name_by p) c e))
 
 row_end_not : {A : Type 0} → (ks : List Kind) → (c : ℕ) → RowEnd ks c → kind_at ks c ≡ Comma → (p : Naming) → (m : ℕ) → HoldsNaming ks true p (c + 1) m → A
 row_end_not ks c (at_close e) k p m h = clash (kind_at ks c) CloseParen Comma e k (λ x. omega (arith, x))
 row_end_not ks c (at_dots e d) k p m h = absurd (true≢false (sym (naming_starts ks true p (c + 1) m h) ∙ ap starts_type d))
 
 -- a row behind a parameter that is the same
-pub row_moved : (ks : List Kind) → (p p' : Naming) → p ≡ p' → (ps : Row) → (m m' c : ℕ) → m ≡ m' → HoldRow ks (hides ks p') ps m' c
-    → HoldRow ks (hides ks p) ps m c
+pub row_moved : (ks : List Kind) → (p p' : Naming) → p ≡ p' → (ps : Row) → (m m' c : ℕ) → m ≡ m' → HoldRow (past ks p') ps m' c
+    → HoldRow (past ks p) ps m c
 row_moved ks p p' e ps m m' c f h =
-    subst (λ x. HoldRow ks (hides ks x) ps m c) (sym e) (subst (λ x. HoldRow ks (hides ks p') ps x c) (sym f) h)
+    subst (λ x. HoldRow (past ks x) ps m c) (sym e) (subst (λ x. HoldRow (past ks p') ps x c) (sym f) h)
 
-pub row_only : (ks : List Kind) → (z : Bool) → (ps : Row) → (a c : ℕ) → From ks a → HoldRow ks z ps a c → RowEnd ks c
-    → (ps' : Row) → (c' : ℕ) → HoldRow ks z ps' a c' → RowEnd ks c' → (ps ≡ ps') × (c ≡ c')
-row_only ks z No_more a c w h e No_more c' h' e' = (refl, h ∙ sym h')
-row_only ks z No_more a c w h e (Parameter_then o p ps) c' h' e' =
+past_from : (ks : List Kind) → (p : Naming) → (a : ℕ) → From ks a → From (past ks p) a
+past_from ks p a w = under ks (past ks p) a (hidden_length ks (name_by p)) w
+
+pub row_only : (ks : List Kind) → (ps : Row) → (a c : ℕ) → From ks a → HoldRow ks ps a c → RowEnd ks c
+    → (ps' : Row) → (c' : ℕ) → HoldRow ks ps' a c' → RowEnd ks c' → (ps ≡ ps') × (c ≡ c')
+row_only ks No_more a c w h e No_more c' h' e' = (refl, h ∙ sym h')
+row_only ks No_more a c w h e (Parameter_then o p ps) c' h' e' =
     row_end_not ks a (subst (λ x. RowEnd ks x) h e) h'.2 p h'.0 h'.3
-row_only ks z (Parameter_then o p ps) a c w h e No_more c' h' e' =
+row_only ks (Parameter_then o p ps) a c w h e No_more c' h' e' =
     row_end_not ks a (subst (λ x. RowEnd ks x) h' e') h.2 p h.0 h.3
-row_only ks z (Parameter_then o p ps) a c w h e (Parameter_then o' p' ps') c' h' e' =
+row_only ks (Parameter_then o p ps) a c w h e (Parameter_then o' p' ps') c' h' e' =
     let one =
     w
+    ks
+    refl
     (a + 1)
     (omega arith)
     true
     p
     h.0
     h.3
-    (row_ends ks (hides ks p) ps h.0 c h.4 e)
+    (past_ends ks p ps h.0 c h.4 e)
     p'
     h'.0
     h'.3
-    (row_ends ks (hides ks p') ps' h'.0 c' h'.4 e') in
+    (past_ends ks p' ps' h'.0 c' h'.4 e') in
+    let w' : From ks h.0 = later ks a h.0 (omega (arith, naming_forth ks true p (a + 1) h.0 h.3)) w in
     let two =
     row_only
-    ks
-    (hides ks p)
+    (past ks p)
     ps
     h.0
     c
-    (later ks a h.0 (omega (arith, naming_forth ks true p (a + 1) h.0 h.3)) w)
+    (past_from ks p h.0 w')
     h.4
-    e
+    (row_end_kept ks (name_by p) c e)
     ps'
     c'
     (row_moved ks p p' one.0 ps' h.0 h'.0 c' one.1 h'.4)
-    e' in (
+    (row_end_kept ks (name_by p) c' e') in (
       ap (λ x. Parameter_then x p ps) (h.1 ∙ sym h'.1)
           ∙ ap (λ x. Parameter_then o' x ps) one.0
           ∙ ap (λ x. Parameter_then o' p' x) two.0,
@@ -269,7 +279,7 @@ pub data Closing (ks : List Kind) (ps : Parameters) (p : Naming) (q : Row) (n c 
 
 pub data Parametered (ks : List Kind) (ps : Parameters) (a c : ℕ) : Type 0 where
   none_told : ps ≡ No_parameters → c ≡ a → Parametered ks ps a c
-  some_told : (p : Naming) → (q : Row) → (m n : ℕ) → HoldsNaming ks true p a m → HoldRow ks (hides ks p) q m n → RowEnd ks n
+  some_told : (p : Naming) → (q : Row) → (m n : ℕ) → HoldsNaming ks true p a m → HoldRow (past ks p) q m n → RowEnd ks n
       → Closing ks ps p q n c → Parametered ks ps a c
   names_told : (ns : List (ℕ × ℕ)) → ps ≡ Names_of a ns → kind_at ks a ≡ Identifier → HoldNames ks ns (a + 1) c → Parametered ks ps a c
 
@@ -320,21 +330,20 @@ told_only ks ps a c w (names_told ns i k h) e ps' c' (names_told ns' i' k' h') e
     let same = names_only ks ns (a + 1) c h (closes ks c e) ns' c' h' (closes ks c' e') in
     (i ∙ ap (λ x. Names_of a x) same.0 ∙ sym i', same.1)
 told_only ks ps a c w (some_told p q m n h g z v) e ps' c' (some_told p' q' m' n' h' g' z' v') e' =
-    let one = w a (omega arith) true p m h (row_ends ks (hides ks p) q m n g z) p' m' h' (row_ends ks (hides ks p') q' m' n' g' z') in
+    let one = w ks refl a (omega arith) true p m h (past_ends ks p q m n g z) p' m' h' (past_ends ks p' q' m' n' g' z') in
     let two =
     row_only
-    ks
-    (hides ks p)
+    (past ks p)
     q
     m
     n
-    (later ks a m (naming_forth ks true p a m h) w)
+    (past_from ks p m (later ks a m (naming_forth ks true p a m h) w))
     g
-    z
+    (row_end_kept ks (name_by p) n z)
     q'
     n'
     (row_moved ks p p' one.0 q' m m' n' one.1 g')
-    z' in
+    (row_end_kept ks (name_by p) n' z') in
     closing_only
     ks
     ps
@@ -428,7 +437,7 @@ derivings_begin ks (Deriving_then (Function_of o ps c) ds) a b h e = ap ends_poi
 -- the same, or a typedef name that stands for a name
 abbrev ends_stars : Kind → Bool
 ends_stars Identifier = true
-ends_stars TypeName = true
+ends_stars (TypeName n) = true
 ends_stars OpenParen = true
 ends_stars OpenBracket = true
 ends_stars CloseParen = true
@@ -449,7 +458,7 @@ stars_wider _ h = absurd (true≢false (sym h))
 
 word_stars : (k : Kind) → is_word k ≡ true → ends_stars k ≡ true
 word_stars Identifier h = refl
-word_stars TypeName h = refl
+word_stars (TypeName n) h = refl
 word_stars _ h = absurd (true≢false (sym h))
 
 pub grouping_begins : (ks : List Kind) → (y : Named) → (g : Grouping) → (ds : Derivings) → (a m b : ℕ) → HoldsGrouping ks y g a m → HoldDerivings ks ds m b
@@ -486,7 +495,7 @@ start_opens : (k : Kind) → starts_type k ≡ true → opens_parameters k ≡ t
 start_opens TypeWord h = refl
 start_opens Qualifier h = refl
 start_opens Tag h = refl
-start_opens TypeName h = refl
+start_opens (TypeName n) h = refl
 start_opens Atomic h = refl
 start_opens Storage h = refl
 start_opens Static h = refl
@@ -515,7 +524,7 @@ parameters_next ks (Deriving_then (Function_of o ps c) ds) a b h q e k =
 
 word_ends_not : (k : Kind) → is_word k ≡ true → ends_type k ≡ false
 word_ends_not Identifier h = refl
-word_ends_not TypeName h = refl
+word_ends_not (TypeName n) h = refl
 word_ends_not _ h = absurd (true≢false (sym h))
 
 pub no_name_next : {A : Type 0} → (ks : List Kind) → (ds : Derivings) → (a b : ℕ) → HoldDerivings ks ds a b → ends_type (kind_at ks b) ≡ true
@@ -628,17 +637,17 @@ mutual
 pub specifying_only : (ks : List Kind) → (y : Bool) → (s : Specifying) → (a b : ℕ) → From ks (a + 1) → HoldSpecifying ks y s a b
     → (s' : Specifying) → (b' : ℕ) → HoldSpecifying ks y s' a b' → (s ≡ s') × (b ≡ b')
 specifying_only ks y (Word_of n) a b w h (Word_of n') b' h' = (ap Word_of (h.0 ∙ sym h'.0), h.2 ∙ sym h'.2)
-specifying_only ks y (Word_of n) a b w h (Typedef_of n') b' h' = specifies_not ks a TypeName h.1 h'.2 refl refl
+specifying_only ks y (Word_of n) a b w h (Typedef_of n') b' h' = specifies_untyped ks a h.1 h'.2
 specifying_only ks y (Word_of n) a b w h (Tag_of k' n') b' h' = specifies_not ks a Tag h.1 h'.1 refl refl
 specifying_only ks y (Word_of n) a b w h (Atomic_of k' o' t' c') b' h' =
     atomic_not ks a h.1 h'.1 (ap (λ x. kind_at ks x) (sym h'.2) ∙ h'.3)
-specifying_only ks y (Typedef_of n) a b w h (Word_of n') b' h' = specifies_not ks a TypeName h'.1 h.2 refl refl
+specifying_only ks y (Typedef_of n) a b w h (Word_of n') b' h' = specifies_untyped ks a h'.1 h.2
 specifying_only ks y (Typedef_of n) a b w h (Typedef_of n') b' h' = (ap Typedef_of (h.0 ∙ sym h'.0), h.3 ∙ sym h'.3)
-specifying_only ks y (Typedef_of n) a b w h (Tag_of k' n') b' h' = clash (kind_at ks a) TypeName Tag h.2 h'.1 (λ x. omega (arith, x))
+specifying_only ks y (Typedef_of n) a b w h (Tag_of k' n') b' h' = typedef_not (kind_at ks a) Tag h.2 h'.1 refl
 specifying_only ks y (Typedef_of n) a b w h (Atomic_of k' o' t' c') b' h' =
-    clash (kind_at ks a) TypeName Atomic h.2 h'.1 (λ x. omega (arith, x))
+    typedef_not (kind_at ks a) Atomic h.2 h'.1 refl
 specifying_only ks y (Tag_of k n) a b w h (Word_of n') b' h' = specifies_not ks a Tag h'.1 h.1 refl refl
-specifying_only ks y (Tag_of k n) a b w h (Typedef_of n') b' h' = clash (kind_at ks a) Tag TypeName h.1 h'.2 (λ x. omega (arith, x))
+specifying_only ks y (Tag_of k n) a b w h (Typedef_of n') b' h' = typedef_not (kind_at ks a) Tag h'.2 h.1 refl
 specifying_only ks y (Tag_of k n) a b w h (Tag_of k' n') b' h' =
     let same : n ≡ n' = h.2 ∙ sym h'.2 in
     (ap (λ x. Tag_of x n) (h.0 ∙ sym h'.0) ∙ ap (λ x. Tag_of k' x) same, h.4 ∙ ap (λ x. x + 1) same ∙ sym h'.4)
@@ -646,12 +655,14 @@ specifying_only ks y (Tag_of k n) a b w h (Atomic_of k' o' t' c') b' h' = clash 
 specifying_only ks y (Atomic_of k o t c) a b w h (Word_of n') b' h' =
     atomic_not ks a h'.1 h.1 (ap (λ x. kind_at ks x) (sym h.2) ∙ h.3)
 specifying_only ks y (Atomic_of k o t c) a b w h (Typedef_of n') b' h' =
-    clash (kind_at ks a) Atomic TypeName h.1 h'.2 (λ x. omega (arith, x))
+    typedef_not (kind_at ks a) Atomic h'.2 h.1 refl
 specifying_only ks y (Atomic_of k o t c) a b w h (Tag_of k' n') b' h' = clash (kind_at ks a) Atomic Tag h.1 h'.1 (λ x. omega (arith, x))
 specifying_only ks y (Atomic_of k o t c) a b w h (Atomic_of k' o' t' c') b' h' =
     let opening : o ≡ o' = h.2 ∙ sym h'.2 in
     let same =
     w
+    ks
+    refl
     (o + 1)
     (omega (arith, h.2))
     false
@@ -677,8 +688,8 @@ specifying_strict ks y (Tag_of k n) a b h = omega (arith, h.4, h.2)
 specifying_strict ks y (Atomic_of k o t c) a b h = omega (arith, h.6, h.2, type_forth ks t (o + 1) c h.4)
 
 -- where specifiers may end and one begins, a typedef name stands behind a type specifier
-ends_starts : (k : Kind) → (y : Bool) → ends_specifiers k y ≡ true → starts_type k ≡ true → (k ≡ TypeName) × (y ≡ true)
-ends_starts TypeName y h s = (refl, h)
+ends_starts : (k : Kind) → (y : Bool) → ends_specifiers k y ≡ true → starts_type k ≡ true → (is_typedef k ≡ true) × (y ≡ true)
+ends_starts (TypeName n) y h s = (refl, h)
 ends_starts Star y h s = absurd (true≢false (sym s))
 ends_starts Identifier y h s = absurd (true≢false (sym s))
 ends_starts OpenParen y h s = absurd (true≢false (sym s))
@@ -692,13 +703,13 @@ ends_starts _ y h s = absurd (true≢false (sym h))
 pub no_specifying : {A : Type 0} → (ks : List Kind) → (y : Bool) → (s : Specifying) → (a b : ℕ) → HoldSpecifying ks y s a b
     → ends_specifiers (kind_at ks a) y ≡ true → A
 no_specifying ks y (Word_of n) a b h e =
-    specifies_not ks a TypeName h.1 (ends_starts (kind_at ks a) y e (starting ks y (Word_of n) a b h)).0 refl refl
+    specifies_untyped ks a h.1 (ends_starts (kind_at ks a) y e (starting ks y (Word_of n) a b h)).0
 no_specifying ks y (Typedef_of n) a b h e =
     absurd (true≢false (sym (ends_starts (kind_at ks a) y e (starting ks y (Typedef_of n) a b h)).1 ∙ h.1))
 no_specifying ks y (Tag_of k n) a b h e =
-    clash (kind_at ks a) Tag TypeName h.1 (ends_starts (kind_at ks a) y e (starting ks y (Tag_of k n) a b h)).0 (λ x. omega (arith, x))
+    typedef_not (kind_at ks a) Tag (ends_starts (kind_at ks a) y e (starting ks y (Tag_of k n) a b h)).0 h.1 refl
 no_specifying ks y (Atomic_of k o t c) a b h e =
-    clash (kind_at ks a) Atomic TypeName h.1 (ends_starts (kind_at ks a) y e (starting ks y (Atomic_of k o t c) a b h)).0 (λ x. omega (arith, x))
+    typedef_not (kind_at ks a) Atomic (ends_starts (kind_at ks a) y e (starting ks y (Atomic_of k o t c) a b h)).0 h.1 refl
 
 after : (ks : List Kind) → (a b : ℕ) → a ≤ b → From ks (a + 1) → From ks (b + 1)
 after ks a b le w = later ks (a + 1) (b + 1) (omega (arith, le)) w
@@ -782,7 +793,7 @@ from_end ks zero p le y t c h e t' c' h' e' =
     absurd (true≢false (sym (naming_starts ks y t p c h) ∙ ap starts_type (outside ks p end)))
 from_end ks (suc n) p le y (Type_of No_specifiers d) c h e t' c' h' e' = absurd h.1
 from_end ks (suc n) p le y (Type_of (Specifier_then s ss) d) c h e (Type_of ss' d') c' h' e' =
-    let w : From ks (p + 1) = λ q more. from_end ks n q (omega (arith, le, more)) in
+    let w : From ks (p + 1) = λ ks' same q more. from_end ks' n q (omega (arith, le, more, same)) in
     let one =
     specifyings_only
     ks
@@ -817,7 +828,7 @@ pub typed_at : (ks : List Kind) → (p : ℕ) → Typed ks p
 typed_at ks p = from_end ks (length ks) p (omega arith)
 
 pub everywhere : (ks : List Kind) → (a : ℕ) → From ks a
-everywhere ks a p le = typed_at ks p
+everywhere ks a ks' e p le = typed_at ks' p
 
 pub type_only : (ks : List Kind) → (t : Naming) → (a c : ℕ) → HoldsType ks t a c → ends_type (kind_at ks c) ≡ true
     → (t' : Naming) → (c' : ℕ) → HoldsType ks t' a c' → ends_type (kind_at ks c') ≡ true → (t ≡ t') × (c ≡ c')

@@ -8,7 +8,7 @@ use Rattle.c_parser.specs.Kinds.{kind_at, starts_type, qualifies_at}
 use Rattle.c_parser.specs.Reading.{HoldSpecifying, HoldQualifiers, HoldPointers, HoldsNaming, HoldsType}
 use Rattle.c_parser.specs.TypeNames.{FoundQualifiers, FoundPointers}
 use Rattle.c_parser.proofs.Numbers.{Spans, spans_join, spans_split, spans_forth}
-use Rattle.c_parser.proofs.Words.{specifies_starts, qualifies_not}
+use Rattle.c_parser.proofs.Words.{specifies_starts, qualifies_not, typedef_starts}
 
 pub qualifiers_formed : (ks : List Kind) → (ns : List ℕ) → (a b : ℕ) → HoldQualifiers ks ns a b → AreQualifiers ks ns
 qualifiers_formed ks [] a b h = tt
@@ -62,7 +62,7 @@ qualifiers_forth ks ns a b h = spans_forth ns a b (qualifiers_spanned ks ns a b 
 -- what the first token is
 pub starting : (ks : List Kind) → (y : Bool) → (s : Specifying) → (a b : ℕ) → HoldSpecifying ks y s a b → starts_type (kind_at ks a) ≡ true
 starting ks y (Word_of n) a b h = specifies_starts ks a h.1
-starting ks y (Typedef_of n) a b h = ap starts_type h.2
+starting ks y (Typedef_of n) a b h = typedef_starts (kind_at ks a) h.2
 starting ks y (Tag_of k n) a b h = ap starts_type h.1
 starting ks y (Atomic_of k o t c) a b h = ap starts_type h.1
 

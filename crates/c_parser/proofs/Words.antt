@@ -2,7 +2,7 @@
 use Rattle.std.proofs.Common.{◌≡◌, refl, ap, sym, ◌∙◌, ℕ, zero, suc, ◌+◌, ◌<◌, List, [], ◌∷◌, length, arith, ◌⊎◌, inl, inr, Bool, true, false, true≢false, ◌&&◌, ◌||◌, not, map}
 use Rattle.c_parser.specs.declared.kinds.Kind.{Kind}
 use Rattle.c_parser.specs.declared.kinds.Kind.TheVariants.{Identifier, TypeWord, Qualifier, Storage, Static, OpenParen, Atomic, End, TypeName}
-use Rattle.c_parser.specs.Kinds.{kind_at, is_specifying, is_qualifier, is_atomic, is_opening, starts_type, atomic_at, specifies_at, qualifies_at, atomic_opens, is_identifier, is_storage, stored_amiss, is_word, names_at, may_name, named_by, grouped, behind_pointers, ends_specifiers, opens_parameters}
+use Rattle.c_parser.specs.Kinds.{kind_at, is_specifying, is_qualifier, is_atomic, is_opening, starts_type, atomic_at, specifies_at, qualifies_at, atomic_opens, is_identifier, is_storage, stored_amiss, is_word, names_at, may_name, named_by, grouped, behind_pointers, ends_specifiers, opens_parameters, is_typedef}
 use Rattle.c_parser.specs.declared.kinds.Named.{Named}
 use Rattle.c_parser.specs.declared.kinds.Named.TheVariants.{Never, Plainly, Freely}
 
@@ -233,6 +233,41 @@ pub storage_allowed : (ks : List Kind) → (a : ℕ) → (n : Bool) → stored_a
 unfolding stored_amiss
 storage_allowed ks a n h e = allowed_by n (is_storage (kind_at ks a)) h e
 
+-- a typedef name
+pub typedef_starts : (k : Kind) → is_typedef k ≡ true → starts_type k ≡ true
+typedef_starts (TypeName n) h = refl
+typedef_starts _ h = absurd (true≢false (sym h))
+
+pub typedef_by : (k : Kind) → ((n : ℕ) → k ≡ TypeName n → ⊥) → is_typedef k ≡ true → ⊥
+typedef_by (TypeName n) u h = u n refl
+typedef_by _ u h = true≢false (sym h)
+
+pub typedef_stores_not : (k : Kind) → is_typedef k ≡ true → is_storage k ≡ false
+typedef_stores_not (TypeName n) h = refl
+typedef_stores_not _ h = absurd (true≢false (sym h))
+
+pub typedef_not : {A : Type 0} → (k x : Kind) → is_typedef k ≡ true → k ≡ x → is_typedef x ≡ false → A
+typedef_not k x h e n = absurd (true≢false (sym h ∙ ap is_typedef e ∙ n))
+
+specifying_untyped : (k : Kind) → is_specifying k ≡ true → is_typedef k ≡ false
+specifying_untyped TypeWord h = refl
+specifying_untyped Qualifier h = refl
+specifying_untyped Storage h = refl
+specifying_untyped Static h = refl
+specifying_untyped _ h = absurd (true≢false (sym h))
+
+atomic_untyped : (k : Kind) → is_atomic k ≡ true → is_typedef k ≡ false
+atomic_untyped Atomic h = refl
+atomic_untyped _ h = absurd (true≢false (sym h))
+
+-- no keyword among specifiers is one
+pub specifies_untyped : {A : Type 0} → (ks : List Kind) → (a : ℕ) → specifies_at ks a ≡ true → is_typedef (kind_at ks a) ≡ true → A
+unfolding specifies_at atomic_at
+specifies_untyped ks a h t = elim (either (is_specifying (kind_at ks a)) (atomic_at ks a) h) [
+  | inl p ↦ absurd (true≢false (sym t ∙ specifying_untyped (kind_at ks a) p))
+  | inr q ↦ absurd (true≢false (sym t ∙ atomic_untyped (kind_at ks a) (left_of (is_atomic (kind_at ks a)) (not (is_opening (kind_at ks (a + 1)))) q)))
+]
+
 -- the name of a declarator
 word_identifier : (k : Kind) → is_identifier k ≡ true → is_word k ≡ true
 word_identifier Identifier h = refl
@@ -256,7 +291,7 @@ grouped_opens_not Freely k h = word_opens k h
 -- specifiers end in front of a name
 word_ends : (k : Kind) → is_word k ≡ true → ends_specifiers k true ≡ true
 word_ends Identifier h = refl
-word_ends TypeName h = refl
+word_ends (TypeName n) h = refl
 word_ends _ h = absurd (true≢false (sym h))
 
 plain_ends : (k : Kind) → is_identifier k ≡ true → ends_specifiers k false ≡ true

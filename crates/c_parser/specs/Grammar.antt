@@ -6,9 +6,9 @@ use Rattle.c_parser.specs.declared.answers.ParseError.{ParseError}
 use Rattle.c_parser.specs.declared.answers.ParseError.TheVariants.{Syntax, TooDeep, NoMemory}
 use Rattle.c_parser.specs.declared.kinds.Kind.{Kind}
 use Rattle.c_parser.specs.declared.kinds.Named.{Named}
-use Rattle.c_parser.specs.declared.kinds.Kind.TheVariants.{Identifier, Constant, Text, OpenParen, CloseParen, OpenBracket, CloseBracket, OpenBrace, CloseBrace, Step, Question, Colon, Comma, Generic, OffsetOf, Default, Ellipsis, TypeName, Tag, Star, Atomic, Static}
+use Rattle.c_parser.specs.declared.kinds.Kind.TheVariants.{Identifier, Constant, Text, OpenParen, CloseParen, OpenBracket, CloseBracket, OpenBrace, CloseBrace, Step, Question, Colon, Comma, Generic, OffsetOf, Default, Ellipsis, Tag, Star, Atomic, Static}
 use Rattle.c_parser.specs.Brackets.{too_deep}
-use Rattle.c_parser.specs.Kinds.{kind_at, level_at, is_prefix, casts_at, is_size, is_word, is_equals, is_dot, is_member, is_type_word, is_storage, specifies_at, may_name, named_by, grouped, behind_pointers, hides_one}
+use Rattle.c_parser.specs.Kinds.{kind_at, level_at, is_prefix, casts_at, is_size, is_word, is_equals, is_dot, is_member, is_type_word, is_storage, specifies_at, may_name, named_by, grouped, behind_pointers, is_typedef, hide}
 use Rattle.c_parser.specs.Declarators.{spell_pointers, spell_names, AreQualifiers, AreThere, ArePointers, AreNames, IsWritten, MayDerive, name_of}
 use Rattle.c_parser.specs.Levels.{expression, assignment_expression, conditional_expression, logical_OR_expression, unary_expression, postfix_expression, primary_expression, IsBinary, behinds_level, rank}
 
@@ -203,12 +203,13 @@ abbrev pub typed_by : List Kind → Bool → Specifyings → Bool
 typed_by kinds typed No_specifiers = typed
 typed_by kinds typed (Specifier_then s ss) = typed_by kinds (has_type kinds s || typed) ss
 
--- the name that stands in specifiers and a declarator, and whether it hides a typedef name
+-- the name that stands in specifiers and a declarator
 abbrev pub name_by : Naming → Option ℕ
 name_by (Type_of ss d) = name_of d
 
-abbrev pub hides : List Kind → Naming → Bool
-hides kinds t = hides_one kinds (name_by t)
+-- what the tokens behind a parameter are, up to the end of the list: its name hides a typedef name
+abbrev pub past : List Kind → Naming → List Kind
+past kinds t = hide kinds (name_by t)
 
 abbrev pub AreSome : Specifyings → Type 0
 AreSome No_specifiers = ⊥
@@ -416,7 +417,7 @@ abbrev mutual
   -- 6.7 storage-class-specifier | type-specifier | type-qualifier | function-specifier; an identifier is a typedef name where no type specifier stands before it
   pub IsSpecifying : List Kind → Bool → Specifying → Type 0
   IsSpecifying kinds typed (Word_of n) = specifies_at kinds n ≡ true
-  IsSpecifying kinds typed (Typedef_of n) = (typed ≡ false) × (kind_at kinds n ≡ TypeName)
+  IsSpecifying kinds typed (Typedef_of n) = (typed ≡ false) × (is_typedef (kind_at kinds n) ≡ true)
   IsSpecifying kinds typed (Tag_of k n) = (kind_at kinds k ≡ Tag) × (is_word (kind_at kinds n) ≡ true)
   -- 6.7.2.4 atomic-type-specifier : _Atomic ( type-name )
   IsSpecifying kinds typed (Atomic_of k o t c) =
@@ -461,18 +462,16 @@ abbrev mutual
   -- 6.7.6 parameter-type-list : parameter-list | parameter-list , ...
   pub AreParameters : List Kind → Parameters → Type 0
   AreParameters kinds No_parameters = Unit {0}
-  AreParameters kinds (Fixed_of p ps) = IsNaming kinds true p × AreMore kinds (hides kinds p) ps
+  AreParameters kinds (Fixed_of p ps) = IsNaming kinds true p × AreMore (past kinds p) ps
   AreParameters kinds (Variadic_of p ps m d) =
-      IsNaming kinds true p × AreMore kinds (hides kinds p) ps × (kind_at kinds m ≡ Comma) × (kind_at kinds d ≡ Ellipsis)
+      IsNaming kinds true p × AreMore (past kinds p) ps × (kind_at kinds m ≡ Comma) × (kind_at kinds d ≡ Ellipsis)
   -- 6.7.6 direct-declarator ( identifier-list ), whose identifiers are no typedef names; `MayDerive` has it behind a name alone
   AreParameters kinds (Names_of n ns) = (kind_at kinds n ≡ Identifier) × AreNames kinds ns
 
-  -- 6.7.6 parameter-list : parameter-declaration | parameter-list , parameter-declaration, so far with no parameter behind one
-  -- whose name hides a typedef name, as `hidden` says of the one in front
-  pub AreMore : List Kind → Bool → Row → Type 0
-  AreMore kinds hidden No_more = Unit {0}
-  AreMore kinds hidden (Parameter_then o p ps) =
-      (kind_at kinds o ≡ Comma) × IsNaming kinds true p × AreMore kinds (hides kinds p) ps × (hidden ≡ false)
+  -- 6.7.6 parameter-list : parameter-declaration | parameter-list , parameter-declaration
+  pub AreMore : List Kind → Row → Type 0
+  AreMore kinds No_more = Unit {0}
+  AreMore kinds (Parameter_then o p ps) = (kind_at kinds o ≡ Comma) × IsNaming kinds true p × AreMore (past kinds p) ps
 
   pub AreDerived : List Kind → Derivings → Type 0
   AreDerived kinds No_derivings = Unit {0}

@@ -1,5 +1,5 @@
 -- The kinds of tokens by their numbers, and what those of operators begin or go on with (ISO C11 6.5).
-use Rattle.std.specs.Prelude.{ℕ, ◌+◌, ◌-◌, ◌<◌, ◌&&◌, ◌||◌, not, Option, Some, None, List, [], ◌∷◌, length, slice_index_or, Bool, true, false}
+use Rattle.std.specs.Prelude.{ℕ, ◌+◌, ◌-◌, ◌<◌, ◌&&◌, ◌||◌, ◌==◌, if◌then◌else◌, map, not, Option, Some, None, List, [], ◌∷◌, length, slice_index_or, Bool, true, false}
 use Rattle.c_parser.specs.declared.kinds.Kind.{Kind}
 use Rattle.c_parser.specs.declared.kinds.Named.{Named}
 use Rattle.c_parser.specs.declared.kinds.Named.TheVariants.{Never, Plainly, Freely}
@@ -85,7 +85,7 @@ is_designating _ = false
 -- an identifier, whether or not it is a typedef name
 abbrev pub is_word : Kind → Bool
 is_word Identifier = true
-is_word TypeName = true
+is_word (TypeName n) = true
 is_word _ = false
 
 -- keywords for types and qualifiers, each of which stands for itself in a list of specifiers (6.7.2, 6.7.3)
@@ -115,7 +115,7 @@ abbrev pub starts_type : Kind → Bool
 starts_type TypeWord = true
 starts_type Qualifier = true
 starts_type Tag = true
-starts_type TypeName = true
+starts_type (TypeName n) = true
 starts_type Atomic = true
 starts_type Storage = true
 starts_type Static = true
@@ -133,7 +133,7 @@ ends_type _ = false
 abbrev pub ends_specifiers : Kind → Bool → Bool
 ends_specifiers Star typed = true
 ends_specifiers Identifier typed = true
-ends_specifiers TypeName typed = typed
+ends_specifiers (TypeName n) typed = typed
 ends_specifiers OpenParen typed = true
 ends_specifiers OpenBracket typed = true
 ends_specifiers CloseParen typed = true
@@ -190,7 +190,7 @@ opens_parameters CloseParen = true
 opens_parameters TypeWord = true
 opens_parameters Qualifier = true
 opens_parameters Tag = true
-opens_parameters TypeName = true
+opens_parameters (TypeName n) = true
 opens_parameters Atomic = true
 opens_parameters Storage = true
 opens_parameters Static = true
@@ -201,7 +201,7 @@ is_identifier Identifier = true
 is_identifier _ = false
 
 abbrev pub is_typedef : Kind → Bool
-is_typedef TypeName = true
+is_typedef (TypeName n) = true
 is_typedef _ = false
 
 -- which name a declarator has: none, as a type's name; an identifier that is no typedef name; any identifier
@@ -236,10 +236,22 @@ behind_pointers named (p ∷ ps) = pointed named
 unfoldable pub names_at : List Kind → ℕ → Named → Bool
 names_at kinds at named = may_name named (kind_at kinds at)
 
--- this name hides a typedef name, if there is one
-abbrev pub hides_one : List Kind → Option ℕ → Bool
-hides_one kinds None = false
-hides_one kinds (Some n) = is_typedef (kind_at kinds n)
+-- where the typedef name w is hidden, its tokens are identifiers (6.2.1p4)
+abbrev pub hidden_one : ℕ → Kind → Kind
+hidden_one w (TypeName n) = if n == w then Identifier else TypeName n
+hidden_one w k = k
+
+unfoldable pub hide_word : List Kind → ℕ → List Kind
+hide_word kinds w = map (hidden_one w) kinds
+
+abbrev pub hide_kind : List Kind → Kind → List Kind
+hide_kind kinds (TypeName w) = hide_word kinds w
+hide_kind kinds k = kinds
+
+-- what the tokens are where this name is declared, if there is one
+abbrev pub hide : List Kind → Option ℕ → List Kind
+hide kinds None = kinds
+hide kinds (Some n) = hide_kind kinds (kind_at kinds n)
 
 -- a storage class or a function specifier stands here, among the specifiers of a type's name, which has none (6.7.2.1, 6.7.7)
 unfoldable pub stored_amiss : List Kind → ℕ → Bool → Bool

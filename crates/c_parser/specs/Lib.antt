@@ -6,6 +6,7 @@ pub mod Joining
 pub mod Kinds
 pub mod Levels
 pub mod Reading
+pub mod Scopes
 pub mod Tokens
 pub mod TypeMeaning
 pub mod TypeNames

@@ -6,10 +6,10 @@ use Rattle.c_parser.specs.declared.answers.ParseError.TheVariants as told
 use Rattle.c_parser.specs.declared.answers.Stop.{Stop}
 use Rattle.c_parser.specs.declared.answers.Stop.TheVariants.{Syntax, NoMemory}
 use Rattle.c_parser.specs.declared.kinds.Kind.{Kind}
-use Rattle.c_parser.specs.declared.kinds.Kind.TheVariants.{Identifier, Constant, Text, OpenParen, CloseParen, OpenBracket, CloseBracket, OpenBrace, CloseBrace, Step, Question, Colon, Comma, Generic, OffsetOf, Default, Ellipsis, TypeName, Tag, Star, Atomic, Static}
+use Rattle.c_parser.specs.declared.kinds.Kind.TheVariants.{Identifier, Constant, Text, OpenParen, CloseParen, OpenBracket, CloseBracket, OpenBrace, CloseBrace, Step, Question, Colon, Comma, Generic, OffsetOf, Default, Ellipsis, Tag, Star, Atomic, Static}
 use Rattle.c_parser.specs.Brackets.{too_deep}
-use Rattle.c_parser.specs.Grammar.{IsMore, IsAny, IsBefore, AreSteps, goes_on, has_type, AreSome, MayStand, typed_by, hides}
-use Rattle.c_parser.specs.Kinds.{kind_at, level_at, is_prefix, casts_at, is_size, is_word, is_equals, is_dot, is_member, specifies_at, qualifies_at, may_name, named_by, grouped, behind_pointers}
+use Rattle.c_parser.specs.Grammar.{IsMore, IsAny, IsBefore, AreSteps, goes_on, has_type, AreSome, MayStand, typed_by, past}
+use Rattle.c_parser.specs.Kinds.{kind_at, level_at, is_prefix, casts_at, is_size, is_word, is_equals, is_dot, is_member, specifies_at, qualifies_at, may_name, named_by, grouped, behind_pointers, is_typedef}
 use Rattle.c_parser.specs.Declarators.{AreThere, IsWritten, MayDerive}
 use Rattle.c_parser.specs.Levels.{IsBinary, behinds_level, rank}
 use Rattle.c_parser.specs.declared.kinds.Named.{Named}
@@ -172,7 +172,7 @@ abbrev mutual
 
   pub HoldSpecifying : List Kind → Bool → Specifying → ℕ → ℕ → Type 0
   HoldSpecifying ks typed (Word_of n) a b = (n ≡ a) × (specifies_at ks a ≡ true) × (b ≡ a + 1)
-  HoldSpecifying ks typed (Typedef_of n) a b = (n ≡ a) × (typed ≡ false) × (kind_at ks a ≡ TypeName) × (b ≡ a + 1)
+  HoldSpecifying ks typed (Typedef_of n) a b = (n ≡ a) × (typed ≡ false) × (is_typedef (kind_at ks a) ≡ true) × (b ≡ a + 1)
   HoldSpecifying ks typed (Tag_of k n) a b =
       (k ≡ a) × (kind_at ks a ≡ Tag) × (n ≡ a + 1) × (is_word (kind_at ks n) ≡ true) × (b ≡ n + 1)
   HoldSpecifying ks typed (Atomic_of k o t c) a b =
@@ -208,16 +208,16 @@ abbrev mutual
 
   pub HoldParameters : List Kind → Parameters → ℕ → ℕ → Type 0
   HoldParameters ks No_parameters a b = b ≡ a
-  HoldParameters ks (Fixed_of p ps) a b = (m : ℕ) × HoldsNaming ks true p a m × HoldRow ks (hides ks p) ps m b
+  HoldParameters ks (Fixed_of p ps) a b = (m : ℕ) × HoldsNaming ks true p a m × HoldRow (past ks p) ps m b
   HoldParameters ks (Variadic_of p ps o d) a b =
-      (m : ℕ) × HoldsNaming ks true p a m × HoldRow ks (hides ks p) ps m o
+      (m : ℕ) × HoldsNaming ks true p a m × HoldRow (past ks p) ps m o
       × (kind_at ks o ≡ Comma) × (d ≡ o + 1) × (kind_at ks d ≡ Ellipsis) × (b ≡ d + 1)
   HoldParameters ks (Names_of n ns) a b = (n ≡ a) × (kind_at ks a ≡ Identifier) × HoldNames ks ns (a + 1) b
 
-  pub HoldRow : List Kind → Bool → Row → ℕ → ℕ → Type 0
-  HoldRow ks hidden No_more a b = b ≡ a
-  HoldRow ks hidden (Parameter_then o p ps) a b =
-      (m : ℕ) × (o ≡ a) × (kind_at ks a ≡ Comma) × HoldsNaming ks true p (a + 1) m × HoldRow ks (hides ks p) ps m b × (hidden ≡ false)
+  pub HoldRow : List Kind → Row → ℕ → ℕ → Type 0
+  HoldRow ks No_more a b = b ≡ a
+  HoldRow ks (Parameter_then o p ps) a b =
+      (m : ℕ) × (o ≡ a) × (kind_at ks a ≡ Comma) × HoldsNaming ks true p (a + 1) m × HoldRow (past ks p) ps m b
 
   pub HoldDerivings : List Kind → Derivings → ℕ → ℕ → Type 0
   HoldDerivings ks No_derivings a b = b ≡ a

@@ -1,8 +1,5 @@
 -- The kinds of tokens of a unit, under names that are typedef names (ISO C11 6.4.1, 6.4.6, 6.7.8).
-use Rattle.std.specs.Prelude.{ℕ, Bool, List, [], ◌∷◌, map, bytes_eq, codes, if◌then◌else◌}
-use Rattle.std.specs.HashSet.{HashSet, contains_by}
-use Rattle.std.specs.List.{list_any}
-use denote.Ref.{Bor}
+use Rattle.std.specs.Prelude.{ℕ, ◌+◌, List, [], ◌∷◌, Option, Some, None, map, bytes_eq, codes, if◌then◌else◌}
 use Rattle.tok_data.specs.declared.tokens.OutToken.{OutToken}
 use Rattle.tok_data.specs.declared.tokens.PpKind.{PpKind}
 use Rattle.tok_data.specs.declared.tokens.PpKind.TheVariants as pp
@@ -49,32 +46,35 @@ words =
 unfoldable pub keyword_of : List ℕ → Kind
 keyword_of = lookup words
 
--- an identifier that is a typedef name is no primary expression
-unfoldable pub word_of : Bool → List ℕ → Kind
-word_of is_typedef text =
-    if is_keyword text then keyword_of text
-    else (if is_typedef then TypeName else Identifier)
+-- an identifier, by its number among the typedef names, if it is one; then it is no primary expression
+abbrev pub named : Option ℕ → Kind
+named None = Identifier
+named (Some n) = TypeName n
 
--- `is_typedef` says which identifiers are typedef names
-abbrev pub pp_kind_of : (List ℕ → Bool) → PpKind → List ℕ → Kind
-pp_kind_of is_typedef pp.Ident text = word_of (is_typedef text) text
-pp_kind_of is_typedef pp.Number text = Constant
-pp_kind_of is_typedef pp.Char text = Constant
-pp_kind_of is_typedef pp.Str text = Text
-pp_kind_of is_typedef pp.Header text = Other
-pp_kind_of is_typedef pp.Punct text = mark_of text
-pp_kind_of is_typedef pp.Stray text = Other
+unfoldable pub word_of : Option ℕ → List ℕ → Kind
+word_of number text = if is_keyword text then keyword_of text else named number
 
-abbrev pub kind_of : (List ℕ → Bool) → OutToken → Kind
-kind_of is_typedef t = pp_kind_of is_typedef t.kind t.spelling
+-- `number` gives the numbers of the typedef names
+abbrev pub pp_kind_of : (List ℕ → Option ℕ) → PpKind → List ℕ → Kind
+pp_kind_of number pp.Ident text = word_of (number text) text
+pp_kind_of number pp.Number text = Constant
+pp_kind_of number pp.Char text = Constant
+pp_kind_of number pp.Str text = Text
+pp_kind_of number pp.Header text = Other
+pp_kind_of number pp.Punct text = mark_of text
+pp_kind_of number pp.Stray text = Other
 
--- the text is one of the names
-abbrev pub is_among : List (List ℕ) → List ℕ → Bool
-is_among names text = list_any (λ name. bytes_eq name text) names
+abbrev pub kind_of : (List ℕ → Option ℕ) → OutToken → Kind
+kind_of number t = pp_kind_of number t.kind t.spelling
 
--- the set that the code keeps of them has the text
-unfoldable pub is_kept : {S : Type 0} → HashSet (Bor (List ℕ)) S → List ℕ → Bool
-is_kept set text = contains_by (λ k. bytes_eq text k.now) set
+-- the number of the last of these names that is the text, counted on from `at`, or what was found before
+abbrev pub number_from : ℕ → Option ℕ → List (List ℕ) → List ℕ → Option ℕ
+number_from at found [] text = found
+number_from at found (name ∷ names) text = number_from (at + 1) (if bytes_eq name text then Some at else found) names text
+
+-- the number of a typedef name
+abbrev pub number_among : List (List ℕ) → List ℕ → Option ℕ
+number_among names text = number_from 0 None names text
 
 abbrev pub kinds_of : List (List ℕ) → List OutToken → List Kind
-kinds_of names tokens = map (kind_of (is_among names)) tokens
+kinds_of names tokens = map (kind_of (number_among names)) tokens

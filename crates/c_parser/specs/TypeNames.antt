@@ -97,8 +97,8 @@ pub data RowEnd (kinds : List Kind) (c : ℕ) : Type 0 where
   at_close : kind_at kinds c ≡ CloseParen → RowEnd kinds c
   at_dots : kind_at kinds c ≡ Comma → kind_at kinds (c + 1) ≡ Ellipsis → RowEnd kinds c
 
-pub record FoundRow (kinds : List Kind) (hidden : Bool) (a : ℕ) (ps : Row) (b : ℕ) : Type 0 where
-  pub reads : HoldRow kinds hidden ps a b
+pub record FoundRow (kinds : List Kind) (a : ℕ) (ps : Row) (b : ℕ) : Type 0 where
+  pub reads : HoldRow kinds ps a b
   pub dots : kind_at kinds b ≡ Comma → kind_at kinds (b + 1) ≡ Ellipsis
   pub forth : a ≤ b
   pub inside : b ≤ length kinds

@@ -10,6 +10,7 @@ ghost use Rattle.c_parser.specs.Reading.{Reads, HoldsType, HoldFronts, Stops, Fo
 
 use crate::answers::Stop;
 use crate::kinds::{Kind, casts_at, kind_at, size_at, type_at};
+use crate::scope::Kinds;
 use crate::type_names::type_name;
 use std::alloc::Global;
 use tree_data::{Prefix, TypeName};
@@ -34,7 +35,7 @@ pub(crate) enum Front {
 
 // `( type-name )`, and the place of the `)`.
 #[cycle(parser)]
-pub(crate) fn typed(alloc: Global, kinds: &[Kind], at: u32) -> Result<(TypeName, u32), Stop>
+pub(crate) fn typed(alloc: Global, kinds: &Kinds<'_>, at: u32) -> Result<(TypeName, u32), Stop>
     requires size { length kinds.now ≤ 2000000 }
     requires inside { at < length kinds.now }
     requires kind { spec.kind_at kinds.now at ≡ OpenParen }
@@ -54,7 +55,7 @@ pub(crate) fn typed(alloc: Global, kinds: &[Kind], at: u32) -> Result<(TypeName,
 
 // `sizeof` or `_Alignof` in front of a type name in parentheses.
 #[cycle(parser)]
-fn size(alloc: Global, kinds: &[Kind], at: u32) -> Result<Front, Stop>
+fn size(alloc: Global, kinds: &Kinds<'_>, at: u32) -> Result<Front, Stop>
     requires size { length kinds.now ≤ 2000000 }
     requires inside { at ≤ length kinds.now }
     requires kind { spec.size_at kinds.now at ≡ true }
@@ -76,7 +77,7 @@ fn size(alloc: Global, kinds: &[Kind], at: u32) -> Result<Front, Stop>
 
 // A type name in parentheses: a cast, but in front of a `{`.
 #[cycle(parser)]
-fn cast(alloc: Global, kinds: &[Kind], at: u32) -> Result<Front, Stop>
+fn cast(alloc: Global, kinds: &Kinds<'_>, at: u32) -> Result<Front, Stop>
     requires size { length kinds.now ≤ 2000000 }
     requires inside { at ≤ length kinds.now }
     requires kind { spec.type_at kinds.now at ≡ true }
@@ -101,7 +102,7 @@ fn cast(alloc: Global, kinds: &[Kind], at: u32) -> Result<Front, Stop>
 
 // What stands in front of an operand.
 #[cycle(parser)]
-fn in_front(alloc: Global, kinds: &[Kind], at: u32) -> Result<Front, Stop>
+fn in_front(alloc: Global, kinds: &Kinds<'_>, at: u32) -> Result<Front, Stop>
     requires size { length kinds.now ≤ 2000000 }
     requires inside { at ≤ length kinds.now }
     ensures found { IfOk result (λ r. Fronted kinds.now at r) }
@@ -121,7 +122,11 @@ fn in_front(alloc: Global, kinds: &[Kind], at: u32) -> Result<Front, Stop>
 
 // The unary operators and casts that stand here, and what was read behind them.
 #[cycle(parser)]
-pub(crate) fn prefixes(alloc: Global, kinds: &[Kind], at: u32) -> Result<(Vec<Prefix>, Begun), Stop>
+pub(crate) fn prefixes(
+    alloc: Global,
+    kinds: &Kinds<'_>,
+    at: u32,
+) -> Result<(Vec<Prefix>, Begun), Stop>
     requires size { length kinds.now ≤ 2000000 }
     requires inside { at ≤ length kinds.now }
     ensures found { IfOk result (λ r. FoundPrefixes kinds.now at (fronts (prefixes_of r.0.items) None_before) (start_of r.1)) }

@@ -8,16 +8,18 @@ ghost use Rattle.c_parser.specs.Declarators.{name_of, name_in, need_name, MayDer
 ghost use Rattle.c_parser.specs.Kinds as spec;
 ghost use Rattle.c_parser.specs.Reading.{HoldsDeclaring, HoldsGrouping, HoldsDeriving, HoldDerivings, HoldsBound, HoldNames, HoldParameters, HoldRow, MustGive};
 ghost use Rattle.c_parser.specs.TypeNames.{FoundQualifiers, FoundPointers, FoundDeclaring, FoundGrouping, FoundDeriving, FoundDerivings, FoundBound, FoundNames, FoundParameters, FoundRow, RowEnd};
+ghost use Rattle.c_parser.specs.declared.kinds.Kind.{Kind};
 
 use crate::answers::Stop;
 use crate::expressions::{ASSIGNMENT, level};
-use crate::kinds::{Kind, Named, any_size_at, hides_one, kind_at, names_at, qualifies_at};
+use crate::kinds::{Kind, Named, any_size_at, kind_at, names_at, qualifies_at};
+use crate::scope::{Kinds, hide};
 use crate::type_names::specified;
 use std::alloc::Global;
 use tree_data::{Bound, Declarator, Deriving, Group, Parameters, Pointer, TypeName};
 
 // All qualifiers that stand here.
-fn qualifiers(alloc: Global, kinds: &[Kind], at: u32) -> Result<(Vec<u32>, u32), Stop>
+fn qualifiers(alloc: Global, kinds: &Kinds<'_>, at: u32) -> Result<(Vec<u32>, u32), Stop>
     requires size { length kinds.now ≤ 2000000 }
     requires inside { at ≤ length kinds.now }
     ensures found { IfOk result (λ r. FoundQualifiers kinds.now at r.0.items r.1) }
@@ -37,7 +39,7 @@ fn qualifiers(alloc: Global, kinds: &[Kind], at: u32) -> Result<(Vec<u32>, u32),
 }
 
 // All pointers that stand here.
-fn pointers(alloc: Global, kinds: &[Kind], at: u32) -> Result<(Vec<Pointer>, u32), Stop>
+fn pointers(alloc: Global, kinds: &Kinds<'_>, at: u32) -> Result<(Vec<Pointer>, u32), Stop>
     requires size { length kinds.now ≤ 2000000 }
     requires inside { at ≤ length kinds.now }
     ensures found { IfOk result (λ r. FoundPointers kinds.now at (pointers_of r.0.items) r.1) }
@@ -69,7 +71,7 @@ fn pointers(alloc: Global, kinds: &[Kind], at: u32) -> Result<(Vec<Pointer>, u32
 #[cycle(parser)]
 fn group(
     alloc: Global,
-    kinds: &[Kind],
+    kinds: &Kinds<'_>,
     at: u32,
     named: Named,
 ) -> Result<(Group, Option<u32>, u32), Stop>
@@ -105,7 +107,7 @@ fn group(
 
 // `static`, qualifiers and a size.
 #[cycle(parser)]
-fn static_bound(alloc: Global, kinds: &[Kind], at: u32) -> Result<(Bound, u32), Stop>
+fn static_bound(alloc: Global, kinds: &Kinds<'_>, at: u32) -> Result<(Bound, u32), Stop>
     requires size { length kinds.now ≤ 2000000 }
     requires inside { at < length kinds.now }
     requires kind { spec.kind_at kinds.now at ≡ Static }
@@ -132,7 +134,7 @@ fn static_bound(alloc: Global, kinds: &[Kind], at: u32) -> Result<(Bound, u32), 
 #[cycle(parser)]
 fn bound_behind(
     alloc: Global,
-    kinds: &[Kind],
+    kinds: &Kinds<'_>,
     at: u32,
     qualifiers: Vec<u32>,
     behind: u32,
@@ -172,7 +174,7 @@ fn bound_behind(
 
 // What stands in the brackets of an array, behind which `]` has to stand.
 #[cycle(parser)]
-fn bound(alloc: Global, kinds: &[Kind], at: u32) -> Result<(Bound, u32), Stop>
+fn bound(alloc: Global, kinds: &Kinds<'_>, at: u32) -> Result<(Bound, u32), Stop>
     requires size { length kinds.now ≤ 2000000 }
     requires inside { at ≤ length kinds.now }
     ensures found { IfOk result (λ r. FoundBound kinds.now at (bound_of r.0) r.1) }
@@ -190,7 +192,7 @@ fn bound(alloc: Global, kinds: &[Kind], at: u32) -> Result<(Bound, u32), Stop>
 
 // An array.
 #[cycle(parser)]
-fn array(alloc: Global, kinds: &[Kind], at: u32) -> Result<(Deriving, u32), Stop>
+fn array(alloc: Global, kinds: &Kinds<'_>, at: u32) -> Result<(Deriving, u32), Stop>
     requires size { length kinds.now ≤ 2000000 }
     requires inside { at < length kinds.now }
     requires kind { spec.kind_at kinds.now at ≡ OpenBracket }
@@ -208,48 +210,86 @@ fn array(alloc: Global, kinds: &[Kind], at: u32) -> Result<(Deriving, u32), Stop
     Ok((Deriving::array(at, bound, closing), closing + 1))
 }
 
-// The parameters behind the first, each with the comma in front of it, up to a `,` with `...` behind it; whether the name of the one in
-// front hides a typedef name.
+// What the tokens are behind this name, if there is one.
+fn behind_name<'a>(alloc: Global, kinds: &Kinds<'a>, name: Option<u32>) -> Result<Kinds<'a>, Stop>
+    ensures given { IfOk result (λ k. k ≡ spec.hide kinds.now name) }
+    ensures memory { IfErr result (λ e. e ≡ Stop.NoMemory) }
+{
+    let Ok(shared) = kinds.share() else {
+        return Err(Stop::NoMemory);
+    };
+    match hide(alloc, shared, name) {
+        Ok(inner) => Ok(inner),
+        Err(_) => Err(Stop::NoMemory),
+    }
+}
+
+// The parameters behind the first, each with the comma in front of it, up to a `,` with `...` behind it. From each name to the end of the
+// list a typedef name of this text is hidden (6.2.1).
 #[cycle(parser)]
-fn more_parameters(
+fn parameter_row(
     alloc: Global,
-    kinds: &[Kind],
+    kinds: Kinds<'_>,
     at: u32,
-    hidden: bool,
 ) -> Result<(Vec<(u32, TypeName)>, u32), Stop>
-    requires size { length kinds.now ≤ 2000000 }
-    requires inside { at ≤ length kinds.now }
-    ensures found { IfOk result (λ r. FoundRow kinds.now hidden at (tree.row (parameter_row_of r.0.items) tree.No_more) r.1) }
-    ensures only { (ps : tree.Row) → (end : ℕ) → HoldRow kinds.now hidden ps at end → RowEnd kinds.now end
+    requires size { length kinds ≤ 2000000 }
+    requires inside { at ≤ length kinds }
+    ensures found { (ks : List Kind) → kinds.entry ≡ ks
+        → IfOk result (λ r. FoundRow ks at (tree.row (parameter_row_of r.0.items) tree.No_more) r.1) }
+    ensures only { (ks : List Kind) → kinds.entry ≡ ks → (ps : tree.Row) → (end : ℕ) → HoldRow ks ps at end → RowEnd ks end
         → MustGive result (λ r. (tree.row (parameter_row_of r.0.items) tree.No_more ≡ ps) × (r.1 ≡ end)) }
 {
+    let mut inner = kinds;
     let mut more = Vec::new(alloc);
     let mut end = at;
-    let mut last = hidden;
     'parameters: loop {
-        let Kind::Comma = kind_at(kinds, end) else {
+        let Kind::Comma = kind_at(&inner, end) else {
             return Ok((more, end));
         };
-        if let Kind::Ellipsis = kind_at(kinds, end + 1) {
+        if let Kind::Ellipsis = kind_at(&inner, end + 1) {
             return Ok((more, end));
         }
-        if last {
-            return Err(Stop::Syntax(end + 1));
-        }
-        let (one, name, next) = match specified(alloc, kinds, end + 1, true) {
+        let (one, name, next) = match specified(alloc, &inner, end + 1, true) {
             Ok(found) => found,
             Err(stop) => return Err(stop),
         };
         let Ok(()) = more.push((end, one)) else {
             return Err(Stop::NoMemory);
         };
-        last = hides_one(kinds, name);
+        let Ok(further) = hide(alloc, inner, name) else {
+            return Err(Stop::NoMemory);
+        };
+        inner = further;
         end = next;
     }
 }
 
+// The parameters behind the first, which has this name.
+#[cycle(parser)]
+fn more_parameters(
+    alloc: Global,
+    kinds: &Kinds<'_>,
+    at: u32,
+    name: Option<u32>,
+) -> Result<(Vec<(u32, TypeName)>, u32), Stop>
+    requires size { length kinds.now ≤ 2000000 }
+    requires inside { at ≤ length kinds.now }
+    ensures found { IfOk result (λ r. FoundRow (spec.hide kinds.now name) at (tree.row (parameter_row_of r.0.items) tree.No_more) r.1) }
+    ensures only { (ps : tree.Row) → (end : ℕ) → HoldRow (spec.hide kinds.now name) ps at end → RowEnd (spec.hide kinds.now name) end
+        → MustGive result (λ r. (tree.row (parameter_row_of r.0.items) tree.No_more ≡ ps) × (r.1 ≡ end)) }
+{
+    match behind_name(alloc, kinds, name) {
+        Ok(inner) => parameter_row(alloc, inner, at),
+        Err(stop) => Err(stop),
+    }
+}
+
 // The identifiers behind the first of a list, each with the comma in front of it (6.7.6), behind which `)` has to stand.
-fn more_identifiers(alloc: Global, kinds: &[Kind], at: u32) -> Result<(Vec<(u32, u32)>, u32), Stop>
+fn more_identifiers(
+    alloc: Global,
+    kinds: &Kinds<'_>,
+    at: u32,
+) -> Result<(Vec<(u32, u32)>, u32), Stop>
     requires size { length kinds.now ≤ 2000000 }
     requires inside { at ≤ length kinds.now }
     ensures found { IfOk result (λ r. FoundNames kinds.now at r.0.items r.1) }
@@ -273,7 +313,7 @@ fn more_identifiers(alloc: Global, kinds: &[Kind], at: u32) -> Result<(Vec<(u32,
 }
 
 // A list of identifiers, behind which `)` has to stand.
-fn identifier_list(alloc: Global, kinds: &[Kind], at: u32) -> Result<(Parameters, u32), Stop>
+fn identifier_list(alloc: Global, kinds: &Kinds<'_>, at: u32) -> Result<(Parameters, u32), Stop>
     requires size { length kinds.now ≤ 2000000 }
     requires inside { at < length kinds.now }
     requires kind { spec.kind_at kinds.now at ≡ Identifier }
@@ -289,7 +329,7 @@ fn identifier_list(alloc: Global, kinds: &[Kind], at: u32) -> Result<(Parameters
 
 // The parameters of a function, behind which `)` has to stand. An identifier that is no typedef name begins a list of such.
 #[cycle(parser)]
-fn parameters(alloc: Global, kinds: &[Kind], at: u32) -> Result<(Parameters, u32), Stop>
+fn parameters(alloc: Global, kinds: &Kinds<'_>, at: u32) -> Result<(Parameters, u32), Stop>
     requires size { length kinds.now ≤ 2000000 }
     requires inside { at ≤ length kinds.now }
     ensures found { IfOk result (λ r. FoundParameters kinds.now at (parameters_of r.0) r.1) }
@@ -306,8 +346,7 @@ fn parameters(alloc: Global, kinds: &[Kind], at: u32) -> Result<(Parameters, u32
         Ok(found) => found,
         Err(stop) => return Err(stop),
     };
-    let hidden = hides_one(kinds, name);
-    let (more, end) = match more_parameters(alloc, kinds, behind, hidden) {
+    let (more, end) = match more_parameters(alloc, kinds, behind, name) {
         Ok(found) => found,
         Err(stop) => return Err(stop),
     };
@@ -325,7 +364,7 @@ fn parameters(alloc: Global, kinds: &[Kind], at: u32) -> Result<(Parameters, u32
 
 // A function.
 #[cycle(parser)]
-fn function(alloc: Global, kinds: &[Kind], at: u32) -> Result<(Deriving, u32), Stop>
+fn function(alloc: Global, kinds: &Kinds<'_>, at: u32) -> Result<(Deriving, u32), Stop>
     requires size { length kinds.now ≤ 2000000 }
     requires inside { at < length kinds.now }
     requires kind { spec.kind_at kinds.now at ≡ OpenParen }
@@ -345,7 +384,7 @@ fn function(alloc: Global, kinds: &[Kind], at: u32) -> Result<(Deriving, u32), S
 
 // An array or a function.
 #[cycle(parser)]
-fn array_or_function(alloc: Global, kinds: &[Kind], at: u32) -> Result<(Deriving, u32), Stop>
+fn array_or_function(alloc: Global, kinds: &Kinds<'_>, at: u32) -> Result<(Deriving, u32), Stop>
     requires size { length kinds.now ≤ 2000000 }
     requires inside { at ≤ length kinds.now }
     requires kind { spec.is_deriving (spec.kind_at kinds.now at) ≡ true }
@@ -362,7 +401,7 @@ fn array_or_function(alloc: Global, kinds: &[Kind], at: u32) -> Result<(Deriving
 
 // The token that shows that an array or a function from one place to another stands behind a name alone: the first identifier of
 // a list, or the `]` behind qualifiers and `*`.
-fn amiss(kinds: &[Kind], from: u32, to: u32) -> u32 {
+fn amiss(kinds: &Kinds<'_>, from: u32, to: u32) -> u32 {
     let Kind::OpenParen = kind_at(kinds, from) else {
         return to.saturating_sub(1);
     };
@@ -380,7 +419,7 @@ fn lacks_name(one: &Deriving, declares: bool) -> bool
 #[cycle(parser)]
 fn derivings(
     alloc: Global,
-    kinds: &[Kind],
+    kinds: &Kinds<'_>,
     at: u32,
     declares: bool,
 ) -> Result<(Vec<Deriving>, u32), Stop>
@@ -425,7 +464,7 @@ fn behind(named: Named, pointers: &[Pointer]) -> Named
 #[cycle(parser)]
 pub(crate) fn declarator(
     alloc: Global,
-    kinds: &[Kind],
+    kinds: &Kinds<'_>,
     at: u32,
     named: Named,
 ) -> Result<(Declarator, Option<u32>, u32), Stop>

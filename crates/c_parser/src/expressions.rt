@@ -15,6 +15,7 @@ use crate::before::{Begun, prefixes};
 use crate::initializers::braces;
 use crate::joining;
 use crate::kinds::{Kind, kind_at, level_at};
+use crate::scope::Kinds;
 use crate::selections::{generic, offset};
 use std::alloc::Global;
 use tree_data::{Choice, Expr, Suffix, TypeName};
@@ -32,7 +33,7 @@ const LOGICAL_OR: u8 = 4;
 const POSTFIX: u8 = 16;
 
 // All string literals that stand here side by side.
-fn pieces(alloc: Global, kinds: &[Kind], at: u32) -> Result<(Vec<u32>, u32), Stop>
+fn pieces(alloc: Global, kinds: &Kinds<'_>, at: u32) -> Result<(Vec<u32>, u32), Stop>
     requires size { length kinds.now ≤ 2000000 }
     requires inside { at ≤ length kinds.now }
     ensures found { IfOk result (λ r. FoundTexts kinds.now at r.0.items r.1) }
@@ -52,7 +53,7 @@ fn pieces(alloc: Global, kinds: &[Kind], at: u32) -> Result<(Vec<u32>, u32), Sto
 }
 
 // A string literal.
-fn text(alloc: Global, kinds: &[Kind], at: u32) -> Result<(Expr, u32), Stop>
+fn text(alloc: Global, kinds: &Kinds<'_>, at: u32) -> Result<(Expr, u32), Stop>
     requires size { length kinds.now ≤ 2000000 }
     requires inside { at < length kinds.now }
     requires kind { spec.kind_at kinds.now at ≡ Text }
@@ -68,7 +69,7 @@ fn text(alloc: Global, kinds: &[Kind], at: u32) -> Result<(Expr, u32), Stop>
 
 // `( expression )`.
 #[cycle(parser)]
-fn paren(alloc: Global, kinds: &[Kind], at: u32) -> Result<(Expr, u32), Stop>
+fn paren(alloc: Global, kinds: &Kinds<'_>, at: u32) -> Result<(Expr, u32), Stop>
     requires size { length kinds.now ≤ 2000000 }
     requires inside { at < length kinds.now }
     requires untyped { spec.type_at kinds.now at ≡ false }
@@ -92,7 +93,7 @@ fn paren(alloc: Global, kinds: &[Kind], at: u32) -> Result<(Expr, u32), Stop>
 
 // A primary expression (6.5.1).
 #[cycle(parser)]
-fn primary(alloc: Global, kinds: &[Kind], at: u32) -> Result<(Expr, u32), Stop>
+fn primary(alloc: Global, kinds: &Kinds<'_>, at: u32) -> Result<(Expr, u32), Stop>
     requires size { length kinds.now ≤ 2000000 }
     requires plain { IsPlain kinds.now at }
     ensures found { IfOk result (λ r. Found kinds.now 17 at (tree_of r.0) r.1) }
@@ -112,7 +113,7 @@ fn primary(alloc: Global, kinds: &[Kind], at: u32) -> Result<(Expr, u32), Stop>
 
 // `[ expression ]`.
 #[cycle(parser)]
-fn index(alloc: Global, kinds: &[Kind], at: u32) -> Result<(Suffix, u32), Stop>
+fn index(alloc: Global, kinds: &Kinds<'_>, at: u32) -> Result<(Suffix, u32), Stop>
     requires size { length kinds.now ≤ 2000000 }
     requires inside { at < length kinds.now }
     requires kind { spec.kind_at kinds.now at ≡ OpenBracket }
@@ -135,7 +136,7 @@ fn index(alloc: Global, kinds: &[Kind], at: u32) -> Result<(Suffix, u32), Stop>
 
 // `( argument-expression-list )` or `( )`.
 #[cycle(parser)]
-fn call(alloc: Global, kinds: &[Kind], at: u32) -> Result<(Suffix, u32), Stop>
+fn call(alloc: Global, kinds: &Kinds<'_>, at: u32) -> Result<(Suffix, u32), Stop>
     requires size { length kinds.now ≤ 2000000 }
     requires inside { at < length kinds.now }
     requires kind { spec.kind_at kinds.now at ≡ OpenParen }
@@ -164,7 +165,7 @@ fn call(alloc: Global, kinds: &[Kind], at: u32) -> Result<(Suffix, u32), Stop>
 }
 
 // `.` or `->` and an identifier, which may be a typedef name.
-fn member(kinds: &[Kind], at: u32) -> Result<(Suffix, u32), Stop>
+fn member(kinds: &Kinds<'_>, at: u32) -> Result<(Suffix, u32), Stop>
     requires size { length kinds.now ≤ 2000000 }
     requires inside { at < length kinds.now }
     requires kind { spec.is_member (spec.kind_at kinds.now at) ≡ true }
@@ -180,7 +181,7 @@ fn member(kinds: &[Kind], at: u32) -> Result<(Suffix, u32), Stop>
 
 // A postfix operator.
 #[cycle(parser)]
-pub(crate) fn suffix(alloc: Global, kinds: &[Kind], at: u32) -> Result<(Suffix, u32), Stop>
+pub(crate) fn suffix(alloc: Global, kinds: &Kinds<'_>, at: u32) -> Result<(Suffix, u32), Stop>
     requires size { length kinds.now ≤ 2000000 }
     requires inside { at < length kinds.now }
     requires kind { spec.level_at kinds.now at ≡ 16 }
@@ -198,7 +199,7 @@ pub(crate) fn suffix(alloc: Global, kinds: &[Kind], at: u32) -> Result<(Suffix, 
 
 // The postfix operators that stand here.
 #[cycle(parser)]
-fn suffixes(alloc: Global, kinds: &[Kind], at: u32) -> Result<(Vec<Suffix>, u32), Stop>
+fn suffixes(alloc: Global, kinds: &Kinds<'_>, at: u32) -> Result<(Vec<Suffix>, u32), Stop>
     requires size { length kinds.now ≤ 2000000 }
     requires inside { at ≤ length kinds.now }
     ensures found { IfOk result (λ r. FoundBehinds kinds.now 16 at (behinds (suffixes_of r.0.items) None_behind) r.1) }
@@ -225,7 +226,7 @@ fn suffixes(alloc: Global, kinds: &[Kind], at: u32) -> Result<(Vec<Suffix>, u32)
 // The size or alignment of a type, behind which no postfix operator may stand (6.5.3).
 fn sized(
     alloc: Global,
-    kinds: &[Kind],
+    kinds: &Kinds<'_>,
     keyword: u32,
     name: TypeName,
     closing: u32,
@@ -249,7 +250,7 @@ fn sized(
 #[cycle(parser)]
 fn compound(
     alloc: Global,
-    kinds: &[Kind],
+    kinds: &Kinds<'_>,
     opening: u32,
     name: TypeName,
     closing: u32,
@@ -272,7 +273,7 @@ fn compound(
 
 // A primary expression, the size or alignment of a type, or a compound literal.
 #[cycle(parser)]
-fn begun_with(alloc: Global, kinds: &[Kind], begun: Begun) -> Result<(Expr, u32), Stop>
+fn begun_with(alloc: Global, kinds: &Kinds<'_>, begun: Begun) -> Result<(Expr, u32), Stop>
     requires size { length kinds.now ≤ 2000000 }
     requires begins { Begins kinds.now begun }
     ensures found { IfOk result (λ r. Found kinds.now 17 (start_of begun) (tree_of r.0) r.1) }
@@ -300,7 +301,7 @@ fn begun_with(alloc: Global, kinds: &[Kind], begun: Begun) -> Result<(Expr, u32)
 
 // What was begun, with the postfix operators behind it (6.5.2).
 #[cycle(parser)]
-fn postfix(alloc: Global, kinds: &[Kind], begun: Begun) -> Result<(Expr, u32), Stop>
+fn postfix(alloc: Global, kinds: &Kinds<'_>, begun: Begun) -> Result<(Expr, u32), Stop>
     requires size { length kinds.now ≤ 2000000 }
     requires begins { Begins kinds.now begun }
     ensures found { IfOk result (λ r. Found kinds.now 16 (start_of begun) (tree_of r.0) r.1) }
@@ -323,7 +324,7 @@ fn postfix(alloc: Global, kinds: &[Kind], begun: Begun) -> Result<(Expr, u32), S
 
 // A postfix expression with the unary operators and casts in front of it (6.5.3, 6.5.4).
 #[cycle(parser)]
-fn unary(alloc: Global, kinds: &[Kind], at: u32) -> Result<(Expr, u32), Stop>
+fn unary(alloc: Global, kinds: &Kinds<'_>, at: u32) -> Result<(Expr, u32), Stop>
     requires size { length kinds.now ≤ 2000000 }
     requires inside { at ≤ length kinds.now }
     ensures found { IfOk result (λ r. Found kinds.now 14 at (tree_of r.0) r.1) }
@@ -346,7 +347,12 @@ fn unary(alloc: Global, kinds: &[Kind], at: u32) -> Result<(Expr, u32), Stop>
 
 // The operators of this level that stand here, each with the operand behind it.
 #[cycle(parser)]
-fn operands(alloc: Global, kinds: &[Kind], n: u8, at: u32) -> Result<(Vec<(u32, Expr)>, u32), Stop>
+fn operands(
+    alloc: Global,
+    kinds: &Kinds<'_>,
+    n: u8,
+    at: u32,
+) -> Result<(Vec<(u32, Expr)>, u32), Stop>
     requires size { length kinds.now ≤ 2000000 }
     requires inside { at ≤ length kinds.now }
     requires binary { IsBinary n }
@@ -376,7 +382,7 @@ fn operands(alloc: Global, kinds: &[Kind], n: u8, at: u32) -> Result<(Vec<(u32, 
 #[cycle(parser)]
 fn binary(
     alloc: Global,
-    kinds: &[Kind],
+    kinds: &Kinds<'_>,
     n: u8,
     first: Expr,
     behind: u32,
@@ -402,7 +408,7 @@ fn binary(
 // Operands with operators of this level and of those that bind more between them (6.5.5 to 6.5.14). The operator behind what
 // was read tells of which level it is: one that binds less than those before it takes all that was read.
 #[cycle(parser)]
-fn operations(alloc: Global, kinds: &[Kind], n: u8, at: u32) -> Result<(Expr, u32), Stop>
+fn operations(alloc: Global, kinds: &Kinds<'_>, n: u8, at: u32) -> Result<(Expr, u32), Stop>
     requires size { length kinds.now ≤ 2000000 }
     requires inside { at ≤ length kinds.now }
     requires low { 4 ≤ n }
@@ -433,7 +439,7 @@ fn operations(alloc: Global, kinds: &[Kind], n: u8, at: u32) -> Result<(Expr, u3
 
 // Expressions with commas between them (6.5.17).
 #[cycle(parser)]
-fn comma(alloc: Global, kinds: &[Kind], at: u32) -> Result<(Expr, u32), Stop>
+fn comma(alloc: Global, kinds: &Kinds<'_>, at: u32) -> Result<(Expr, u32), Stop>
     requires size { length kinds.now ≤ 2000000 }
     requires inside { at ≤ length kinds.now }
     ensures found { IfOk result (λ r. Found kinds.now 1 at (tree_of r.0) r.1) }
@@ -452,7 +458,7 @@ fn comma(alloc: Global, kinds: &[Kind], at: u32) -> Result<(Expr, u32), Stop>
 
 // Tests with what stands between `?` and `:`, and the last expression (6.5.15).
 #[cycle(parser)]
-fn conditional(alloc: Global, kinds: &[Kind], at: u32) -> Result<(Expr, u32), Stop>
+fn conditional(alloc: Global, kinds: &Kinds<'_>, at: u32) -> Result<(Expr, u32), Stop>
     requires size { length kinds.now ≤ 2000000 }
     requires inside { at ≤ length kinds.now }
     ensures found { IfOk result (λ r. Found kinds.now 3 at (tree_of r.0) r.1) }
@@ -489,7 +495,7 @@ fn conditional(alloc: Global, kinds: &[Kind], at: u32) -> Result<(Expr, u32), St
 // Places to which a value is assigned, and the value (6.5.16). What stands in front of the operator is read as a
 // conditional expression, and its form decides.
 #[cycle(parser)]
-fn assignment(alloc: Global, kinds: &[Kind], at: u32) -> Result<(Expr, u32), Stop>
+fn assignment(alloc: Global, kinds: &Kinds<'_>, at: u32) -> Result<(Expr, u32), Stop>
     requires size { length kinds.now ≤ 2000000 }
     requires inside { at ≤ length kinds.now }
     ensures found { IfOk result (λ r. Found kinds.now 2 at (tree_of r.0) r.1) }
@@ -521,7 +527,7 @@ fn assignment(alloc: Global, kinds: &[Kind], at: u32) -> Result<(Expr, u32), Sto
 
 // An expression of this level, or of one that binds more.
 #[cycle(parser)]
-pub(crate) fn level(alloc: Global, kinds: &[Kind], n: u8, at: u32) -> Result<(Expr, u32), Stop>
+pub(crate) fn level(alloc: Global, kinds: &Kinds<'_>, n: u8, at: u32) -> Result<(Expr, u32), Stop>
     requires size { length kinds.now ≤ 2000000 }
     requires inside { at ≤ length kinds.now }
     requires low { 1 ≤ n }

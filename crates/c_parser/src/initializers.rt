@@ -10,12 +10,13 @@ ghost use Rattle.c_parser.specs.Reading.{HoldBraces, HoldsInitial, HoldsPiece, H
 use crate::answers::Stop;
 use crate::expressions::{ASSIGNMENT, CONDITIONAL, level};
 use crate::kinds::{Kind, kind_at};
+use crate::scope::Kinds;
 use std::alloc::Global;
 use tree_data::{Braces, Designator, Init, Piece};
 
 // `[ constant-expression ]`, or `.` and an identifier, which may be a typedef name.
 #[cycle(parser)]
-fn designator(alloc: Global, kinds: &[Kind], at: u32) -> Result<(Designator, u32), Stop>
+fn designator(alloc: Global, kinds: &Kinds<'_>, at: u32) -> Result<(Designator, u32), Stop>
     requires size { length kinds.now ≤ 2000000 }
     requires inside { at < length kinds.now }
     requires kind { spec.is_designating (spec.kind_at kinds.now at) ≡ true }
@@ -41,7 +42,7 @@ fn designator(alloc: Global, kinds: &[Kind], at: u32) -> Result<(Designator, u32
 
 // The designators that stand here.
 #[cycle(parser)]
-fn designators(alloc: Global, kinds: &[Kind], at: u32) -> Result<(Vec<Designator>, u32), Stop>
+fn designators(alloc: Global, kinds: &Kinds<'_>, at: u32) -> Result<(Vec<Designator>, u32), Stop>
     requires size { length kinds.now ≤ 2000000 }
     requires inside { at ≤ length kinds.now }
     ensures found { IfOk result (λ r. FoundDesignators kinds.now at (designators (designators_of r.0.items)) r.1) }
@@ -68,7 +69,7 @@ fn designators(alloc: Global, kinds: &[Kind], at: u32) -> Result<(Vec<Designator
 
 // An assignment-expression, or a list in braces.
 #[cycle(parser)]
-fn init(alloc: Global, kinds: &[Kind], at: u32) -> Result<(Init, u32), Stop>
+fn init(alloc: Global, kinds: &Kinds<'_>, at: u32) -> Result<(Init, u32), Stop>
     requires size { length kinds.now ≤ 2000000 }
     requires inside { at ≤ length kinds.now }
     ensures found { IfOk result (λ r. FoundInitial kinds.now at (initial_of r.0) r.1) }
@@ -93,7 +94,7 @@ fn init(alloc: Global, kinds: &[Kind], at: u32) -> Result<(Init, u32), Stop>
 
 // A designation with `=` and an initializer.
 #[cycle(parser)]
-fn designated(alloc: Global, kinds: &[Kind], at: u32) -> Result<(Piece, u32), Stop>
+fn designated(alloc: Global, kinds: &Kinds<'_>, at: u32) -> Result<(Piece, u32), Stop>
     requires size { length kinds.now ≤ 2000000 }
     requires inside { at < length kinds.now }
     requires kind { spec.is_designating (spec.kind_at kinds.now at) ≡ true }
@@ -120,7 +121,7 @@ fn designated(alloc: Global, kinds: &[Kind], at: u32) -> Result<(Piece, u32), St
 
 // An initializer, with a designation or without.
 #[cycle(parser)]
-fn piece(alloc: Global, kinds: &[Kind], at: u32) -> Result<(Piece, u32), Stop>
+fn piece(alloc: Global, kinds: &Kinds<'_>, at: u32) -> Result<(Piece, u32), Stop>
     requires size { length kinds.now ≤ 2000000 }
     requires inside { at ≤ length kinds.now }
     ensures found { IfOk result (λ r. FoundPiece kinds.now at (piece_of r.0) r.1) }
@@ -140,7 +141,7 @@ fn piece(alloc: Global, kinds: &[Kind], at: u32) -> Result<(Piece, u32), Stop>
 #[cycle(parser)]
 fn pieces(
     alloc: Global,
-    kinds: &[Kind],
+    kinds: &Kinds<'_>,
     at: u32,
 ) -> Result<(Vec<(u32, Piece)>, Option<u32>, u32), Stop>
     requires size { length kinds.now ≤ 2000000 }
@@ -172,7 +173,7 @@ fn pieces(
 
 // `{ initializer-list }` or `{ initializer-list , }`.
 #[cycle(parser)]
-pub(crate) fn braces(alloc: Global, kinds: &[Kind], at: u32) -> Result<(Braces, u32), Stop>
+pub(crate) fn braces(alloc: Global, kinds: &Kinds<'_>, at: u32) -> Result<(Braces, u32), Stop>
     requires size { length kinds.now ≤ 2000000 }
     requires kind { spec.kind_at kinds.now at ≡ OpenBrace }
     requires inside { at < length kinds.now }

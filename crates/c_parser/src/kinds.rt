@@ -2,11 +2,14 @@
 ghost use Rattle.std.specs.Prelude.{◌≡◌, ◌<◌, ◌≤◌, ◌||◌, length};
 ghost use Rattle.c_parser.specs.Kinds as spec;
 
+use crate::scope::Kinds;
+
 #[derive(Clone, Copy, Debug, PartialEq, Eq, Hash, Drop)]
 pub(crate) enum Kind {
     // An identifier that is neither a keyword nor a typedef name.
     Identifier,
-    TypeName,
+    // A typedef name in force, by its number.
+    TypeName(u32),
     // A keyword that is a type specifier by itself, as `int`.
     TypeWord,
     Qualifier,
@@ -134,7 +137,7 @@ impl Kind {
             Kind::TypeWord
                 | Kind::Qualifier
                 | Kind::Tag
-                | Kind::TypeName
+                | Kind::TypeName(_)
                 | Kind::Atomic
                 | Kind::Storage
                 | Kind::Static
@@ -184,7 +187,7 @@ impl Kind {
     pub fn is_typedef(self) -> bool
         ensures { result ≡ spec.is_typedef self }
     {
-        matches!(self, Kind::TypeName)
+        matches!(self, Kind::TypeName(_))
     }
 
     pub fn is_star(self) -> bool
@@ -209,7 +212,7 @@ impl Kind {
                 | Kind::TypeWord
                 | Kind::Qualifier
                 | Kind::Tag
-                | Kind::TypeName
+                | Kind::TypeName(_)
                 | Kind::Atomic
                 | Kind::Storage
                 | Kind::Static
@@ -233,23 +236,20 @@ impl Kind {
     pub fn is_word(self) -> bool
         ensures { result ≡ spec.is_word self }
     {
-        matches!(self, Kind::Identifier | Kind::TypeName)
+        matches!(self, Kind::Identifier | Kind::TypeName(_))
     }
 }
 
 // The kind of the token with this number.
-pub(crate) fn kind_at(kinds: &[Kind], at: u32) -> Kind
+pub(crate) fn kind_at(kinds: &Kinds<'_>, at: u32) -> Kind
     ensures kind { result ≡ spec.kind_at kinds.now at }
     ensures inside { spec.IsInside kinds.now at result }
 {
-    match kinds.get(at as usize) {
-        Some(kind) => *kind,
-        None => Kind::End,
-    }
+    kinds.at(at)
 }
 
 // The level at which an expression goes on with the token with this number, or 0.
-pub(crate) fn level_at(kinds: &[Kind], at: u32) -> u8
+pub(crate) fn level_at(kinds: &Kinds<'_>, at: u32) -> u8
     ensures level { result ≡ spec.level_at kinds.now at }
     ensures inside { 0 < result → at < length kinds.now }
 {
@@ -258,7 +258,7 @@ pub(crate) fn level_at(kinds: &[Kind], at: u32) -> u8
 
 // Whether a type name in parentheses begins at this token.
 #[tactic(auto, unfolding(crate::specs::Kinds::type_at))]
-pub(crate) fn type_at(kinds: &[Kind], at: u32) -> bool
+pub(crate) fn type_at(kinds: &Kinds<'_>, at: u32) -> bool
     requires { at ≤ 2000002 }
     ensures { result ≡ spec.type_at kinds.now at }
 {
@@ -267,7 +267,7 @@ pub(crate) fn type_at(kinds: &[Kind], at: u32) -> bool
 
 // Whether the size or alignment of a type name in parentheses begins at this token.
 #[tactic(auto, unfolding(crate::specs::Kinds::size_at))]
-pub(crate) fn size_at(kinds: &[Kind], at: u32) -> bool
+pub(crate) fn size_at(kinds: &Kinds<'_>, at: u32) -> bool
     requires { at ≤ 2000001 }
     ensures { result ≡ spec.size_at kinds.now at }
 {
@@ -276,7 +276,7 @@ pub(crate) fn size_at(kinds: &[Kind], at: u32) -> bool
 
 // Whether `_Atomic ( type-name )` begins at this token (6.7.2.4).
 #[tactic(auto, unfolding(crate::specs::Kinds::atomic_opens))]
-pub(crate) fn atomic_opens(kinds: &[Kind], at: u32) -> bool
+pub(crate) fn atomic_opens(kinds: &Kinds<'_>, at: u32) -> bool
     requires { at ≤ 2000001 }
     ensures { result ≡ spec.atomic_opens kinds.now at }
 {
@@ -285,7 +285,7 @@ pub(crate) fn atomic_opens(kinds: &[Kind], at: u32) -> bool
 
 // Whether this token is `_Atomic` for itself, as a qualifier (6.7.3).
 #[tactic(auto, unfolding(crate::specs::Kinds::atomic_at))]
-fn atomic_at(kinds: &[Kind], at: u32) -> bool
+fn atomic_at(kinds: &Kinds<'_>, at: u32) -> bool
     requires { at ≤ 2000001 }
     ensures { result ≡ spec.atomic_at kinds.now at }
 {
@@ -294,7 +294,7 @@ fn atomic_at(kinds: &[Kind], at: u32) -> bool
 
 // Whether this token is a qualifier.
 #[tactic(auto, unfolding(crate::specs::Kinds::qualifies_at))]
-pub(crate) fn qualifies_at(kinds: &[Kind], at: u32) -> bool
+pub(crate) fn qualifies_at(kinds: &Kinds<'_>, at: u32) -> bool
     requires { at ≤ 2000001 }
     ensures { result ≡ spec.qualifies_at kinds.now at }
 {
@@ -303,7 +303,7 @@ pub(crate) fn qualifies_at(kinds: &[Kind], at: u32) -> bool
 
 // Whether `*` stands here in place of an array's size (6.7.6.2).
 #[tactic(auto, unfolding(crate::specs::Kinds::any_size_at))]
-pub(crate) fn any_size_at(kinds: &[Kind], at: u32) -> bool
+pub(crate) fn any_size_at(kinds: &Kinds<'_>, at: u32) -> bool
     requires { at ≤ 2000001 }
     ensures { result ≡ spec.any_size_at kinds.now at }
 {
@@ -360,7 +360,7 @@ pub(crate) fn named_by(parameter: bool, typed: bool) -> Named
 
 // Whether the name that a declarator declares stands here, where it may have one (6.7.6).
 #[tactic(auto, unfolding(crate::specs::Kinds::names_at))]
-pub(crate) fn names_at(kinds: &[Kind], at: u32, named: Named) -> bool
+pub(crate) fn names_at(kinds: &Kinds<'_>, at: u32, named: Named) -> bool
     ensures { result ≡ spec.names_at kinds.now at named }
 {
     match named {
@@ -370,19 +370,9 @@ pub(crate) fn names_at(kinds: &[Kind], at: u32, named: Named) -> bool
     }
 }
 
-// Whether this name hides a typedef name, if there is one.
-pub(crate) fn hides_one(kinds: &[Kind], name: Option<u32>) -> bool
-    ensures { result ≡ spec.hides_one kinds.now name }
-{
-    match name {
-        Some(at) => kind_at(kinds, at).is_typedef(),
-        None => false,
-    }
-}
-
 // Whether a storage class or a function specifier stands here, among specifiers of which it is none (6.7.2.1).
 #[tactic(auto, unfolding(crate::specs::Kinds::stored_amiss))]
-pub(crate) fn stored_amiss(kinds: &[Kind], at: u32, named: bool) -> bool
+pub(crate) fn stored_amiss(kinds: &Kinds<'_>, at: u32, named: bool) -> bool
     ensures { result ≡ spec.stored_amiss kinds.now at named }
 {
     !named && kind_at(kinds, at).is_storage()
@@ -390,7 +380,7 @@ pub(crate) fn stored_amiss(kinds: &[Kind], at: u32, named: bool) -> bool
 
 // Whether no operator stands in front of this token that takes a unary-expression.
 #[tactic(auto, unfolding(crate::specs::Kinds::casts_at))]
-pub(crate) fn casts_at(kinds: &[Kind], at: u32) -> bool
+pub(crate) fn casts_at(kinds: &Kinds<'_>, at: u32) -> bool
     ensures { result ≡ spec.casts_at kinds.now at }
 {
     !kind_at(kinds, at.saturating_sub(1)).is_tight()

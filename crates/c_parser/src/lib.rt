@@ -10,6 +10,7 @@ mod initializers;
 mod joining;
 mod kinds;
 mod names;
+mod scope;
 mod selections;
 mod tokens;
 mod type_names;

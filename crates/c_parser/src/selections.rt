@@ -11,13 +11,14 @@ ghost use Rattle.c_parser.specs.Reading.{Reads, HoldBehinds, HoldsAssociation, H
 use crate::answers::Stop;
 use crate::expressions::{ASSIGNMENT, level, suffix};
 use crate::kinds::{Kind, kind_at};
+use crate::scope::Kinds;
 use crate::type_names::type_name;
 use std::alloc::Global;
 use tree_data::{Association, Expr, Suffix};
 
 // `default : assignment-expression`.
 #[cycle(parser)]
-fn other(alloc: Global, kinds: &[Kind], at: u32) -> Result<(Association, u32), Stop>
+fn other(alloc: Global, kinds: &Kinds<'_>, at: u32) -> Result<(Association, u32), Stop>
     requires size { length kinds.now ≤ 2000000 }
     requires inside { at < length kinds.now }
     requires kind { spec.kind_at kinds.now at ≡ Default }
@@ -36,7 +37,7 @@ fn other(alloc: Global, kinds: &[Kind], at: u32) -> Result<(Association, u32), S
 
 // `type-name : assignment-expression`, or one for all other types.
 #[cycle(parser)]
-fn association(alloc: Global, kinds: &[Kind], at: u32) -> Result<(Association, u32), Stop>
+fn association(alloc: Global, kinds: &Kinds<'_>, at: u32) -> Result<(Association, u32), Stop>
     requires size { length kinds.now ≤ 2000000 }
     requires inside { at ≤ length kinds.now }
     ensures found { IfOk result (λ r. FoundAssociation kinds.now at (association_of r.0) r.1) }
@@ -66,7 +67,7 @@ fn association(alloc: Global, kinds: &[Kind], at: u32) -> Result<(Association, u
 #[cycle(parser)]
 fn associations(
     alloc: Global,
-    kinds: &[Kind],
+    kinds: &Kinds<'_>,
     at: u32,
 ) -> Result<(Vec<(u32, Association)>, u32), Stop>
     requires size { length kinds.now ≤ 2000000 }
@@ -95,7 +96,7 @@ fn associations(
 
 // `_Generic ( assignment-expression , generic-assoc-list )`.
 #[cycle(parser)]
-pub(crate) fn generic(alloc: Global, kinds: &[Kind], at: u32) -> Result<(Expr, u32), Stop>
+pub(crate) fn generic(alloc: Global, kinds: &Kinds<'_>, at: u32) -> Result<(Expr, u32), Stop>
     requires size { length kinds.now ≤ 2000000 }
     requires inside { at < length kinds.now }
     requires kind { spec.kind_at kinds.now at ≡ Generic }
@@ -128,7 +129,7 @@ pub(crate) fn generic(alloc: Global, kinds: &[Kind], at: u32) -> Result<(Expr, u
 
 // What selects within a member: `. identifier` and `[ expression ]`.
 #[cycle(parser)]
-fn steps(alloc: Global, kinds: &[Kind], at: u32) -> Result<(Vec<Suffix>, u32), Stop>
+fn steps(alloc: Global, kinds: &Kinds<'_>, at: u32) -> Result<(Vec<Suffix>, u32), Stop>
     requires size { length kinds.now ≤ 2000000 }
     requires inside { at ≤ length kinds.now }
     ensures found { IfOk result (λ r. FoundSteps kinds.now at (behinds (suffixes_of r.0.items) None_behind) r.1) }
@@ -155,7 +156,7 @@ fn steps(alloc: Global, kinds: &[Kind], at: u32) -> Result<(Vec<Suffix>, u32), S
 
 // `__offsetof ( type-name , member-designator )`.
 #[cycle(parser)]
-pub(crate) fn offset(alloc: Global, kinds: &[Kind], at: u32) -> Result<(Expr, u32), Stop>
+pub(crate) fn offset(alloc: Global, kinds: &Kinds<'_>, at: u32) -> Result<(Expr, u32), Stop>
     requires size { length kinds.now ≤ 2000000 }
     requires inside { at < length kinds.now }
     requires kind { spec.kind_at kinds.now at ≡ OffsetOf }

@@ -1,5 +1,6 @@
 // The kinds of the tokens of a unit.
 ghost use Rattle.std.specs.Prelude.{◌≡◌, ℕ, List, IfOk, map, bytes_eq, option_map};
+ghost use Rattle.std.specs.HashMap.{get_by_text};
 ghost use Rattle.std.specs.List.{find};
 ghost use Rattle.c_parser.specs.Tokens as spec;
 
@@ -7,7 +8,7 @@ use crate::kinds::Kind;
 use crate::names::NameSet;
 use shared_text::Name;
 use std::alloc::{AllocError, Global};
-use std::collections::HashSet;
+use std::collections::HashMap;
 use tok_data::{OutToken, PpKind, is_keyword};
 
 static MARKS: [(&str, Kind); 49] = [
@@ -121,32 +122,40 @@ fn keyword_of(text: &str) -> Kind
     }
 }
 
-// The typedef names, looked up at a constant cost.
-fn typedefs_of<'a>(alloc: Global, names: &'a [Name]) -> Result<HashSet<&'a str>, AllocError>
-    ensures { IfOk result (λ set. (text : List ℕ) → spec.is_kept set text ≡ spec.is_among names.now text) }
+// The typedef names with their numbers, looked up at a constant cost. Of more than 2^32 names the rest would take memory that isn't there.
+fn typedefs_of(alloc: Global, names: &[Name]) -> Result<HashMap<String, u32>, AllocError>
+    ensures { IfOk result (λ map. (text : List ℕ) → get_by_text map text ≡ spec.number_among names.now text) }
 {
-    let mut typedefs = HashSet::new(alloc);
-    for name in names {
-        typedefs.insert(name.as_str())?;
+    let mut typedefs = HashMap::new(alloc);
+    let mut number = 0u32;
+    let mut rest = names;
+    'names: while let Some((name, behind)) = rest.split_first() {
+        rest = behind;
+        let key = String::from_str(alloc, name.as_str())?;
+        typedefs.insert(key, number).map_err(AllocError::from)?;
+        let Some(next) = number.checked_add(1) else {
+            return Err(AllocError);
+        };
+        number = next;
     }
     Ok(typedefs)
 }
 
-#[tactic(auto, unfolding(crate::specs::Tokens::word_of, crate::specs::Tokens::is_kept))]
-fn word_of(typedefs: &HashSet<&str>, text: &str) -> Kind
-    ensures { result ≡ spec.word_of (spec.is_kept typedefs.now text.now) text.now }
+#[tactic(auto, unfolding(crate::specs::Tokens::word_of))]
+fn word_of(typedefs: &HashMap<String, u32>, text: &str) -> Kind
+    ensures { result ≡ spec.word_of (get_by_text typedefs.now text.now) text.now }
 {
     if is_keyword(text) {
         return keyword_of(text);
     }
-    if typedefs.contains(text) {
-        return Kind::TypeName;
+    match typedefs.get(text).copied() {
+        Some(number) => Kind::TypeName(number),
+        None => Kind::Identifier,
     }
-    Kind::Identifier
 }
 
-fn kind_of(typedefs: &HashSet<&str>, token: &OutToken) -> Kind
-    ensures { result ≡ spec.kind_of (spec.is_kept typedefs.now) token.now }
+fn kind_of(typedefs: &HashMap<String, u32>, token: &OutToken) -> Kind
+    ensures { result ≡ spec.kind_of (get_by_text typedefs.now) token.now }
 {
     let text = token.spelling.as_str();
     match token.kind {
@@ -163,9 +172,9 @@ fn kind_of(typedefs: &HashSet<&str>, token: &OutToken) -> Kind
 fn kinds_by(
     alloc: Global,
     tokens: &[OutToken],
-    typedefs: &HashSet<&str>,
+    typedefs: &HashMap<String, u32>,
 ) -> Result<Vec<Kind>, AllocError>
-    ensures { IfOk result (λ v. v.items ≡ map (spec.kind_of (spec.is_kept typedefs.now)) tokens.now) }
+    ensures { IfOk result (λ v. v.items ≡ map (spec.kind_of (get_by_text typedefs.now)) tokens.now) }
 {
     let mut out = Vec::new(alloc);
     for token in tokens {

@@ -12,11 +12,12 @@ use crate::answers::Stop;
 use crate::before::typed;
 use crate::declarators::declarator;
 use crate::kinds::{Kind, atomic_opens, kind_at, named_by, stored_amiss};
+use crate::scope::Kinds;
 use std::alloc::Global;
 use tree_data::{Specifier, Specs, TypeName};
 
 // The specifier of one or two tokens that stands here, the place behind it, and whether a type specifier has stood by then.
-fn short_specifier(kinds: &[Kind], at: u32, typed: bool) -> Option<(Specifier, u32, bool)>
+fn short_specifier(kinds: &Kinds<'_>, at: u32, typed: bool) -> Option<(Specifier, u32, bool)>
     requires size { length kinds.now ≤ 2000000 }
     requires inside { at ≤ length kinds.now }
     requires short { spec.atomic_opens kinds.now at ≡ false }
@@ -28,7 +29,7 @@ fn short_specifier(kinds: &[Kind], at: u32, typed: bool) -> Option<(Specifier, u
         Kind::Atomic => Some((Specifier::word(at), at + 1, typed)),
         Kind::Storage => Some((Specifier::word(at), at + 1, typed)),
         Kind::Static => Some((Specifier::word(at), at + 1, typed)),
-        Kind::TypeName => {
+        Kind::TypeName(_) => {
             if typed {
                 return None;
             }
@@ -46,7 +47,7 @@ fn short_specifier(kinds: &[Kind], at: u32, typed: bool) -> Option<(Specifier, u
 
 // `_Atomic ( type-name )`.
 #[cycle(parser)]
-fn atomic(alloc: Global, kinds: &[Kind], at: u32) -> Result<(Specifier, u32), Stop>
+fn atomic(alloc: Global, kinds: &Kinds<'_>, at: u32) -> Result<(Specifier, u32), Stop>
     requires size { length kinds.now ≤ 2000000 }
     requires inside { at ≤ length kinds.now }
     requires opens { spec.atomic_opens kinds.now at ≡ true }
@@ -68,7 +69,7 @@ fn atomic(alloc: Global, kinds: &[Kind], at: u32) -> Result<(Specifier, u32), St
 #[cycle(parser)]
 fn specifier(
     alloc: Global,
-    kinds: &[Kind],
+    kinds: &Kinds<'_>,
     at: u32,
     typed: bool,
 ) -> Result<Option<(Specifier, u32, bool)>, Stop>
@@ -91,7 +92,7 @@ fn specifier(
 #[cycle(parser)]
 fn specifiers(
     alloc: Global,
-    kinds: &[Kind],
+    kinds: &Kinds<'_>,
     at: u32,
     named: bool,
 ) -> Result<(Vec<Specifier>, bool, u32), Stop>
@@ -128,7 +129,7 @@ fn specifiers(
 #[cycle(parser)]
 pub(crate) fn specified(
     alloc: Global,
-    kinds: &[Kind],
+    kinds: &Kinds<'_>,
     at: u32,
     named: bool,
 ) -> Result<(TypeName, Option<u32>, u32), Stop>
@@ -156,7 +157,7 @@ pub(crate) fn specified(
 
 // The name of a type, behind which `)`, `:`, `,` or nothing has to stand.
 #[cycle(parser)]
-pub(crate) fn type_name(alloc: Global, kinds: &[Kind], at: u32) -> Result<(TypeName, u32), Stop>
+pub(crate) fn type_name(alloc: Global, kinds: &Kinds<'_>, at: u32) -> Result<(TypeName, u32), Stop>
     requires size { length kinds.now ≤ 2000000 }
     requires inside { at ≤ length kinds.now }
     ensures found { IfOk result (λ r. FoundType kinds.now at (type_of r.0) r.1) }

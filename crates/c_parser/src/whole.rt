@@ -13,6 +13,7 @@ use crate::brackets::too_deep;
 use crate::expressions::{EXPRESSION, level};
 use crate::kinds::Kind;
 use crate::names::NameSet;
+use crate::scope::Kinds;
 use crate::tokens::kinds_of;
 use crate::type_names::type_name;
 use std::alloc::Global;
@@ -29,7 +30,7 @@ fn at_front(stop: Stop) -> ParseError
     }
 }
 
-fn whole(alloc: Global, kinds: &[Kind]) -> Result<Expr, ParseError>
+fn expression(alloc: Global, kinds: &Kinds<'_>) -> Result<Expr, ParseError>
     requires { length kinds.now ≤ 2000000 }
     ensures found { IfOk result (λ e. Reads kinds.now 1 (tree_of e) 0 (length kinds.now)) }
     ensures only { IfErr result (λ e. (t : Tree) → Reads kinds.now 1 t 0 (length kinds.now) → IsRefused e) }
@@ -43,6 +44,21 @@ fn whole(alloc: Global, kinds: &[Kind]) -> Result<Expr, ParseError>
         return Err(ParseError::Syntax(0));
     }
     Ok(expr)
+}
+
+fn whole(alloc: Global, kinds: &[Kind]) -> Result<Expr, ParseError>
+    requires { length kinds.now ≤ 2000000 }
+    ensures found { IfOk result (λ e. Reads kinds.now 1 (tree_of e) 0 (length kinds.now)) }
+    ensures only { IfErr result (λ e. (t : Tree) → Reads kinds.now 1 t 0 (length kinds.now) → IsRefused e) }
+    ensures place { IfErr result IsAtFront }
+{
+    let Ok(view) = Kinds::new(alloc, kinds) else {
+        return Err(ParseError::NoMemory);
+    };
+    match expression(alloc, &view) {
+        Ok(expr) => Ok(expr),
+        Err(error) => Err(error),
+    }
 }
 
 // The kinds of the tokens, whose brackets nest no deeper than they may.
@@ -86,7 +102,7 @@ pub fn parse_expr(alloc: Global, tokens: &[OutToken], names: &NameSet) -> Result
     }
 }
 
-fn whole_type(alloc: Global, kinds: &[Kind]) -> Result<TypeName, ParseError>
+fn name_of_type(alloc: Global, kinds: &Kinds<'_>) -> Result<TypeName, ParseError>
     requires { length kinds.now ≤ 2000000 }
     ensures found { IfOk result (λ t. HoldsType kinds.now (type_of t) 0 (length kinds.now)) }
     ensures only { IfErr result (λ e. (t : Naming) → HoldsType kinds.now t 0 (length kinds.now) → IsRefused e) }
@@ -102,14 +118,32 @@ fn whole_type(alloc: Global, kinds: &[Kind]) -> Result<TypeName, ParseError>
     Ok(name)
 }
 
+fn whole_type(alloc: Global, kinds: &[Kind]) -> Result<TypeName, ParseError>
+    requires { length kinds.now ≤ 2000000 }
+    ensures found { IfOk result (λ t. HoldsType kinds.now (type_of t) 0 (length kinds.now)) }
+    ensures only { IfErr result (λ e. (t : Naming) → HoldsType kinds.now t 0 (length kinds.now) → IsRefused e) }
+    ensures place { IfErr result IsAtFront }
+{
+    let Ok(view) = Kinds::new(alloc, kinds) else {
+        return Err(ParseError::NoMemory);
+    };
+    match name_of_type(alloc, &view) {
+        Ok(name) => Ok(name),
+        Err(error) => Err(error),
+    }
+}
+
 /// The one name of a type that the tokens spell, all of them (ISO C11 6.7.7): specifiers and qualifiers, and an abstract
 /// declarator. Of specifiers its grammar has keywords, qualifiers, `_Atomic ( type-name )`, tags without braces and, where no type specifier
 /// stands before it, a typedef name, which is an identifier among `names`; of declarators it has pointers, parentheses, arrays
 /// and functions, and their parameters (6.7.6.3), which are such specifiers, storage classes and function specifiers, and a declarator
 /// with a name or with none. An identifier among `names` is a parameter's name behind a type specifier of its own specifiers or a `*`, and
 /// else its type (6.7.6.3p11). Behind a name, or a declarator in parentheses with a name in it, a list of identifiers that aren't among
-/// `names` may stand in place of parameters (6.7.6). Braces, `_Alignas` and parameters behind one whose name is among `names`, which it
-/// hides, are not in it yet. The tokens are at most 2,000,000.
+/// `names` may stand in place of parameters (6.7.6). From the name of a parameter to the end of its list an identifier of the same text
+/// is no typedef name (6.2.1). Braces and `_Alignas` are not in it yet. The tokens are at most 2,000,000.
+///
+/// Cost: linear, but that the first name of a list of parameters that hides a typedef name takes a copy of a flag for each name among
+/// `names` up to the last that is hidden.
 ///
 /// Errors: TooDeep with the bracket that opens the 257th level, which is looked for first; Syntax(0) exactly where
 /// no name of the grammar spells the tokens and no bracket is too deep; NoMemory.

@@ -1,4 +1,4 @@
-use Rattle.c_parser.proofs.ParameterLists.{parameter_row_found, parameter_row_same, parameter_row_fails, parameter_row_push, none_same, first_missing, rest_missing, fixed_same, variadic_same, fixed_found, variadic_found, parameter_row_hidden}
+use Rattle.c_parser.proofs.ParameterLists.{parameter_row_found, parameter_row_same, parameter_row_fails, parameter_row_push, none_same, first_missing, rest_missing, fixed_same, variadic_same, fixed_found, variadic_found, row_found_under, row_only_under, row_fails_under, rowing_start_with}
 use Rattle.c_parser.proofs.Abstract.{no_group, group_fails, group_left_open, group_found, group_same, static_fails, static_found, static_same, unsized_found, unsized_same, last_static_fails, last_static_found, last_static_same, sized_fails, sized_found, sized_same, any_found, any_same, array_fails, array_left_open, array_found, found_deriving_only, nothing_derives, derivings_found, derivings_same, derivings_fail, derivings_unnamed, derivings_push, group_missing, derivings_missing, declaring_found, declaring_same, name_found, name_same, function_found, function_fails, function_left_open}
 use Rattle.c_parser.proofs.SpecifierLists.{atomic_found, atomic_specified, atomic_fails, specifiers_end, specifiers_only, specifiers_fail, specifiers_refused, specifiers_push, specifiers_missing, none_specifying, some_specifying, declarator_missing, naming_found, name_only, specifiers_told}
 use Rattle.c_parser.proofs.Words.{left_of, right_of, not_named, named_or, opens_inside, opens_next, name_stands, name_stands_not, behind_mapped}
@@ -8,7 +8,7 @@ use Rattle.tree_data.specs.Seen.{declarator_of, deriving_of, pointing}
 use Rattle.c_parser.specs.declared.before.Begun.TheVariants.{Literal}
 use Rattle.std.proofs.Common.{ap, sym, ◌∙◌, subst, arith, ◌+◌, ◌≤◌, ◌<◌, ◌≡◌, refl, length, ◌==◌, not, is_some}
 use Rattle.c_parser.specs.Beginnings.{start_of}
-use Rattle.c_parser.specs.Kinds.{level_of, is_word, is_designating, is_prefix, is_deriving, opens_parameters, named_by, behind_pointers, hides_one}
+use Rattle.c_parser.specs.Kinds.{level_of, is_word, is_designating, is_prefix, is_deriving, opens_parameters, named_by, behind_pointers, hide}
 use Rattle.c_parser.specs.Reading.{Reads, Found, FoundBehind, FoundBraces, FoundInitial, FoundDesignator, FoundAssociation, FoundFront, FoundNaming}
 use Rattle.c_parser.proofs.Fronts.{value_fails, no_place, places_end, test_fails, middle_fails, no_colon, tests_end, unary_fails, operand_of_fails, unary_found}
 use Rattle.c_parser.proofs.Marks.{is_step, member_none}
@@ -22,6 +22,7 @@ use Rattle.c_parser.proofs.Views.{binary_view, postfix_view}
 use Rattle.c_parser.proofs.+parser.Goals as goal
 use Rattle.c_parser.specs.Declarators.{name_of, name_in}
 use Rattle.c_parser.specs.Grammar.{name_by}
+use Rattle.c_parser.proofs.Hiding.{hidden_length}
 
 pub expressions::assignment-returns-in-Err-clause-only : goal.expressions::assignment-returns-in-Err-clause-only
 expressions::assignment-returns-in-Err-clause-only t c = value_fails _ _ _ _ _ c.places.invariant c.in-Err.ensures.only
@@ -1462,42 +1463,37 @@ before::size-typed-requires t c =
       (c.requires.size, (here, type_opens _ _ (size_typed _ _ c.requires.kind))),
     )
 
-pub declarators::more_parameters-returns-in_default : goal.declarators::more_parameters-returns-in_default
-declarators::more_parameters-returns-in_default t c =
-    record {
-      found = parameter_row_found _ _ _ _ _ _ c.parameters.invariant (λ k. absurd (c.in_default.not-Comma (c.kind_at.ensures.kind ∙ k)));
-      only = parameter_row_same _ _ _ _ _ _ c.parameters.invariant (λ k. absurd (c.in_default.not-Comma (c.kind_at.ensures.kind ∙ k)));
-    }
+pub declarators::parameter_row-returns-in_default : goal.declarators::parameter_row-returns-in_default
+declarators::parameter_row-returns-in_default t c =
+    let found = parameter_row_found _ _ _ _ _ c.parameters.invariant (λ k. absurd (c.in_default.not-Comma (c.kind_at.ensures.kind ∙ k))) in
+    let only = parameter_row_same _ _ _ _ _ c.parameters.invariant (λ k. absurd (c.in_default.not-Comma (c.kind_at.ensures.kind ∙ k))) in
+    record { found = λ ks is. row_found_under _ ks is _ _ _ found; only = λ ks is. row_only_under _ ks is _ _ _ only }
 
-pub declarators::more_parameters-returns-in-Ellipsis : goal.declarators::more_parameters-returns-in-Ellipsis
-declarators::more_parameters-returns-in-Ellipsis t c =
-    record {
-      found = parameter_row_found _ _ _ _ _ _ c.parameters.invariant (λ k. sym c.in-Ellipsis.ensures.kind);
-      only = parameter_row_same _ _ _ _ _ _ c.parameters.invariant (λ k. sym c.in-Ellipsis.ensures.kind);
-    }
+pub declarators::parameter_row-returns-in-Ellipsis : goal.declarators::parameter_row-returns-in-Ellipsis
+declarators::parameter_row-returns-in-Ellipsis t c =
+    let found = parameter_row_found _ _ _ _ _ c.parameters.invariant (λ k. sym c.in-Ellipsis.ensures.kind) in
+    let only = parameter_row_same _ _ _ _ _ c.parameters.invariant (λ k. sym c.in-Ellipsis.ensures.kind) in
+    record { found = λ ks is. row_found_under _ ks is _ _ _ found; only = λ ks is. row_only_under _ ks is _ _ _ only }
 
-pub declarators::more_parameters-returns-in-Err : goal.declarators::more_parameters-returns-in-Err
-declarators::more_parameters-returns-in-Err t c = record {
-  found = tt;
-  only =
-      parameter_row_fails
-      _
-      _
-      _
-      _
-      _
-      _
-      c.parameters.invariant
-      (sym c.in-Comma.ensures.kind)
-      (λ k. c.in_default-kind_at.not-Ellipsis (c.kind_at-in-parameters.ensures.kind ∙ k))
-      _
-      c.in-Err.ensures.only;
-}
-
-pub declarators::more_parameters-parameters-preserved : goal.declarators::more_parameters-parameters-preserved
-declarators::more_parameters-parameters-preserved t c =
-    parameter_row_push
+pub declarators::parameter_row-returns-in-Err : goal.declarators::parameter_row-returns-in-Err
+declarators::parameter_row-returns-in-Err t c =
+    let fails =
+    parameter_row_fails
     _
+    _
+    _
+    _
+    _
+    c.parameters.invariant
+    (sym c.in-Comma.ensures.kind)
+    (λ k. c.in_default-kind_at.not-Ellipsis (c.kind_at-in-parameters.ensures.kind ∙ k))
+    _
+    c.in-Err.ensures.only in
+    record { found = λ ks is. tt; only = λ ks is. row_fails_under _ ks is _ _ fails }
+
+pub declarators::parameter_row-parameters-preserved : goal.declarators::parameter_row-parameters-preserved
+declarators::parameter_row-parameters-preserved t c =
+    parameter_row_push
     _
     _
     _
@@ -1509,30 +1505,46 @@ declarators::more_parameters-parameters-preserved t c =
     c.parameters.invariant
     (sym c.in-Comma.ensures.kind)
     (λ k. c.in_default-kind_at.not-Ellipsis (c.kind_at-in-parameters.ensures.kind ∙ k))
-    c.if-last.false
     c.in-Ok.ensures.found
     c.in-Ok.ensures.only
     _
-    (c.hides_one-last.ensures ∙ ap (hides_one c.args.kinds.now) c.in-Ok.ensures.told)
+    (c.in-Ok-hide.ensures ∙ ap (hide c.parameters.inner) c.in-Ok.ensures.told)
     c.in-Ok-push.ensures.items
 
-pub declarators::more_parameters-returns-then-last : goal.declarators::more_parameters-returns-then-last
-declarators::more_parameters-returns-then-last t c = record {
-  found = tt;
-  only =
-      parameter_row_hidden
-      _
-      _
-      _
-      _
-      _
-      _
-      c.parameters.invariant
-      (sym c.in-Comma.ensures.kind)
-      (λ k. c.in_default-kind_at.not-Ellipsis (c.kind_at-in-parameters.ensures.kind ∙ k))
-      c.if-last.true
-      c.args.at;
+pub declarators::more_parameters-returns-in-Ok : goal.declarators::more_parameters-returns-in-Ok
+declarators::more_parameters-returns-in-Ok t c = record {
+  found = c.parameter_row.ensures.found _ c.in-Ok.ensures.given;
+  only = c.parameter_row.ensures.only _ c.in-Ok.ensures.given;
 }
+
+pub declarators::parameter_row-parameters-init : goal.declarators::parameter_row-parameters-init
+declarators::parameter_row-parameters-init t c =
+    rowing_start_with _ _ _ c.new-more.ensures.items c.requires.inside
+
+pub declarators::parameter_row-specified-requires : goal.declarators::parameter_row-specified-requires
+declarators::parameter_row-specified-requires t c =
+    let same = c.parameters.invariant.same in
+    let forth = c.parameters.invariant.forth in
+    let here = c.in-Comma.ensures.inside in (
+      omega (arith, c.decreases, same, forth, here),
+      (subst (λ n. n ≤ 2000000) (sym same) c.requires.size, omega (arith, here)),
+    )
+
+pub declarators::parameter_row-parameters-smaller : goal.declarators::parameter_row-parameters-smaller
+declarators::parameter_row-parameters-smaller t c =
+    let same : length c.in-Ok-hide.further ≡ length c.parameters.inner =
+    ap (λ xs. length xs) c.in-Ok-hide.ensures ∙ hidden_length c.parameters.inner c.in-Ok.found.1 in
+    let one = c.in-Ok.ensures.found.forth in
+    let two = c.in-Ok.ensures.found.inside in
+    omega (arith, same, one, two)
+
+pub declarators::more_parameters-parameter_row-requires : goal.declarators::more_parameters-parameter_row-requires
+declarators::more_parameters-parameter_row-requires t c =
+    let same : length c.in-Ok.inner ≡ length c.args.kinds.now =
+    ap (λ xs. length xs) c.in-Ok.ensures.given ∙ hidden_length c.args.kinds.now c.args.name in (
+      omega (arith, c.decreases, same),
+      (subst (λ n. n ≤ 2000000) (sym same) c.requires.size, subst (λ n. c.args.at ≤ n) (sym same) c.requires.inside),
+    )
 
 pub declarators::parameters-returns-in-CloseParen : goal.declarators::parameters-returns-in-CloseParen
 declarators::parameters-returns-in-CloseParen t c =
@@ -1555,7 +1567,7 @@ declarators::parameters-returns-in-Err t c = record {
 pub declarators::parameters-returns-in-Err-more_parameters : goal.declarators::parameters-returns-in-Err-more_parameters
 declarators::parameters-returns-in-Err-more_parameters t c = record {
   found = tt;
-  only = rest_missing _ _ (λ k. c.in_default.not-CloseParen (c.kind_at.ensures.kind ∙ k)) (λ k. c.in_default-kind_at.not-Identifier (c.kind_at-2.ensures.kind ∙ k)) _ _ c.in-Ok.ensures.only _ (c.hides_one-hidden.ensures ∙ ap (hides_one c.args.kinds.now) c.in-Ok.ensures.told) _ c.in-Err-more_parameters.ensures.only;
+  only = rest_missing _ _ (λ k. c.in_default.not-CloseParen (c.kind_at.ensures.kind ∙ k)) (λ k. c.in_default-kind_at.not-Identifier (c.kind_at-2.ensures.kind ∙ k)) _ _ c.in-Ok.ensures.only _ (ap (hide c.args.kinds.now) c.in-Ok.ensures.told) _ c.in-Err-more_parameters.ensures.only;
 }
 
 pub declarators::parameters-returns-in-Ok-fixed : goal.declarators::parameters-returns-in-Ok-fixed
@@ -1570,7 +1582,7 @@ declarators::parameters-returns-in-Ok-fixed t c =
     _
     c.in-Ok.ensures.only
     _
-    (c.hides_one-hidden.ensures ∙ ap (hides_one c.args.kinds.now) c.in-Ok.ensures.told)
+    (ap (hide c.args.kinds.now) c.in-Ok.ensures.told)
     _
     _
     c.in-Ok-more_parameters.ensures.only
@@ -1580,7 +1592,7 @@ declarators::parameters-returns-in-Ok-fixed t c =
           subst
           (λ x. FoundParameters c.args.kinds.now c.args.at x c.in-Ok-more_parameters.found.1)
           (sym c.in-Ok-fixed.ensures)
-          (fixed_found _ _ _ _ c.in-Ok.ensures.found _ (c.hides_one-hidden.ensures ∙ ap (hides_one c.args.kinds.now) c.in-Ok.ensures.told) _ _ c.in-Ok-more_parameters.ensures.found);
+          (fixed_found _ _ _ _ c.in-Ok.ensures.found _ (ap (hide c.args.kinds.now) c.in-Ok.ensures.told) _ _ c.in-Ok-more_parameters.ensures.found);
       only = λ ps end h e. let same = only ps end h e in (c.in-Ok-fixed.ensures ∙ same.0, same.1);
     }
 
@@ -1596,7 +1608,7 @@ declarators::parameters-returns-in-Ok-variadic t c =
     _
     c.in-Ok.ensures.only
     _
-    (c.hides_one-hidden.ensures ∙ ap (hides_one c.args.kinds.now) c.in-Ok.ensures.told)
+    (ap (hide c.args.kinds.now) c.in-Ok.ensures.told)
     _
     _
     c.in-Ok-more_parameters.ensures.only
@@ -1606,7 +1618,7 @@ declarators::parameters-returns-in-Ok-variadic t c =
           subst
           (λ x. FoundParameters c.args.kinds.now c.args.at x (c.in-Ok-more_parameters.found.1 + 2))
           (sym c.in-Ok-variadic.ensures)
-          (variadic_found _ _ _ _ c.in-Ok.ensures.found _ (c.hides_one-hidden.ensures ∙ ap (hides_one c.args.kinds.now) c.in-Ok.ensures.told) _ _ c.in-Ok-more_parameters.ensures.found (sym c.in-Comma.ensures.kind));
+          (variadic_found _ _ _ _ c.in-Ok.ensures.found _ (ap (hide c.args.kinds.now) c.in-Ok.ensures.told) _ _ c.in-Ok-more_parameters.ensures.found (sym c.in-Comma.ensures.kind));
       only = λ ps end h e. let same = only ps end h e in (c.in-Ok-variadic.ensures ∙ same.0, same.1);
     }
 

@@ -228,17 +228,20 @@ decreases-declarators::bound_behind l = 64 * (length l.kinds.now - l.behind) + 4
 abbrev pub decreases-type_names::type_name : goal.decreases-type_names::type_name
 decreases-type_names::type_name l = 64 * (length l.kinds.now - l.at) + 45
 
-abbrev pub invariant-declarators::more_parameters-parameters : goal.invariant-declarators::more_parameters-parameters
-invariant-declarators::more_parameters-parameters l = Rowing l.kinds l.fn.hidden l.fn.at (parameter_row_of l.more.items) l.end l.last
+abbrev pub invariant-declarators::parameter_row-parameters : goal.invariant-declarators::parameter_row-parameters
+invariant-declarators::parameter_row-parameters l = Rowing l.fn.kinds l.fn.at (parameter_row_of l.more.items) l.end l.inner
 
-abbrev pub decreases-declarators::more_parameters-parameters : goal.decreases-declarators::more_parameters-parameters
-decreases-declarators::more_parameters-parameters l = length l.kinds - l.end
+abbrev pub decreases-declarators::parameter_row-parameters : goal.decreases-declarators::parameter_row-parameters
+decreases-declarators::parameter_row-parameters l = length l.inner - l.end
+
+abbrev pub decreases-declarators::parameter_row : goal.decreases-declarators::parameter_row
+decreases-declarators::parameter_row l = 64 * (length l.kinds - l.at) + 45
 
 abbrev pub decreases-declarators::more_parameters : goal.decreases-declarators::more_parameters
-decreases-declarators::more_parameters l = 64 * (length l.kinds.now - l.at) + 45
+decreases-declarators::more_parameters l = 64 * (length l.kinds.now - l.at) + 46
 
 abbrev pub decreases-declarators::parameters : goal.decreases-declarators::parameters
-decreases-declarators::parameters l = 64 * (length l.kinds.now - l.at) + 46
+decreases-declarators::parameters l = 64 * (length l.kinds.now - l.at) + 47
 
 abbrev pub decreases-declarators::function : goal.decreases-declarators::function
 decreases-declarators::function l = 64 * (length l.kinds.now - l.at) + 37

@@ -1,5 +1,6 @@
 use Rattle.std.proofs.Common.{ap, ◌∙◌}
-use Rattle.c_parser.specs.Tokens.{kinds_of, is_among, is_kept}
+use Rattle.std.specs.HashMap.{get_by_text}
+use Rattle.c_parser.specs.Tokens.{kinds_of, number_among}
 use Rattle.c_parser.proofs.KindLemmas.{same_kinds}
 use Rattle.c_parser.proofs.tokens.kinds_of.Goals as goal
 
@@ -7,8 +8,8 @@ pub returns : goal.returns
 returns c =
     c.in_ok-kinds.ensures
     ∙ same_kinds
-    (is_kept c.in_ok-typedefs.typedefs)
-    (is_among c.as_slice.result.now)
+    (get_by_text c.in_ok-typedefs.typedefs)
+    (number_among c.as_slice.result.now)
     c.in_ok-typedefs.ensures
     c.args.tokens.now
     ∙ ap (λ names. kinds_of names c.args.tokens.now) c.as_slice.ensures

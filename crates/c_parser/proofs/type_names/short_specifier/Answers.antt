@@ -1,11 +1,11 @@
 use Rattle.std.proofs.Common.{ap, sym, ◌∙◌, refl, ◌||◌}
-use Rattle.c_parser.specs.Kinds.{is_type_word, is_word}
+use Rattle.c_parser.specs.Kinds.{is_type_word, is_word, is_typedef}
 use Rattle.c_parser.proofs.SpecifierLists.{word_found, typedef_hides, untagged, no_kind}
-use Rattle.c_parser.proofs.Words.{word_specifies, lone_specifies}
+use Rattle.c_parser.proofs.Words.{word_specifies, lone_specifies, typedef_by}
 use Rattle.c_parser.proofs.type_names.short_specifier.Goals as goal
 
 pub returns-then-typed : goal.returns-then-typed
-returns-then-typed c = typedef_hides _ _ _ c.requires.short (sym c.in-TypeName.ensures.kind) c.if-typed.true
+returns-then-typed c = typedef_hides _ _ _ c.requires.short (ap is_typedef (sym c.in-TypeName.ensures.kind)) c.if-typed.true
 
 pub returns-then-not-is_word : goal.returns-then-not-is_word
 returns-then-not-is_word c =
@@ -101,5 +101,5 @@ returns-in_default c =
     c.in_default.not-Storage
     c.in_default.not-Static
     c.in_default.not-Atomic
-    c.in_default.not-TypeName
+    (typedef_by _ c.in_default.not-TypeName)
     c.in_default.not-Tag

@@ -1,7 +1,13 @@
-use Rattle.std.proofs.Common.{subst, sym}
-use Rattle.c_parser.specs.Reading.{IsAtFront}
-use Rattle.c_parser.proofs.Wholes.{front_is}
+use Rattle.std.proofs.Common.{subst, length}
+use Rattle.tree_data.specs.Trees.{Tree}
+use Rattle.tree_data.specs.Seen.{tree_of}
+use Rattle.c_parser.specs.Reading.{Reads, IsRefused}
 use Rattle.c_parser.proofs.whole.whole.Goals as goal
 
-pub returns-in-Err-clause-place : goal.returns-in-Err-clause-place
-returns-in-Err-clause-place c = subst IsAtFront (sym c.at_front.ensures) (front_is c.in-Err.stop)
+pub returns-in-Ok-expression-clause-found : goal.returns-in-Ok-expression-clause-found
+returns-in-Ok-expression-clause-found c =
+    subst (λ ks. Reads ks 1 (tree_of c.in-Ok-expression.expr) 0 (length ks)) c.in-Ok.ensures c.in-Ok-expression.ensures.found
+
+pub returns-clause-only : goal.returns-clause-only
+returns-clause-only c =
+    subst (λ ks. (t : Tree) → Reads ks 1 t 0 (length ks) → IsRefused c.in-Err.error) c.in-Ok.ensures c.in-Err.ensures.only

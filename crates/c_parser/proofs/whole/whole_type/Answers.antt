@@ -1,10 +1,13 @@
-use Rattle.std.proofs.Common.{subst, sym}
-use Rattle.c_parser.specs.Reading.{IsAtFront}
-use Rattle.c_parser.proofs.Wholes.{front_is, type_fails}
+use Rattle.std.proofs.Common.{subst, length}
+use Rattle.tree_data.specs.Trees.{Naming}
+use Rattle.tree_data.specs.Seen.{type_of}
+use Rattle.c_parser.specs.Reading.{HoldsType, IsRefused}
 use Rattle.c_parser.proofs.whole.whole_type.Goals as goal
 
-pub returns-in-Err-clause-place : goal.returns-in-Err-clause-place
-returns-in-Err-clause-place c = subst IsAtFront (sym c.at_front.ensures) (front_is c.in-Err.stop)
+pub returns-in-Ok-name_of_type-clause-found : goal.returns-in-Ok-name_of_type-clause-found
+returns-in-Ok-name_of_type-clause-found c =
+    subst (λ ks. HoldsType ks (type_of c.in-Ok-name_of_type.name) 0 (length ks)) c.in-Ok.ensures c.in-Ok-name_of_type.ensures.found
 
-pub returns-in-Err-clause-only : goal.returns-in-Err-clause-only
-returns-in-Err-clause-only c = type_fails _ _ _ c.at_front.ensures c.in-Err.ensures.only
+pub returns-clause-only : goal.returns-clause-only
+returns-clause-only c =
+    subst (λ ks. (t : Naming) → HoldsType ks t 0 (length ks) → IsRefused c.in-Err.error) c.in-Ok.ensures c.in-Err.ensures.only

@@ -1,0 +1,156 @@
+// What each token is where the parser stands: under the typedef names in force (ISO C11 6.2.1). A list of parameters has a view of its
+// own, in which the names that it hides are identifiers, and shares with others what it doesn't change.
+ghost use Rattle.std.specs.Prelude.{◌≡◌, [], ℕ, ◌<◌, ◌==◌, ◌||◌, false, length, IfOk, OnOk, slice_index_or};
+ghost use Rattle.c_parser.specs.Kinds as spec;
+ghost use Rattle.c_parser.specs.Scopes.{shade};
+
+use crate::kinds::Kind;
+use std::alloc::{AllocError, Global};
+use std::marker::Model;
+use std::rc::Rc;
+
+// The kinds of all tokens, and which typedef names are hidden, by their numbers; those behind the last flag are not. A look-up costs a
+// constant. The first name that a list hides takes a copy of the flags, each further one a constant.
+#[derive(Drop)]
+pub(crate) struct Kinds<'a> {
+    tokens: &'a [Kind],
+    hidden: Rc<Vec<bool>>,
+}
+
+impl<'a> Model for Kinds<'a> {
+    ghost use Rattle.std.specs.Prelude.{List, map};
+    ghost use Rattle.c_parser.specs.declared.kinds.Kind.{Kind};
+    ghost use Rattle.c_parser.specs.Scopes.{shade};
+
+    ghost Value = { List Kind };
+
+    ghost view = { λ k. map (shade k.hidden.value.items) k.tokens.now };
+}
+
+// A kind under these flags.
+fn shaded(hidden: &[bool], kind: Kind) -> Kind
+    ensures { result ≡ shade hidden.now kind }
+{
+    let Kind::TypeName(number) = kind else {
+        return kind;
+    };
+    match hidden.get(number as usize) {
+        Some(true) => Kind::Identifier,
+        _ => kind,
+    }
+}
+
+// Makes room for the flag of this name.
+#[tactic(auto, using(crate::proofs::ScopeLemmas::flag_behind))]
+fn cover(flags: &mut Vec<bool>, number: u32) -> Result<(), AllocError>
+    ensures same { (n : ℕ) → slice_index_or flags.new.items n false ≡ slice_index_or flags.old.items n false }
+    ensures covered { OnOk result (number < length flags.new.items) }
+{
+    'flags: while flags.len() <= number as usize {
+        flags.push(false)?;
+    }
+    Ok(())
+}
+
+// The flags with this one set.
+fn set(flags: Vec<bool>, number: u32) -> Result<Vec<bool>, AllocError>
+    ensures { IfOk result (λ v. (n : ℕ) → slice_index_or v.items n false ≡ ((n == number) || slice_index_or flags.items n false)) }
+{
+    let mut flags = flags;
+    cover(&mut flags, number)?;
+    flags[number as usize] = true;
+    Ok(flags)
+}
+
+// Flags that are no one else's.
+fn own(alloc: Global, flags: Rc<Vec<bool>>) -> Result<Vec<bool>, AllocError>
+    ensures { IfOk result (λ v. v.items ≡ flags.value.items) }
+{
+    match Rc::try_unwrap(flags) {
+        Ok(flags) => Ok(flags),
+        Err(shared) => Vec::from_slice(alloc, &shared),
+    }
+}
+
+// No name is hidden.
+fn nothing_hidden(alloc: Global) -> Result<Rc<Vec<bool>>, AllocError>
+    ensures { IfOk result (λ h. h.value.items ≡ []) }
+{
+    let hidden = Rc::new(alloc, Vec::new(alloc))?;
+    Ok(hidden)
+}
+
+// The flags with this one set, which others don't share.
+fn marked(alloc: Global, hidden: Rc<Vec<bool>>, number: u32) -> Result<Rc<Vec<bool>>, AllocError>
+    ensures { IfOk result (λ h. (n : ℕ) → slice_index_or h.value.items n false ≡ ((n == number) || slice_index_or hidden.value.items n false)) }
+{
+    let flags = own(alloc, hidden)?;
+    let flags = set(flags, number)?;
+    let hidden = Rc::new(alloc, flags)?;
+    Ok(hidden)
+}
+
+impl<'a> Kinds<'a> {
+    // Tokens of which no name is hidden.
+    pub(crate) fn new(alloc: Global, tokens: &'a [Kind]) -> Result<Kinds<'a>, AllocError>
+        ensures { IfOk result (λ k. k ≡ tokens.now) }
+    {
+        let hidden = nothing_hidden(alloc)?;
+        Ok(Kinds { tokens, hidden })
+    }
+
+    // How many tokens there are.
+    pub(crate) fn len(&self) -> usize
+        ensures { result ≡ length self.now }
+    {
+        self.tokens.len()
+    }
+
+    // The kind of the token with this number, `End` behind the last.
+    pub(crate) fn at(&self, at: u32) -> Kind
+        ensures kind { result ≡ spec.kind_at self.now at }
+        ensures inside { spec.IsInside self.now at result }
+    {
+        match self.tokens.get(at as usize) {
+            Some(kind) => shaded(&self.hidden, *kind),
+            None => Kind::End,
+        }
+    }
+
+    // The same view.
+    pub(crate) fn share(&self) -> Result<Kinds<'a>, AllocError>
+        ensures { IfOk result (λ k. k ≡ self.now) }
+    {
+        let hidden = self.hidden.clone()?;
+        Ok(Kinds {
+            tokens: self.tokens,
+            hidden,
+        })
+    }
+
+    // The view in which this typedef name is hidden.
+    fn without(self, alloc: Global, number: u32) -> Result<Kinds<'a>, AllocError>
+        ensures { IfOk result (λ k. k ≡ spec.hide_word self.entry number) }
+    {
+        let Kinds { tokens, hidden } = self;
+        let hidden = marked(alloc, hidden, number)?;
+        Ok(Kinds { tokens, hidden })
+    }
+}
+
+// The view where this name is declared, if there is one.
+pub(crate) fn hide<'a>(
+    alloc: Global,
+    kinds: Kinds<'a>,
+    name: Option<u32>,
+) -> Result<Kinds<'a>, AllocError>
+    ensures { IfOk result (λ k. k ≡ spec.hide kinds.entry name) }
+{
+    let Some(at) = name else {
+        return Ok(kinds);
+    };
+    match kinds.at(at) {
+        Kind::TypeName(number) => kinds.without(alloc, number),
+        _ => Ok(kinds),
+    }
+}
