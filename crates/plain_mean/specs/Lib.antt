@@ -3,6 +3,7 @@ pub mod Given
 pub mod Messages
 pub mod Sites
 pub mod Meanings
+pub mod TokenKinds
 pub mod Within
 pub mod Shown
 pub mod Lists

@@ -11,6 +11,7 @@ mod messages;
 mod reading;
 mod shown;
 mod sites;
+mod token_kinds;
 mod types;
 mod units;
 
@@ -21,4 +22,5 @@ pub use lists::{ShownLists, shown_lists, unit_count};
 pub use meaning::mean;
 pub use messages::is_warning;
 pub use reading::Reading;
+pub use token_kinds::kinds;
 pub use types::{Shown, ShownFaults, ShownList, UnitMeaning};
