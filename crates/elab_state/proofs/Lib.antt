@@ -1,0 +1,4 @@
+pub mod Askings
+pub mod Runs
+mod Tables
+mod Walks

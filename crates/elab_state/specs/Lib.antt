@@ -1,0 +1,13 @@
+pub mod Same
+pub mod Wants
+pub mod Tokens
+pub mod Contexts
+pub mod Seen
+pub mod Doings
+pub mod Comes
+pub mod Binds
+pub mod Names
+pub mod Looks
+pub mod Ties
+pub mod Words
+pub mod Asked

@@ -1,0 +1,23 @@
+// What a judgement reads, and doesn't change.
+use crate::known::Known;
+use scope_tables::Scopes;
+use tok_data::{FileId, OutToken};
+use type_data::ItemName;
+
+/// What a judgement of a part of an item reads: the item, the text that its tokens are named by, its tokens, the scopes round what is
+/// judged, and what is known of the names in front of the item.
+#[derive(Clone, Copy, Drop)]
+pub struct Around<'a> {
+    pub item: &'a ItemName,
+    pub file: &'a FileId,
+    pub tokens: &'a [OutToken],
+    pub outer: &'a Scopes,
+    pub known: &'a Known,
+}
+
+/// Where an expression stands.
+#[derive(Clone, Copy, Debug, PartialEq, Eq, Drop)]
+pub struct Where {
+    /// Its names count as uses of what has internal linkage (ISO C11 6.9p3): it is no operand of `sizeof` or `_Alignof`.
+    pub counted: bool,
+}
