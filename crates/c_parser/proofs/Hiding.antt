@@ -1,8 +1,8 @@
 -- What the kinds of tokens are where a name hides a typedef name.
-use Rattle.std.proofs.Common.{◌≡◌, refl, ap, sym, ◌∙◌, subst, ℕ, zero, suc, ◌+◌, List, [], ◌∷◌, length, map, Option, Some, None, Bool, true, false, true≢false, ◌==◌, if◌then◌else◌}
+use Rattle.std.proofs.Common.{◌≡◌, refl, ap, sym, ◌∙◌, ℕ, zero, suc, ◌+◌, List, [], ◌∷◌, length, map, Option, Some, None, Bool, true, false, true≢false, ◌==◌, if◌then◌else◌}
 use Rattle.c_parser.specs.declared.kinds.Kind.{Kind}
 use Rattle.c_parser.specs.declared.kinds.Kind.TheVariants.{Identifier, TypeName, Comma, CloseParen, Ellipsis}
-use Rattle.c_parser.specs.Kinds.{kind_at, is_word, ends_type, hidden_one, hide_word, hide_kind, hide}
+use Rattle.c_parser.specs.Kinds.{kind_at, ends_type, hidden_one, hide_word, hide_kind, hide}
 use Rattle.c_parser.specs.TypeNames.{RowEnd, at_close, at_dots}
 
 mapped_length : (f : Kind → Kind) → (ks : List Kind) → length (map f ks) ≡ length ks

@@ -1,5 +1,5 @@
 -- The kinds of tokens under two tests that agree.
-use Rattle.std.proofs.Common.{◌≡◌, refl, ap, ◌∙◌, ℕ, List, [], ◌∷◌, map, Option}
+use Rattle.std.proofs.Common.{◌≡◌, refl, ap, ◌∙◌, ℕ, List, [], ◌∷◌, map, Option, is_none}
 use Rattle.tok_data.specs.declared.tokens.OutToken.{OutToken}
 use Rattle.tok_data.specs.declared.tokens.PpKind.{PpKind}
 use Rattle.tok_data.specs.declared.tokens.PpKind.TheVariants as pp
@@ -20,3 +20,9 @@ pub same_kinds : (f g : List ℕ → Option ℕ) → ((text : List ℕ) → f te
 same_kinds f g h [] = refl
 same_kinds f g h (t ∷ ts) =
     ap (λ k. k ∷ map (kind_of f) ts) (same_kind f g h t.kind t.spelling) ∙ ap (λ ks. kind_of g t ∷ ks) (same_kinds f g h ts)
+
+pub same_hidden : (f g : List ℕ → Option ℕ) → ((text : List ℕ) → f text ≡ g text) → (ts : List OutToken)
+    → map (λ t. is_none (f t.spelling)) ts ≡ map (λ t. is_none (g t.spelling)) ts
+same_hidden f g h [] = refl
+same_hidden f g h (t ∷ ts) =
+    ap (λ b. is_none b ∷ map (λ t. is_none (f t.spelling)) ts) (h t.spelling) ∙ ap (λ bs. is_none (g t.spelling) ∷ bs) (same_hidden f g h ts)

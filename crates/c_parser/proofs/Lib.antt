@@ -1,8 +1,13 @@
 mod Abstract
+mod FirstLemmas
 mod Formed
 mod Forth
 mod Fronts
 mod Generics
+mod HeadDeclarators
+mod HeadLists
+mod HeadWholes
+mod HeadWords
 mod Held
 mod Hiding
 mod Initials

@@ -1,7 +1,7 @@
 -- Kinds told apart.
 use Rattle.std.proofs.Common.{◌≡◌, refl, ap, sym, ◌∙◌, subst, ℕ, ◌<◌, List, arith, Bool, true, false, true≢false}
 use Rattle.c_parser.specs.declared.kinds.Kind.{Kind}
-use Rattle.c_parser.specs.declared.kinds.Kind.TheVariants.{Identifier, TypeName, TypeWord, Qualifier, Tag, AlignOf, Constant, Text, OpenParen, CloseParen, OpenBracket, CloseBracket, Member, Step, Ampersand, Star, Sign, Complement, SizeOf, Quotient, Shift, Relation, Equality, Caret, Bar, And, Or, Question, Colon, Assignment, Comma, OpenBrace, CloseBrace, Dot, Equals, Generic, OffsetOf, Default, Atomic, Static, Storage, End, Ellipsis}
+use Rattle.c_parser.specs.declared.kinds.Kind.TheVariants.{Identifier, TypeName, TypeWord, Qualifier, Tag, AlignOf, Constant, Text, OpenParen, CloseParen, OpenBracket, CloseBracket, Member, Step, Ampersand, Star, Sign, Complement, SizeOf, Quotient, Shift, Relation, Equality, Caret, Bar, And, Or, Question, Colon, Assignment, Comma, OpenBrace, CloseBrace, Dot, Equals, Generic, OffsetOf, Default, Atomic, Static, Storage, End, Ellipsis, Typedef, Semicolon}
 use Rattle.c_parser.specs.Kinds.{kind_at, level_of, is_prefix, is_size, is_suffix, is_opening, starts_type, is_dot, is_equals, is_member, is_designating}
 use Rattle.c_parser.specs.Reading.{Stops}
 
@@ -41,6 +41,8 @@ code_of Static = 32
 code_of Storage = 35
 code_of End = 33
 code_of Ellipsis = 34
+code_of Typedef = 36
+code_of Semicolon = 37
 code_of _ = 0
 
 -- no two kinds of these are the same
@@ -193,6 +195,7 @@ no_type (TypeName n) h = absurd (true≢false (sym h))
 no_type Atomic h = absurd (true≢false (sym h))
 no_type Storage h = absurd (true≢false (sym h))
 no_type Static h = absurd (true≢false (sym h))
+no_type Typedef h = absurd (true≢false (sym h))
 no_type _ h = refl
 
 pub size_is : (k : Kind) → is_size k ≡ true → (k ≡ SizeOf → ⊥) → (k ≡ AlignOf → ⊥) → ⊥

@@ -1,13 +1,11 @@
 -- Lists of identifiers, as the code reads them one behind another.
 use Rattle.std.proofs.Common.{◌≡◌, refl, ap, sym, ◌∙◌, subst, ℕ, ◌+◌, ◌<◌, ◌≤◌, List, [], ◌∷◌, ◌++◌, length, arith}
-use Rattle.tree_data.specs.Trees.{Parameters, Names_of}
-use Rattle.c_parser.specs.declared.answers.Stop.{Stop}
-use Rattle.c_parser.specs.declared.answers.Stop.TheVariants as stop
+use Rattle.tree_data.specs.Trees.{Names_of}
 use Rattle.c_parser.specs.declared.kinds.Kind.{Kind}
 use Rattle.c_parser.specs.declared.kinds.Kind.TheVariants.{Identifier, CloseParen, Comma}
 use Rattle.c_parser.specs.Declarators.{spell_names, AreNames}
 use Rattle.c_parser.specs.Kinds.{kind_at, is_identifier}
-use Rattle.c_parser.specs.Reading.{HoldNames, HoldParameters, IsWant}
+use Rattle.c_parser.specs.Reading.{HoldNames}
 use Rattle.c_parser.specs.TypeNames.{FoundNames, FoundParameters}
 use Rattle.c_parser.proofs.Marks.{clash}
 use Rattle.c_parser.proofs.Numbers.{Spans}

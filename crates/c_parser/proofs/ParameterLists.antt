@@ -5,7 +5,6 @@ use Rattle.tree_data.specs.declared.types.TypeName.{TypeName}
 use Rattle.tree_data.specs.Seen.{type_of, parameter_row_of}
 use Rattle.tree_data.specs.Trees.{Naming, Parameters, No_parameters, Fixed_of, Variadic_of, Row, No_more, Parameter_then, row, Names_of}
 use Rattle.c_parser.specs.declared.answers.Stop.{Stop}
-use Rattle.c_parser.specs.declared.answers.Stop.TheVariants as stop
 use Rattle.c_parser.specs.declared.kinds.Kind.{Kind}
 use Rattle.c_parser.specs.declared.kinds.Kind.TheVariants.{CloseParen, Comma, Ellipsis, Identifier}
 use Rattle.c_parser.specs.Kinds.{kind_at, ends_type, starts_type}

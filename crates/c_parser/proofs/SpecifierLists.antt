@@ -7,7 +7,7 @@ use Rattle.tree_data.specs.Trees.{Specifying, Word_of, Typedef_of, Tag_of, Atomi
 use Rattle.c_parser.specs.declared.answers.Stop.{Stop}
 use Rattle.c_parser.specs.declared.answers.Stop.TheVariants as stop
 use Rattle.c_parser.specs.declared.kinds.Kind.{Kind}
-use Rattle.c_parser.specs.declared.kinds.Kind.TheVariants.{TypeWord, Qualifier, Storage, Static, Tag, Atomic, CloseParen}
+use Rattle.c_parser.specs.declared.kinds.Kind.TheVariants.{TypeWord, Qualifier, Storage, Static, Tag, Atomic, CloseParen, Typedef}
 use Rattle.c_parser.specs.Beginnings.{IsNamed}
 use Rattle.c_parser.specs.Grammar.{has_type, AreSome, MayStand, stores, stores_one, typed_by}
 use Rattle.c_parser.specs.Kinds.{kind_at, is_word, is_type_word, ends_type, ends_specifiers, specifies_at, atomic_opens, is_storage, stored_amiss, named_by, is_typedef}
@@ -88,9 +88,9 @@ untagged ks y at o k n =
     (λ x w. true≢false (sym w ∙ n))
 
 pub no_kind : (ks : List Kind) → (y : Bool) → (at : ℕ) → (k : Kind) → atomic_opens ks at ≡ false → k ≡ kind_at ks at → (k ≡ TypeWord → ⊥)
-    → (k ≡ Qualifier → ⊥) → (k ≡ Storage → ⊥) → (k ≡ Static → ⊥) → (k ≡ Atomic → ⊥) → (is_typedef k ≡ true → ⊥) → (k ≡ Tag → ⊥) → NoMore ks y at
-no_kind ks y at k o e w q c s a n t =
-    nothing_stands ks y at o (specifies_none ks at k e w q c s a) (λ f x. n (ap is_typedef e ∙ x)) (λ x i. t (e ∙ x))
+    → (k ≡ Qualifier → ⊥) → (k ≡ Storage → ⊥) → (k ≡ Typedef → ⊥) → (k ≡ Static → ⊥) → (k ≡ Atomic → ⊥) → (is_typedef k ≡ true → ⊥) → (k ≡ Tag → ⊥) → NoMore ks y at
+no_kind ks y at k o e w q c d s a n t =
+    nothing_stands ks y at o (specifies_none ks at k e w q c d s a) (λ f x. n (ap is_typedef e ∙ x)) (λ x i. t (e ∙ x))
 
 -- `_Atomic ( type-name )`
 pub atomic_found : (ks : List Kind) → (at : ℕ) → (s : Specifying) → (t : Naming) → (c : ℕ) → atomic_opens ks at ≡ true → s ≡ Atomic_of at (at + 1) t c
@@ -292,6 +292,7 @@ stores_through ks (s ∷ done) ss h = or_right (stores_one ks s) (stores ks (spe
 ends_unstored : (k : Kind) → (y : Bool) → ends_specifiers k y ≡ true → is_storage k ≡ false
 ends_unstored Storage y h = absurd (true≢false (sym h))
 ends_unstored Static y h = absurd (true≢false (sym h))
+ends_unstored Typedef y h = absurd (true≢false (sym h))
 ends_unstored _ y h = refl
 
 amiss_left : (ks : List Kind) → (n y : Bool) → (done : List Specifying) → (at : ℕ) → stored_amiss ks at n ≡ true → (ss left : Specifyings) → (m : ℕ)

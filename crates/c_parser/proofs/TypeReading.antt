@@ -3,7 +3,7 @@
 use Rattle.std.proofs.Common.{◌≡◌, refl, ap, sym, ◌∙◌, subst, ℕ, zero, suc, ◌+◌, ◌<◌, ◌≤◌, List, [], ◌∷◌, length, arith, Bool, true, false, true≢false, ◌||◌}
 use Rattle.tree_data.specs.Trees.{Tree, Name_of, Constant_of, Text_of, Paren_of, Postfix_of, Unary_of, Binary_of, Conditional_of, Assign_of, Of_type, Compound_of, Generic_of, Offset_of, Operator_of, Cast_of, Choice_of, Left_of, Fronts, None_before, Front_then, Specifying, Word_of, Typedef_of, Tag_of, Atomic_of, Specifyings, No_specifiers, Specifier_then, Naming, Type_of, Declaring, Declaring_of, Parameters, No_parameters, Fixed_of, Variadic_of, Row, No_more, Parameter_then, Grouping, No_group, Named_of, Group_of, Deriving, Array_of, Function_of, Derivings, No_derivings, Deriving_then, Bound, Unsized_of, Any_size_of, Sized_of, Static_sized_of, Sized_static_of, Names_of, are_names}
 use Rattle.c_parser.specs.declared.kinds.Kind.{Kind}
-use Rattle.c_parser.specs.declared.kinds.Kind.TheVariants.{Identifier, Constant, Text, TypeName, Tag, Atomic, Storage, Static, Star, OpenParen, CloseParen, OpenBracket, CloseBracket, Generic, OffsetOf, Colon, Comma, End, TypeWord, Qualifier}
+use Rattle.c_parser.specs.declared.kinds.Kind.TheVariants.{Identifier, Constant, Text, TypeName, Tag, Atomic, Storage, Static, Star, OpenParen, CloseParen, OpenBracket, CloseBracket, Generic, OffsetOf, Colon, Comma, End, TypeWord, Qualifier, Typedef, Semicolon, Equals, OpenBrace}
 use Rattle.c_parser.specs.Declarators.{AreThere, IsWritten, MayDerive, need_name}
 use Rattle.c_parser.specs.Grammar.{IsBefore, has_type, typed_by, past, name_by}
 use Rattle.c_parser.specs.Kinds.{kind_at, is_size, starts_type, ends_type, ends_specifiers, opens_parameters, qualifies_at, is_word, named_by, grouped, behind_pointers, is_typedef}
@@ -417,6 +417,9 @@ ends_pointers OpenBracket = true
 ends_pointers CloseParen = true
 ends_pointers Colon = true
 ends_pointers Comma = true
+ends_pointers Semicolon = true
+ends_pointers Equals = true
+ends_pointers OpenBrace = true
 ends_pointers End = true
 ends_pointers _ = false
 
@@ -425,6 +428,9 @@ ends_more : (k : Kind) → ends_type k ≡ true → ends_pointers k ≡ true
 ends_more CloseParen h = refl
 ends_more Colon h = refl
 ends_more Comma h = refl
+ends_more Semicolon h = refl
+ends_more Equals h = refl
+ends_more OpenBrace h = refl
 ends_more End h = refl
 ends_more _ h = absurd (true≢false (sym h))
 
@@ -435,7 +441,7 @@ derivings_begin ks (Deriving_then (Array_of o x c) ds) a b h e = ap ends_pointer
 derivings_begin ks (Deriving_then (Function_of o ps c) ds) a b h e = ap ends_pointers h.1.1
 
 -- the same, or a typedef name that stands for a name
-abbrev ends_stars : Kind → Bool
+abbrev pub ends_stars : Kind → Bool
 ends_stars Identifier = true
 ends_stars (TypeName n) = true
 ends_stars OpenParen = true
@@ -443,6 +449,9 @@ ends_stars OpenBracket = true
 ends_stars CloseParen = true
 ends_stars Colon = true
 ends_stars Comma = true
+ends_stars Semicolon = true
+ends_stars Equals = true
+ends_stars OpenBrace = true
 ends_stars End = true
 ends_stars _ = false
 
@@ -453,10 +462,13 @@ stars_wider OpenBracket h = refl
 stars_wider CloseParen h = refl
 stars_wider Colon h = refl
 stars_wider Comma h = refl
+stars_wider Semicolon h = refl
+stars_wider Equals h = refl
+stars_wider OpenBrace h = refl
 stars_wider End h = refl
 stars_wider _ h = absurd (true≢false (sym h))
 
-word_stars : (k : Kind) → is_word k ≡ true → ends_stars k ≡ true
+pub word_stars : (k : Kind) → is_word k ≡ true → ends_stars k ≡ true
 word_stars Identifier h = refl
 word_stars (TypeName n) h = refl
 word_stars _ h = absurd (true≢false (sym h))
@@ -499,6 +511,7 @@ start_opens (TypeName n) h = refl
 start_opens Atomic h = refl
 start_opens Storage h = refl
 start_opens Static h = refl
+start_opens Typedef h = refl
 start_opens _ h = absurd (true≢false (sym h))
 
 told_opens : (ks : List Kind) → (ps : Parameters) → (a c : ℕ) → Parametered ks ps a c → kind_at ks c ≡ CloseParen → (are_names ps ≡ true → ⊥)
@@ -697,6 +710,9 @@ ends_starts OpenBracket y h s = absurd (true≢false (sym s))
 ends_starts CloseParen y h s = absurd (true≢false (sym s))
 ends_starts Colon y h s = absurd (true≢false (sym s))
 ends_starts Comma y h s = absurd (true≢false (sym s))
+ends_starts Semicolon y h s = absurd (true≢false (sym s))
+ends_starts Equals y h s = absurd (true≢false (sym s))
+ends_starts OpenBrace y h s = absurd (true≢false (sym s))
 ends_starts End y h s = absurd (true≢false (sym s))
 ends_starts _ y h s = absurd (true≢false (sym h))
 
@@ -752,6 +768,9 @@ ends_wider OpenBracket t h = refl
 ends_wider CloseParen t h = refl
 ends_wider Colon t h = refl
 ends_wider Comma t h = refl
+ends_wider Semicolon t h = refl
+ends_wider Equals t h = refl
+ends_wider OpenBrace t h = refl
 ends_wider End t h = refl
 ends_wider _ t h = absurd (true≢false (sym h))
 

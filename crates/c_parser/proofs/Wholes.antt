@@ -22,7 +22,7 @@ pub front_is : (e : Stop) → IsAtFront (at_front e)
 front_is (Syntax at) = refl
 front_is NoMemory = tt
 
-want_is : (e : Stop) → IsWant e → IsRefused (at_front e)
+pub want_is : (e : Stop) → IsWant e → IsRefused (at_front e)
 want_is (Syntax at) h = absurd h
 want_is NoMemory h = tt
 

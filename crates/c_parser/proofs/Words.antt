@@ -1,7 +1,7 @@
 -- Words among specifiers and qualifiers, told apart by their tokens.
 use Rattle.std.proofs.Common.{◌≡◌, refl, ap, sym, ◌∙◌, ℕ, zero, suc, ◌+◌, ◌<◌, List, [], ◌∷◌, length, arith, ◌⊎◌, inl, inr, Bool, true, false, true≢false, ◌&&◌, ◌||◌, not, map}
 use Rattle.c_parser.specs.declared.kinds.Kind.{Kind}
-use Rattle.c_parser.specs.declared.kinds.Kind.TheVariants.{Identifier, TypeWord, Qualifier, Storage, Static, OpenParen, Atomic, End, TypeName}
+use Rattle.c_parser.specs.declared.kinds.Kind.TheVariants.{Identifier, TypeWord, Qualifier, Storage, Static, OpenParen, Atomic, End, TypeName, Typedef}
 use Rattle.c_parser.specs.Kinds.{kind_at, is_specifying, is_qualifier, is_atomic, is_opening, starts_type, atomic_at, specifies_at, qualifies_at, atomic_opens, is_identifier, is_storage, stored_amiss, is_word, names_at, may_name, named_by, grouped, behind_pointers, ends_specifiers, opens_parameters, is_typedef}
 use Rattle.c_parser.specs.declared.kinds.Named.{Named}
 use Rattle.c_parser.specs.declared.kinds.Named.TheVariants.{Never, Plainly, Freely}
@@ -39,6 +39,7 @@ word_starts TypeWord h = refl
 word_starts Qualifier h = refl
 word_starts Storage h = refl
 word_starts Static h = refl
+word_starts Typedef h = refl
 word_starts _ h = absurd (true≢false (sym h))
 
 atomic_kind : (ks : List Kind) → (a : ℕ) → atomic_at ks a ≡ true → kind_at ks a ≡ Atomic
@@ -173,21 +174,23 @@ lone_specifies ks a k n =
     or_right (is_specifying (kind_at ks a)) (atomic_at ks a) (atomic_alone_at ks a k (opens_not ks a k n))
 
 -- no word stands where none of their kinds does
-word_by : (k : Kind) → (k ≡ TypeWord → ⊥) → (k ≡ Qualifier → ⊥) → (k ≡ Storage → ⊥) → (k ≡ Static → ⊥) → is_specifying k ≡ true → ⊥
-word_by TypeWord w q c s h = w refl
-word_by Qualifier w q c s h = q refl
-word_by Storage w q c s h = c refl
-word_by Static w q c s h = s refl
-word_by _ w q c s h = true≢false (sym h)
+word_by : (k : Kind) → (k ≡ TypeWord → ⊥) → (k ≡ Qualifier → ⊥) → (k ≡ Storage → ⊥) → (k ≡ Typedef → ⊥) → (k ≡ Static → ⊥)
+    → is_specifying k ≡ true → ⊥
+word_by TypeWord w q c d s h = w refl
+word_by Qualifier w q c d s h = q refl
+word_by Storage w q c d s h = c refl
+word_by Typedef w q c d s h = d refl
+word_by Static w q c d s h = s refl
+word_by _ w q c d s h = true≢false (sym h)
 
 none_by : (ks : List Kind) → (a : ℕ) → (k : Kind) → k ≡ kind_at ks a → (k ≡ TypeWord → ⊥) → (k ≡ Qualifier → ⊥) → (k ≡ Storage → ⊥)
-    → (k ≡ Static → ⊥) → (k ≡ Atomic → ⊥) → Specifies ks a → ⊥
-none_by ks a k e w q c s n (by_word p) = word_by k w q c s (ap is_specifying e ∙ p)
-none_by ks a k e w q c s n (by_atomic h m) = n (e ∙ h)
+    → (k ≡ Typedef → ⊥) → (k ≡ Static → ⊥) → (k ≡ Atomic → ⊥) → Specifies ks a → ⊥
+none_by ks a k e w q c d s n (by_word p) = word_by k w q c d s (ap is_specifying e ∙ p)
+none_by ks a k e w q c d s n (by_atomic h m) = n (e ∙ h)
 
 pub specifies_none : (ks : List Kind) → (a : ℕ) → (k : Kind) → k ≡ kind_at ks a → (k ≡ TypeWord → ⊥) → (k ≡ Qualifier → ⊥) → (k ≡ Storage → ⊥)
-    → (k ≡ Static → ⊥) → (k ≡ Atomic → ⊥) → specifies_at ks a ≡ true → ⊥
-specifies_none ks a k e w q c s n h = none_by ks a k e w q c s n (specifies_view ks a h)
+    → (k ≡ Typedef → ⊥) → (k ≡ Static → ⊥) → (k ≡ Atomic → ⊥) → specifies_at ks a ≡ true → ⊥
+specifies_none ks a k e w q c d s n h = none_by ks a k e w q c d s n (specifies_view ks a h)
 
 starts_inside : (ks : List Kind) → (a : ℕ) → starts_type (kind_at ks a) ≡ true → a < length ks
 starts_inside [] a h = absurd (true≢false (sym h))
@@ -254,6 +257,7 @@ specifying_untyped TypeWord h = refl
 specifying_untyped Qualifier h = refl
 specifying_untyped Storage h = refl
 specifying_untyped Static h = refl
+specifying_untyped Typedef h = refl
 specifying_untyped _ h = absurd (true≢false (sym h))
 
 atomic_untyped : (k : Kind) → is_atomic k ≡ true → is_typedef k ≡ false
@@ -269,7 +273,7 @@ specifies_untyped ks a h t = elim (either (is_specifying (kind_at ks a)) (atomic
 ]
 
 -- the name of a declarator
-word_identifier : (k : Kind) → is_identifier k ≡ true → is_word k ≡ true
+pub word_identifier : (k : Kind) → is_identifier k ≡ true → is_word k ≡ true
 word_identifier Identifier h = refl
 word_identifier _ h = absurd (true≢false (sym h))
 
@@ -289,12 +293,12 @@ grouped_opens_not Plainly k h = word_opens k h
 grouped_opens_not Freely k h = word_opens k h
 
 -- specifiers end in front of a name
-word_ends : (k : Kind) → is_word k ≡ true → ends_specifiers k true ≡ true
+pub word_ends : (k : Kind) → is_word k ≡ true → ends_specifiers k true ≡ true
 word_ends Identifier h = refl
 word_ends (TypeName n) h = refl
 word_ends _ h = absurd (true≢false (sym h))
 
-plain_ends : (k : Kind) → is_identifier k ≡ true → ends_specifiers k false ≡ true
+pub plain_ends : (k : Kind) → is_identifier k ≡ true → ends_specifiers k false ≡ true
 plain_ends Identifier h = refl
 plain_ends _ h = absurd (true≢false (sym h))
 

@@ -3,7 +3,7 @@ use Rattle.std.specs.Prelude.{ℕ, ◌+◌, ◌-◌, ◌<◌, ◌&&◌, ◌||◌
 use Rattle.c_parser.specs.declared.kinds.Kind.{Kind}
 use Rattle.c_parser.specs.declared.kinds.Named.{Named}
 use Rattle.c_parser.specs.declared.kinds.Named.TheVariants.{Never, Plainly, Freely}
-use Rattle.c_parser.specs.declared.kinds.Kind.TheVariants.{Equals, Dot, Identifier, TypeName, OpenParen, CloseParen, OpenBracket, CloseBracket, Member, Step, SizeOf, AlignOf, TypeWord, Qualifier, Tag, Complement, Question, Assignment, Comma, Or, And, Bar, Caret, Ampersand, Equality, Relation, Shift, Sign, Star, Quotient, Colon, Atomic, Storage, Static, End}
+use Rattle.c_parser.specs.declared.kinds.Kind.TheVariants.{Equals, Dot, Identifier, TypeName, OpenParen, CloseParen, OpenBracket, CloseBracket, Member, Step, SizeOf, AlignOf, TypeWord, Qualifier, Tag, Complement, Question, Assignment, Comma, Or, And, Bar, Caret, Ampersand, Equality, Relation, Shift, Sign, Star, Quotient, Colon, Atomic, Storage, Static, End, Typedef, Semicolon, OpenBrace}
 
 -- the level of precedence at which an expression goes on with such a token behind it, 0 where it doesn't: 1 for `,`,
 -- 2 for assignment, 3 for `?`, from `||` at 4 to `*` at 13, 16 for postfix operators
@@ -94,6 +94,7 @@ is_specifying TypeWord = true
 is_specifying Qualifier = true
 is_specifying Storage = true
 is_specifying Static = true
+is_specifying Typedef = true
 is_specifying _ = false
 
 abbrev pub is_qualifier : Kind → Bool
@@ -108,7 +109,13 @@ is_type_word _ = false
 abbrev pub is_storage : Kind → Bool
 is_storage Storage = true
 is_storage Static = true
+is_storage Typedef = true
 is_storage _ = false
+
+-- the storage class `typedef` (6.7.1)
+abbrev pub is_typedef_word : Kind → Bool
+is_typedef_word Typedef = true
+is_typedef_word _ = false
 
 -- what the name of a type or a parameter begins with (6.7.6, 6.7.7)
 abbrev pub starts_type : Kind → Bool
@@ -119,13 +126,17 @@ starts_type (TypeName n) = true
 starts_type Atomic = true
 starts_type Storage = true
 starts_type Static = true
+starts_type Typedef = true
 starts_type _ = false
 
--- in front of such a token the name of a type may end: `)`, `:`, `,`, and behind all tokens
+-- in front of such a token a declarator or the name of a type may end: `)`, `:`, `,`, `;`, `=`, `{`, and behind all tokens
 abbrev pub ends_type : Kind → Bool
 ends_type CloseParen = true
 ends_type Colon = true
 ends_type Comma = true
+ends_type Semicolon = true
+ends_type Equals = true
+ends_type OpenBrace = true
 ends_type End = true
 ends_type _ = false
 
@@ -139,6 +150,9 @@ ends_specifiers OpenBracket typed = true
 ends_specifiers CloseParen typed = true
 ends_specifiers Colon typed = true
 ends_specifiers Comma typed = true
+ends_specifiers Semicolon typed = true
+ends_specifiers Equals typed = true
+ends_specifiers OpenBrace typed = true
 ends_specifiers End typed = true
 ends_specifiers _ typed = false
 
@@ -194,6 +208,7 @@ opens_parameters (TypeName n) = true
 opens_parameters Atomic = true
 opens_parameters Storage = true
 opens_parameters Static = true
+opens_parameters Typedef = true
 opens_parameters _ = false
 
 abbrev pub is_identifier : Kind → Bool

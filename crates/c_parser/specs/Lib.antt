@@ -2,6 +2,8 @@ pub mod Beginnings
 pub mod Brackets
 pub mod Declarators
 pub mod Grammar
+pub mod Heads
+pub mod HeadsFound
 pub mod Joining
 pub mod Kinds
 pub mod Levels
@@ -10,3 +12,4 @@ pub mod Scopes
 pub mod Tokens
 pub mod TypeMeaning
 pub mod TypeNames
+pub mod Words

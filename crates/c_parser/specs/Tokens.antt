@@ -5,7 +5,7 @@ use Rattle.tok_data.specs.declared.tokens.PpKind.{PpKind}
 use Rattle.tok_data.specs.declared.tokens.PpKind.TheVariants as pp
 use Rattle.tok_data.specs.Keywords.{is_keyword}
 use Rattle.c_parser.specs.declared.kinds.Kind.{Kind}
-use Rattle.c_parser.specs.declared.kinds.Kind.TheVariants.{Identifier, TypeName, TypeWord, Qualifier, Tag, SizeOf, AlignOf, Constant, Text, OpenParen, CloseParen, OpenBracket, CloseBracket, OpenBrace, CloseBrace, Member, Step, Ampersand, Star, Sign, Complement, Quotient, Shift, Relation, Equality, Caret, Bar, And, Or, Question, Colon, Assignment, Equals, Dot, Comma, Generic, OffsetOf, Default, Ellipsis, Atomic, Static, Storage, Other}
+use Rattle.c_parser.specs.declared.kinds.Kind.TheVariants.{Identifier, TypeName, TypeWord, Qualifier, Tag, SizeOf, AlignOf, Constant, Text, OpenParen, CloseParen, OpenBracket, CloseBracket, OpenBrace, CloseBrace, Member, Step, Ampersand, Star, Sign, Complement, Quotient, Shift, Relation, Equality, Caret, Bar, And, Or, Question, Colon, Assignment, Equals, Dot, Comma, Generic, OffsetOf, Default, Ellipsis, Atomic, Static, Storage, Other, Typedef, Semicolon, Assert}
 
 -- punctuators, digraphs as what they stand for
 unfoldable pub marks : List (List ℕ × Kind)
@@ -21,7 +21,7 @@ marks =
     ∷ (codes "+=", Assignment) ∷ (codes "-=", Assignment) ∷ (codes "*=", Assignment) ∷ (codes "/=", Assignment)
     ∷ (codes "%=", Assignment) ∷ (codes "&=", Assignment) ∷ (codes "|=", Assignment) ∷ (codes "^=", Assignment)
     ∷ (codes "<<=", Assignment) ∷ (codes ">>=", Assignment) ∷ (codes "{", OpenBrace) ∷ (codes "}", CloseBrace)
-    ∷ (codes "<:", OpenBracket) ∷ (codes ":>", CloseBracket) ∷ (codes "<%", OpenBrace) ∷ (codes "%>", CloseBrace) ∷ []
+    ∷ (codes "<:", OpenBracket) ∷ (codes ":>", CloseBracket) ∷ (codes "<%", OpenBrace) ∷ (codes "%>", CloseBrace) ∷ (codes ";", Semicolon) ∷ []
 
 abbrev pub lookup : List (List ℕ × Kind) → List ℕ → Kind
 lookup [] text = Other
@@ -40,8 +40,9 @@ words =
     ∷ (codes "_Complex", TypeWord) ∷ (codes "_Imaginary", TypeWord) ∷ (codes "struct", Tag) ∷ (codes "union", Tag)
     ∷ (codes "enum", Tag) ∷ (codes "_Generic", Generic) ∷ (codes "__offsetof", OffsetOf)
     ∷ (codes "default", Default) ∷ (codes "_Atomic", Atomic) ∷ (codes "static", Static)
-    ∷ (codes "typedef", Storage) ∷ (codes "extern", Storage) ∷ (codes "_Thread_local", Storage) ∷ (codes "auto", Storage)
-    ∷ (codes "register", Storage) ∷ (codes "inline", Storage) ∷ (codes "_Noreturn", Storage) ∷ []
+    ∷ (codes "typedef", Typedef) ∷ (codes "extern", Storage) ∷ (codes "_Thread_local", Storage) ∷ (codes "auto", Storage)
+    ∷ (codes "register", Storage) ∷ (codes "inline", Storage) ∷ (codes "_Noreturn", Storage)
+    ∷ (codes "_Static_assert", Assert) ∷ []
 
 unfoldable pub keyword_of : List ℕ → Kind
 keyword_of = lookup words

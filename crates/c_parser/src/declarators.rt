@@ -39,7 +39,11 @@ fn qualifiers(alloc: Global, kinds: &Kinds<'_>, at: u32) -> Result<(Vec<u32>, u3
 }
 
 // All pointers that stand here.
-fn pointers(alloc: Global, kinds: &Kinds<'_>, at: u32) -> Result<(Vec<Pointer>, u32), Stop>
+pub(crate) fn pointers(
+    alloc: Global,
+    kinds: &Kinds<'_>,
+    at: u32,
+) -> Result<(Vec<Pointer>, u32), Stop>
     requires size { length kinds.now ≤ 2000000 }
     requires inside { at ≤ length kinds.now }
     ensures found { IfOk result (λ r. FoundPointers kinds.now at (pointers_of r.0.items) r.1) }
@@ -417,7 +421,7 @@ fn lacks_name(one: &Deriving, declares: bool) -> bool
 
 // The arrays and functions that stand here, behind a name or behind none.
 #[cycle(parser)]
-fn derivings(
+pub(crate) fn derivings(
     alloc: Global,
     kinds: &Kinds<'_>,
     at: u32,

@@ -33,7 +33,7 @@ const LOGICAL_OR: u8 = 4;
 const POSTFIX: u8 = 16;
 
 // All string literals that stand here side by side.
-fn pieces(alloc: Global, kinds: &Kinds<'_>, at: u32) -> Result<(Vec<u32>, u32), Stop>
+pub(crate) fn pieces(alloc: Global, kinds: &Kinds<'_>, at: u32) -> Result<(Vec<u32>, u32), Stop>
     requires size { length kinds.now ≤ 2000000 }
     requires inside { at ≤ length kinds.now }
     ensures found { IfOk result (λ r. FoundTexts kinds.now at r.0.items r.1) }

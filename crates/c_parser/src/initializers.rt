@@ -69,7 +69,7 @@ fn designators(alloc: Global, kinds: &Kinds<'_>, at: u32) -> Result<(Vec<Designa
 
 // An assignment-expression, or a list in braces.
 #[cycle(parser)]
-fn init(alloc: Global, kinds: &Kinds<'_>, at: u32) -> Result<(Init, u32), Stop>
+pub(crate) fn init(alloc: Global, kinds: &Kinds<'_>, at: u32) -> Result<(Init, u32), Stop>
     requires size { length kinds.now ≤ 2000000 }
     requires inside { at ≤ length kinds.now }
     ensures found { IfOk result (λ r. FoundInitial kinds.now at (initial_of r.0) r.1) }

@@ -15,8 +15,9 @@ pub(crate) enum Kind {
     Qualifier,
     // `_Atomic`.
     Atomic,
-    // A storage class but `static`, or a function specifier (6.7.1, 6.7.4).
+    // A storage class but `typedef` and `static`, or a function specifier (6.7.1, 6.7.4).
     Storage,
+    Typedef,
     Static,
     // `struct`, `union` and `enum`.
     Tag,
@@ -64,6 +65,9 @@ pub(crate) enum Kind {
     Default,
     // `...`.
     Ellipsis,
+    Semicolon,
+    // `_Static_assert`.
+    Assert,
     // Of no use in an expression.
     Other,
     // No token is left.
@@ -140,6 +144,7 @@ impl Kind {
                 | Kind::TypeName(_)
                 | Kind::Atomic
                 | Kind::Storage
+                | Kind::Typedef
                 | Kind::Static
         )
     }
@@ -148,7 +153,14 @@ impl Kind {
     pub fn is_storage(self) -> bool
         ensures { result ≡ spec.is_storage self }
     {
-        matches!(self, Kind::Storage | Kind::Static)
+        matches!(self, Kind::Storage | Kind::Typedef | Kind::Static)
+    }
+
+    // Whether it is the storage class `typedef` (6.7.1).
+    pub fn is_typedef_word(self) -> bool
+        ensures { result ≡ spec.is_typedef_word self }
+    {
+        matches!(self, Kind::Typedef)
     }
 
     // Whether a designator begins with it (6.7.9).
@@ -215,6 +227,7 @@ impl Kind {
                 | Kind::TypeName(_)
                 | Kind::Atomic
                 | Kind::Storage
+                | Kind::Typedef
                 | Kind::Static
         )
     }

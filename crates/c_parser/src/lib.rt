@@ -1,4 +1,4 @@
-// Expressions of C and the names of types read from the tokens of a unit (ISO C11 6.5, 6.7.7, 6.7.9).
+// Expressions of C, names of types and heads of declarations read from the tokens of a unit (ISO C11 6.5, 6.7, 6.9).
 #![tactic(auto)]
 
 mod answers;
@@ -6,6 +6,7 @@ mod before;
 mod brackets;
 mod declarators;
 mod expressions;
+mod heads;
 mod initializers;
 mod joining;
 mod kinds;
@@ -18,4 +19,6 @@ mod whole;
 
 pub use answers::ParseError;
 pub use names::NameSet;
-pub use whole::{parse_expr, parse_type_name, reading_is_unique, type_reading_is_unique};
+pub use whole::{
+    parse_expr, parse_head, parse_type_name, reading_is_unique, type_reading_is_unique,
+};

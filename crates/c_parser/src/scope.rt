@@ -1,8 +1,9 @@
 // What each token is where the parser stands: under the typedef names in force (ISO C11 6.2.1). A list of parameters has a view of its
 // own, in which the names that it hides are identifiers, and shares with others what it doesn't change.
-ghost use Rattle.std.specs.Prelude.{◌≡◌, [], ℕ, ◌<◌, ◌==◌, ◌||◌, false, length, IfOk, OnOk, slice_index_or};
+ghost use Rattle.std.specs.Prelude.{◌≡◌, not, [], ℕ, ◌<◌, ◌==◌, ◌||◌, false, length, IfOk, OnOk, slice_index_or};
 ghost use Rattle.c_parser.specs.Kinds as spec;
 ghost use Rattle.c_parser.specs.Scopes.{shade};
+ghost use Rattle.c_parser.specs.Words as words;
 
 use crate::kinds::Kind;
 use std::alloc::{AllocError, Global};
@@ -152,5 +153,109 @@ pub(crate) fn hide<'a>(
     match kinds.at(at) {
         Kind::TypeName(number) => kinds.without(alloc, number),
         _ => Ok(kinds),
+    }
+}
+
+// The token with this number, `End` behind the last.
+pub(crate) fn token_at(tokens: &[Kind], at: u32) -> Kind
+    ensures kind { result ≡ spec.kind_at tokens.now at }
+    ensures inside { spec.IsInside tokens.now at result }
+{
+    match tokens.get(at as usize) {
+        Some(kind) => *kind,
+        None => Kind::End,
+    }
+}
+
+// The identifiers of an item, each with its number, and which of them are no typedef names where the parser stands (6.2.1, 6.7.8).
+#[derive(Drop)]
+pub(crate) struct Scope<'a> {
+    tokens: &'a [Kind],
+    hidden: Rc<Vec<bool>>,
+}
+
+impl<'a> Model for Scope<'a> {
+    ghost use Rattle.c_parser.specs.Words.{Words};
+
+    ghost Value = { Words };
+
+    ghost view = { λ s. record { kinds = s.tokens.now; hidden = s.hidden.value.items } };
+}
+
+// These flags with this one as told, if it is among them.
+#[tactic(auto, unfolding(crate::specs::Words::flagged))]
+fn flagged(flags: Vec<bool>, number: u32, flag: bool) -> Vec<bool>
+    ensures { result.items ≡ words.flagged flags.items number flag }
+{
+    let mut flags = flags;
+    if flags.len() <= number as usize {
+        return flags;
+    }
+    flags[number as usize] = flag;
+    flags
+}
+
+// The same of flags that may be shared.
+fn told(
+    alloc: Global,
+    hidden: Rc<Vec<bool>>,
+    number: u32,
+    flag: bool,
+) -> Result<Rc<Vec<bool>>, AllocError>
+    ensures { IfOk result (λ h. h.value.items ≡ words.flagged hidden.value.items number flag) }
+{
+    let flags = own(alloc, hidden)?;
+    let hidden = Rc::new(alloc, flagged(flags, number, flag))?;
+    Ok(hidden)
+}
+
+impl<'a> Scope<'a> {
+    // Tokens with these flags.
+    pub(crate) fn new(
+        alloc: Global,
+        tokens: &'a [Kind],
+        hidden: Vec<bool>,
+    ) -> Result<Scope<'a>, AllocError>
+        ensures { IfOk result (λ s. s ≡ record { kinds = tokens.now; hidden = hidden.items }) }
+    {
+        let hidden = Rc::new(alloc, hidden)?;
+        Ok(Scope { tokens, hidden })
+    }
+
+    // What the tokens are here.
+    pub(crate) fn kinds(&self) -> Result<Kinds<'a>, AllocError>
+        ensures { IfOk result (λ k. k ≡ words.shown self.now) }
+    {
+        let hidden = self.hidden.clone()?;
+        Ok(Kinds {
+            tokens: self.tokens,
+            hidden,
+        })
+    }
+
+    // The token with this number, whatever is declared.
+    pub(crate) fn at(&self, at: u32) -> Kind
+        ensures kind { result ≡ spec.kind_at self.now.kinds at }
+        ensures inside { spec.IsInside self.now.kinds at result }
+    {
+        token_at(self.tokens, at)
+    }
+
+    // Where the identifier with this number is declared, as a typedef name or not.
+    pub(crate) fn declare(
+        self,
+        alloc: Global,
+        typedef: bool,
+        at: u32,
+    ) -> Result<Scope<'a>, AllocError>
+        ensures { IfOk result (λ s. s ≡ words.declared self.entry typedef at) }
+    {
+        let kind = self.at(at);
+        let Kind::TypeName(number) = kind else {
+            return Ok(self);
+        };
+        let Scope { tokens, hidden } = self;
+        let hidden = told(alloc, hidden, number, !typedef)?;
+        Ok(Scope { tokens, hidden })
     }
 }

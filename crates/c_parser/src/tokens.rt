@@ -1,8 +1,9 @@
 // The kinds of the tokens of a unit.
-ghost use Rattle.std.specs.Prelude.{◌≡◌, ℕ, List, IfOk, map, bytes_eq, option_map};
+ghost use Rattle.std.specs.Prelude.{◌≡◌, ℕ, List, IfOk, OnOk, map, bytes_eq, option_map, is_none};
 ghost use Rattle.std.specs.HashMap.{get_by_text};
 ghost use Rattle.std.specs.List.{find};
 ghost use Rattle.c_parser.specs.Tokens as spec;
+ghost use Rattle.c_parser.specs.Words as words;
 
 use crate::kinds::Kind;
 use crate::names::NameSet;
@@ -11,7 +12,7 @@ use std::alloc::{AllocError, Global};
 use std::collections::HashMap;
 use tok_data::{OutToken, PpKind, is_keyword};
 
-static MARKS: [(&str, Kind); 49] = [
+static MARKS: [(&str, Kind); 50] = [
     ("(", Kind::OpenParen),
     (")", Kind::CloseParen),
     (",", Kind::Comma),
@@ -61,9 +62,10 @@ static MARKS: [(&str, Kind); 49] = [
     (":>", Kind::CloseBracket),
     ("<%", Kind::OpenBrace),
     ("%>", Kind::CloseBrace),
+    (";", Kind::Semicolon),
 ];
 
-static WORDS: [(&str, Kind); 32] = [
+static WORDS: [(&str, Kind); 33] = [
     ("sizeof", Kind::SizeOf),
     ("_Alignof", Kind::AlignOf),
     ("const", Kind::Qualifier),
@@ -89,13 +91,14 @@ static WORDS: [(&str, Kind); 32] = [
     ("default", Kind::Default),
     ("_Atomic", Kind::Atomic),
     ("static", Kind::Static),
-    ("typedef", Kind::Storage),
+    ("typedef", Kind::Typedef),
     ("extern", Kind::Storage),
     ("_Thread_local", Kind::Storage),
     ("auto", Kind::Storage),
     ("register", Kind::Storage),
     ("inline", Kind::Storage),
     ("_Noreturn", Kind::Storage),
+    ("_Static_assert", Kind::Assert),
 ];
 
 fn look_up(text: &str, table: &[(&str, Kind)]) -> Option<Kind>
@@ -194,4 +197,84 @@ pub(crate) fn kinds_of(
     let typedefs = typedefs_of(alloc, names.as_slice())?;
     let kinds = kinds_by(alloc, tokens, &typedefs)?;
     Ok(kinds)
+}
+
+// The number of each identifier: that of the first token that spells it. Looked up at a constant cost.
+fn firsts_of(alloc: Global, tokens: &[OutToken]) -> Result<HashMap<String, u32>, AllocError>
+    ensures { IfOk result (λ map. (text : List ℕ) → get_by_text map text ≡ words.first_among tokens.now text) }
+{
+    let mut firsts = HashMap::new(alloc);
+    let mut number = 0u32;
+    let mut rest = tokens;
+    'firsts: while let Some((token, behind)) = rest.split_first() {
+        rest = behind;
+        note(alloc, &mut firsts, token.spelling.as_str(), number)?;
+        let Some(next) = number.checked_add(1) else {
+            return Err(AllocError);
+        };
+        number = next;
+    }
+    Ok(firsts)
+}
+
+// Gives the text this number, if it has none.
+fn note(
+    alloc: Global,
+    firsts: &mut HashMap<String, u32>,
+    text: &str,
+    number: u32,
+) -> Result<(), AllocError>
+    ensures { OnOk result ((t : List ℕ) → get_by_text firsts.new t
+        ≡ words.first_or (get_by_text firsts.old t) (bytes_eq text.now t) number) }
+{
+    let known = firsts.get(text).copied();
+    let None = known else {
+        return Ok(());
+    };
+    let key = String::from_str(alloc, text)?;
+    firsts.insert(key, number).map_err(AllocError::from)?;
+    Ok(())
+}
+
+// What each token is, with all identifiers as typedef names by their numbers.
+pub(crate) fn words_of(alloc: Global, tokens: &[OutToken]) -> Result<Vec<Kind>, AllocError>
+    ensures { IfOk result (λ v. v.items ≡ map (spec.kind_of (words.first_among tokens.now)) tokens.now) }
+{
+    let firsts = firsts_of(alloc, tokens)?;
+    let kinds = kinds_by(alloc, tokens, &firsts)?;
+    Ok(kinds)
+}
+
+fn is_hidden(typedefs: &HashMap<String, u32>, token: &OutToken) -> bool
+    ensures { result ≡ is_none (get_by_text typedefs.now token.now.spelling) }
+{
+    typedefs.get(token.spelling.as_str()).is_none()
+}
+
+fn hidden_by(
+    alloc: Global,
+    tokens: &[OutToken],
+    typedefs: &HashMap<String, u32>,
+) -> Result<Vec<bool>, AllocError>
+    ensures { IfOk result (λ v. v.items ≡ map (λ t. is_none (get_by_text typedefs.now t.spelling)) tokens.now) }
+{
+    let mut out = Vec::new(alloc);
+    for token in tokens {
+        let hidden = is_hidden(typedefs, token);
+        out.push(hidden)?;
+    }
+    Ok(out)
+}
+
+// Of each token, whether its text is none of these names.
+pub(crate) fn hidden_of(
+    alloc: Global,
+    tokens: &[OutToken],
+    names: &NameSet,
+) -> Result<Vec<bool>, AllocError>
+    ensures { IfOk result (λ v. v.items ≡ map (words.is_hidden names.now) tokens.now) }
+{
+    let typedefs = typedefs_of(alloc, names.as_slice())?;
+    let hidden = hidden_by(alloc, tokens, &typedefs)?;
+    Ok(hidden)
 }

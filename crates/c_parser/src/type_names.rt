@@ -28,6 +28,7 @@ fn short_specifier(kinds: &Kinds<'_>, at: u32, typed: bool) -> Option<(Specifier
         Kind::Qualifier => Some((Specifier::word(at), at + 1, typed)),
         Kind::Atomic => Some((Specifier::word(at), at + 1, typed)),
         Kind::Storage => Some((Specifier::word(at), at + 1, typed)),
+        Kind::Typedef => Some((Specifier::word(at), at + 1, typed)),
         Kind::Static => Some((Specifier::word(at), at + 1, typed)),
         Kind::TypeName(_) => {
             if typed {
@@ -90,7 +91,7 @@ fn specifier(
 // All specifiers and qualifiers that stand here, with storage classes where a name may stand behind them, and whether a type specifier
 // is among them.
 #[cycle(parser)]
-fn specifiers(
+pub(crate) fn specifiers(
     alloc: Global,
     kinds: &Kinds<'_>,
     at: u32,

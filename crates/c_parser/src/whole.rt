@@ -1,5 +1,5 @@
 // An expression, or the name of a type, that takes all tokens.
-ghost use Rattle.std.specs.Prelude.{◌≡◌, ◌≤◌, length, IfOk, IfErr, None};
+ghost use Rattle.std.specs.Prelude.{◌≡◌, ◌≤◌, length, map, IfOk, IfErr, None};
 ghost use Rattle.tree_data.specs.Seen.{tree_of, naming, type_of};
 ghost use Rattle.tree_data.specs.Trees.{Tree, Naming};
 ghost use Rattle.c_parser.specs.Brackets.{too_deep};
@@ -7,18 +7,25 @@ ghost use Rattle.c_parser.specs.Grammar.{IsMeaning, IsCause, ReadingIsUnique};
 ghost use Rattle.c_parser.specs.Reading.{Reads, HoldsType, at_front, IsAtFront, IsRefused, IsDeep};
 ghost use Rattle.c_parser.specs.TypeMeaning.{IsTypeMeaning, IsTypeCause, TypeReadingIsUnique};
 ghost use Rattle.c_parser.specs.Tokens as spec;
+ghost use Rattle.c_parser.specs.Words as words;
+ghost use Rattle.c_parser.specs.Words.{first_among};
+ghost use Rattle.c_parser.specs.Heads.{HoldsHead};
+ghost use Rattle.c_parser.specs.HeadsFound.{IsHeadMeaning, IsHeadCause};
+ghost use Rattle.tree_data.specs.Heads.{heading_of};
+ghost use Rattle.tree_data.specs.Trees.{Heading};
 
 use crate::answers::{ParseError, Stop};
 use crate::brackets::too_deep;
 use crate::expressions::{EXPRESSION, level};
+use crate::heads::head;
 use crate::kinds::Kind;
 use crate::names::NameSet;
-use crate::scope::Kinds;
-use crate::tokens::kinds_of;
+use crate::scope::{Kinds, Scope};
+use crate::tokens::{hidden_of, kinds_of, words_of};
 use crate::type_names::type_name;
 use std::alloc::Global;
 use tok_data::OutToken;
-use tree_data::{Declarator, Expr, Specs, TypeName};
+use tree_data::{Declarator, Expr, Head, Specs, TypeName};
 
 // Where the parser stopped is not told: a fault falls on the first token.
 fn at_front(stop: Stop) -> ParseError
@@ -175,3 +182,68 @@ pub fn type_reading_is_unique()
 pub fn reading_is_unique()
     ensures { ReadingIsUnique }
 {}
+
+// The kinds of a head's tokens, whose brackets nest no deeper than they may.
+fn shallow_words(alloc: Global, tokens: &[OutToken]) -> Result<Vec<Kind>, ParseError>
+    requires { length tokens.now ≤ 2000000 }
+    ensures kinds { IfOk result (λ v. v.items ≡ map (spec.kind_of (first_among tokens.now)) tokens.now) }
+    ensures shallow { IfOk result (λ v. too_deep v.items ≡ None) }
+    ensures deep { IfErr result (λ e. IsDeep (map (spec.kind_of (first_among tokens.now)) tokens.now) e) }
+{
+    let Ok(kinds) = words_of(alloc, tokens) else {
+        return Err(ParseError::NoMemory);
+    };
+    if let Some(at) = too_deep(kinds.as_slice()) {
+        return Err(ParseError::TooDeep(at));
+    }
+    Ok(kinds)
+}
+
+fn whole_head(alloc: Global, kinds: &[Kind], hidden: Vec<bool>) -> Result<Head, ParseError>
+    requires { length kinds.now ≤ 2000000 }
+    ensures found { IfOk result (λ h. HoldsHead (record { kinds = kinds.now; hidden = hidden.items }) (heading_of h) 0 (length kinds.now)) }
+    ensures unique { IfOk result (λ h. (u : Heading) → HoldsHead (record { kinds = kinds.now; hidden = hidden.items }) u 0 (length kinds.now)
+        → heading_of h ≡ u) }
+    ensures only { IfErr result (λ e. (u : Heading) → HoldsHead (record { kinds = kinds.now; hidden = hidden.items }) u 0 (length kinds.now)
+        → IsRefused e) }
+    ensures place { IfErr result IsAtFront }
+{
+    let Ok(scope) = Scope::new(alloc, kinds, hidden) else {
+        return Err(ParseError::NoMemory);
+    };
+    let (head, _, end) = match head(alloc, scope, 0) {
+        Ok(found) => found,
+        Err(stop) => return Err(at_front(stop)),
+    };
+    if (end as usize) < kinds.len() {
+        return Err(ParseError::Syntax(0));
+    }
+    Ok(head)
+}
+
+/// The one head that the tokens spell, all of them (ISO C11 6.7, 6.9): a declaration up to and with its `;`, a function's specifiers and
+/// declarator up to and with the `{` of its body, or a static assertion (6.7.10). Specifiers and declarators are those that
+/// `parse_type_name` has for parameters; a declarator has a name, which is declared for the tokens behind it: with `typedef` among the
+/// specifiers it is a typedef name there, and else none (6.2.1). An identifier among `names` is a typedef name at first. At the front of a
+/// declarator a `(` always begins a declarator in parentheses. Braces and `_Alignas` among the specifiers are not in its grammar yet. The
+/// tokens are at most 2,000,000.
+///
+/// Errors: TooDeep with the bracket that opens the 257th level, which is looked for first; Syntax(0) exactly where
+/// no head of the grammar spells the tokens and no bracket is too deep; NoMemory.
+pub fn parse_head(alloc: Global, tokens: &[OutToken], names: &NameSet) -> Result<Head, ParseError>
+    requires { length tokens.now ≤ 2000000 }
+    ensures meaning { IfOk result (λ h. IsHeadMeaning (words.words_of names.now tokens.now) (heading_of h)) }
+    ensures cause { IfErr result (λ e. IsHeadCause (words.words_of names.now tokens.now) e) }
+{
+    let kinds = match shallow_words(alloc, tokens) {
+        Ok(kinds) => kinds,
+        Err(error) => return Err(error),
+    };
+    let Ok(hidden) = hidden_of(alloc, tokens, names) else {
+        return Err(ParseError::NoMemory);
+    };
+    match whole_head(alloc, kinds.as_slice(), hidden) {
+        Ok(head) => Ok(head),
+        Err(error) => Err(error),
+    }
+}

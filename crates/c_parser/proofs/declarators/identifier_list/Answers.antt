@@ -1,4 +1,4 @@
-use Rattle.std.proofs.Common.{ap, sym, ◌∙◌, subst}
+use Rattle.std.proofs.Common.{sym, ◌∙◌, subst}
 use Rattle.c_parser.specs.TypeNames.{FoundParameters}
 use Rattle.c_parser.proofs.NameLists.{names_found}
 use Rattle.c_parser.proofs.ParameterLists.{names_same, names_missing}

@@ -73,6 +73,20 @@ returns-in-Storage c =
     c.in-Storage.ensures.inside
     (ap (λ k. is_type_word k || c.args.typed) (sym here))
 
+pub returns-in-Typedef : goal.returns-in-Typedef
+returns-in-Typedef c =
+    let here = sym c.in-Typedef.ensures.kind in
+    word_found
+    _
+    _
+    _
+    _
+    _
+    c.word-in-Typedef.ensures
+    (word_specifies _ _ _ here refl)
+    c.in-Typedef.ensures.inside
+    (ap (λ k. is_type_word k || c.args.typed) (sym here))
+
 pub returns-in-Static : goal.returns-in-Static
 returns-in-Static c =
     let here = sym c.in-Static.ensures.kind in
@@ -99,6 +113,7 @@ returns-in_default c =
     c.in_default.not-TypeWord
     c.in_default.not-Qualifier
     c.in_default.not-Storage
+    c.in_default.not-Typedef
     c.in_default.not-Static
     c.in_default.not-Atomic
     (typedef_by _ c.in_default.not-TypeName)

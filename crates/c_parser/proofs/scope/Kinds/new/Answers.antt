@@ -1,4 +1,4 @@
-use Rattle.std.proofs.Common.{◌≡◌, sym, ◌∙◌, ap, map}
+use Rattle.std.proofs.Common.{◌∙◌, ap, map}
 use Rattle.c_parser.specs.Scopes.{shade}
 use Rattle.c_parser.proofs.ScopeLemmas.{bare}
 use Rattle.c_parser.proofs.scope.Kinds.new.Goals as goal

@@ -1,0 +1,124 @@
+-- The grammar of heads (ISO C11 6.7, 6.7.6, 6.7.10, 6.9): declarations up to their `;`, functions up to the `{` of their bodies, and static
+-- assertions. A tree stands from one place to another, as in `Reading`.
+use Rattle.std.specs.Prelude.{◌≡◌, ℕ, ◌+◌, ◌<◌, ◌≤◌, List, [], ◌∷◌, Option, Some, None, is_none, Bool, true, false, not, ◌||◌}
+use Rattle.tree_data.specs.Trees.{Declaring, Declaring_of, Grouping, No_group, Named_of, Group_of, Specifying, Word_of, Typedef_of, Tag_of, Atomic_of, Specifyings, No_specifiers, Specifier_then, Initial, Assertion, Assertion_of, Heading, Declares_of, Asserts_of}
+use Rattle.c_parser.specs.declared.kinds.Kind.{Kind}
+use Rattle.c_parser.specs.declared.kinds.Kind.TheVariants.{OpenParen, CloseParen, Comma, Semicolon, OpenBrace, Assert}
+use Rattle.c_parser.specs.Declarators.{name_of}
+use Rattle.c_parser.specs.Grammar.{AreSome, typed_by}
+use Rattle.c_parser.specs.Kinds.{kind_at, is_typedef_word, is_word, is_identifier, is_equals}
+use Rattle.c_parser.specs.Levels.{rank}
+use Rattle.c_parser.specs.Reading.{Holds, HoldTexts, HoldPointers, HoldDerivings, HoldSpecifyings, HoldsInitial}
+use Rattle.c_parser.specs.Words.{Words, shown, declared}
+
+-- directly behind specifiers without a type specifier a typedef name would be one of them (6.7.2); behind `*`, `(` and `,` it is the name
+abbrev pub names_it : Bool → Kind → Bool
+names_it true k = is_identifier k
+names_it false k = is_word k
+
+abbrev pub plain_behind : Bool → List (ℕ × List ℕ) → Bool
+plain_behind plain [] = plain
+plain_behind plain (p ∷ ps) = false
+
+-- 6.7.6 declarator : pointer opt direct-declarator
+-- 6.7.6 direct-declarator : identifier | ( declarator ), with arrays and functions behind it
+abbrev mutual
+  pub HoldsDeclarator : List Kind → Bool → Declaring → ℕ → ℕ → Type 0
+  HoldsDeclarator ks plain (Declaring_of ps g ds) a b =
+      (m : ℕ) × (n : ℕ) × HoldPointers ks ps a m × HoldsDirect ks (plain_behind plain ps) g m n × HoldDerivings ks ds n b
+
+  pub HoldsDirect : List Kind → Bool → Grouping → ℕ → ℕ → Type 0
+  HoldsDirect ks plain No_group a b = ⊥
+  HoldsDirect ks plain (Named_of n) a b = (n ≡ a) × (names_it plain (kind_at ks a) ≡ true) × (b ≡ a + 1)
+  HoldsDirect ks plain (Group_of o d c) a b =
+      (o ≡ a) × (kind_at ks a ≡ OpenParen) × HoldsDeclarator ks false d (a + 1) c × (kind_at ks c ≡ CloseParen) × (b ≡ c + 1)
+
+-- `typedef` is among the specifiers (6.7.1)
+abbrev pub defines_one : List Kind → Specifying → Bool
+defines_one ks (Word_of n) = is_typedef_word (kind_at ks n)
+defines_one ks (Typedef_of n) = false
+defines_one ks (Tag_of k n) = false
+defines_one ks (Atomic_of k o t c) = false
+
+abbrev pub defines : List Kind → Specifyings → Bool
+defines ks No_specifiers = false
+defines ks (Specifier_then s ss) = defines_one ks s || defines ks ss
+
+-- what the declarators of a declaration stand behind: a type specifier, and `typedef`
+pub record Leading : Type 0 where
+  pub typed : Bool
+  pub typedef : Bool
+
+abbrev pub both : Bool → Bool → Leading
+both typed typedef = record { typed = typed; typedef = typedef }
+
+-- the identifiers where the declarator's scope begins (6.2.1p7)
+abbrev pub named : Words → Bool → Option ℕ → Words
+named w typedef None = w
+named w typedef (Some n) = declared w typedef n
+
+abbrev pub past : Words → Leading → Declaring → Words
+past w s d = named w s.typedef (name_of d)
+
+-- = initializer, or nothing
+abbrev pub HoldsValue : List Kind → Option Initial → ℕ → ℕ → Type 0
+HoldsValue ks None a b = b ≡ a
+HoldsValue ks (Some i) a b = (is_equals (kind_at ks a) ≡ true) × HoldsInitial ks i (a + 1) b
+
+-- 6.7 init-declarator : declarator | declarator = initializer
+abbrev pub HoldsOne : Words → Leading → Declaring → Option Initial → ℕ → ℕ → Type 0
+HoldsOne w s d i a b = (m : ℕ) × HoldsDeclarator (shown w) (not s.typed) d a m × HoldsValue (shown (past w s d)) i m b
+
+-- 6.7 init-declarator-list : init-declarator | init-declarator-list , init-declarator; those behind the first
+abbrev pub HoldOthers : Words → Leading → List (Declaring × Option Initial) → ℕ → ℕ → Type 0
+HoldOthers w s [] a b = b ≡ a
+HoldOthers w s (p ∷ ps) a b =
+    (m : ℕ) × (kind_at w.kinds a ≡ Comma) × HoldsOne w s p.0 p.1 (a + 1) m × HoldOthers (past w s p.0) s ps m b
+
+-- where a typedef name can't be one of the specifiers any more
+abbrev pub freely : Leading → Leading
+freely s = record { typed = true; typedef = s.typedef }
+
+abbrev pub HoldAll : Words → Leading → List (Declaring × Option Initial) → ℕ → ℕ → Type 0
+HoldAll w s [] a b = b ≡ a
+HoldAll w s (p ∷ ps) a b = (m : ℕ) × HoldsOne w s p.0 p.1 a m × HoldOthers (past w s p.0) (freely s) ps m b
+
+-- the identifiers behind all of them
+abbrev pub past_all : Words → Leading → List (Declaring × Option Initial) → Words
+past_all w s [] = w
+past_all w s (p ∷ ps) = past_all (past w s p.0) s ps
+
+-- a function is defined by one declarator, without an initializer
+abbrev pub is_alone : List (Declaring × Option Initial) → Bool
+is_alone [] = false
+is_alone (p ∷ []) = is_none p.1
+is_alone (p ∷ q ∷ ps) = false
+
+-- 6.7 `;` behind a declaration, 6.9.1 the `{` of the body behind a function's declarator
+abbrev pub Closes : List Kind → List (Declaring × Option Initial) → Bool → ℕ → Type 0
+Closes ks ds false n = kind_at ks n ≡ Semicolon
+Closes ks ds true n = (kind_at ks n ≡ OpenBrace) × (is_alone ds ≡ true)
+
+abbrev pub leading_of : List Kind → Specifyings → Leading
+leading_of ks ss = record { typed = typed_by ks false ss; typedef = defines ks ss }
+
+-- 6.7.10 static_assert-declaration : _Static_assert ( constant-expression , string-literal ) ;
+abbrev pub HoldsAssertion : List Kind → Assertion → ℕ → ℕ → Type 0
+HoldsAssertion ks (Assertion_of k o t c ns p e) a b =
+    (k ≡ a) × (kind_at ks a ≡ Assert) × (o ≡ a + 1) × (kind_at ks o ≡ OpenParen)
+    × (3 ≤ rank ks t) × Holds ks t (o + 1) c × (kind_at ks c ≡ Comma)
+    × (c + 1 < p) × HoldTexts ks ns (c + 1) p × (kind_at ks p ≡ CloseParen)
+    × (e ≡ p + 1) × (kind_at ks e ≡ Semicolon) × (b ≡ e + 1)
+
+-- 6.7 declaration : declaration-specifiers init-declarator-list opt ; | static_assert-declaration
+-- 6.9.1 function-definition : declaration-specifiers declarator compound-statement, up to the `{` of its body
+abbrev pub HoldsHead : Words → Heading → ℕ → ℕ → Type 0
+HoldsHead w (Declares_of ss ds body) a b =
+    (m : ℕ) × (n : ℕ) × AreSome ss × HoldSpecifyings (shown w) false ss a m × HoldAll w (leading_of (shown w) ss) ds m n
+    × Closes w.kinds ds body n × (b ≡ n + 1)
+HoldsHead w (Asserts_of x) a b = HoldsAssertion (shown w) x a b
+
+-- the identifiers behind a head
+abbrev pub past_head : Words → Heading → Words
+past_head w (Declares_of ss ds body) = past_all w (leading_of (shown w) ss) ds
+past_head w (Asserts_of x) = w

@@ -1,0 +1,53 @@
+-- Identifiers under the declarations of an item: which of them are typedef names where the parser stands (ISO C11 6.2.1, 6.7.8).
+use Rattle.std.specs.Prelude.{ℕ, ◌+◌, List, [], ◌∷◌, Option, Some, None, Bool, true, false, not, map, length, nat_lt, slice_set, is_none, bytes_eq, if◌then◌else◌}
+use Rattle.tok_data.specs.declared.tokens.OutToken.{OutToken}
+use Rattle.c_parser.specs.declared.kinds.Kind.{Kind}
+use Rattle.c_parser.specs.declared.kinds.Kind.TheVariants.{TypeName}
+use Rattle.c_parser.specs.Kinds.{kind_at}
+use Rattle.c_parser.specs.Scopes.{shade}
+use Rattle.c_parser.specs.Tokens.{kind_of, number_among}
+
+-- each identifier as a typedef name, by its number, and the numbers of those that are none
+pub record Words : Type 0 where
+  pub kinds : List Kind
+  pub hidden : List Bool
+
+-- what the tokens are
+abbrev pub shown : Words → List Kind
+shown w = map (shade w.hidden) w.kinds
+
+unfoldable pub flagged : List Bool → ℕ → Bool → List Bool
+flagged hidden n b = if nat_lt n (length hidden) then slice_set hidden n b else hidden
+
+abbrev pub declared_as : Words → Bool → Kind → Words
+declared_as w typedef (TypeName n) = record { kinds = w.kinds; hidden = flagged w.hidden n (not typedef) }
+declared_as w typedef k = w
+
+-- behind a declaration of the identifier with this number: its text is a typedef name from here on where the declaration has
+-- `typedef`, and else it is none
+abbrev pub declared : Words → Bool → ℕ → Words
+declared w typedef n = declared_as w typedef (kind_at w.kinds n)
+
+-- the first token that spells the text, counted on from `at`, if none was found before
+abbrev pub first_or : Option ℕ → Bool → ℕ → Option ℕ
+first_or (Some n) here at = Some n
+first_or None true at = Some at
+first_or None false at = None
+
+abbrev pub first_from : ℕ → Option ℕ → List OutToken → List ℕ → Option ℕ
+first_from at found [] text = found
+first_from at found (t ∷ ts) text = first_from (at + 1) (first_or found (bytes_eq t.spelling text) at) ts text
+
+-- an identifier has the number of the first token that spells it
+abbrev pub first_among : List OutToken → List ℕ → Option ℕ
+first_among tokens text = first_from 0 None tokens text
+
+abbrev pub is_hidden : List (List ℕ) → OutToken → Bool
+is_hidden names t = is_none (number_among names t.spelling)
+
+-- where these names are typedef names, and nothing is declared yet
+abbrev pub words_of : List (List ℕ) → List OutToken → Words
+words_of names tokens = record {
+  kinds = map (kind_of (first_among tokens)) tokens;
+  hidden = map (is_hidden names) tokens;
+}
