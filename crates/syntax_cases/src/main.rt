@@ -1,11 +1,13 @@
-// Expressions and names of types, line by line: a line `names` with typedef names, then texts of one line each, those of
-// names behind the word `type-name`. Behind each stands its tree as an S-expression, or why there is none.
+// Expressions, names of types and heads, line by line: a line `names` with typedef names, then texts of one line each, those of
+// names behind the word `type-name`, those of heads behind `head`. Behind each stands its tree as an S-expression, or why there is none.
 #![tactic(auto)]
 
+mod heads;
 mod reading;
 mod shown;
 
-use c_parser::{NameSet, ParseError, parse_expr, parse_type_name};
+use c_parser::{NameSet, ParseError, parse_expr, parse_head, parse_type_name};
+use heads::shown_head;
 use reading::tokens_of;
 use shared_text::Name;
 use shown::{shown, shown_name};
@@ -63,8 +65,26 @@ fn show_type_name(rt: &HostRuntime, names: &NameSet, tokens: &[OutToken]) -> io:
     }
 }
 
+fn show_head(rt: &HostRuntime, names: &NameSet, tokens: &[OutToken]) -> io::Result<()> {
+    if MOST_TOKENS < tokens.len() {
+        return Ok(());
+    }
+    match parse_head(rt.alloc(), tokens, names) {
+        Ok(head) => {
+            let text = shown_head(rt.alloc(), tokens, &head)?;
+            let text = text.as_str();
+            println!(rt; "{text}")
+        }
+        Err(error) => show_error(rt, error),
+    }
+}
+
 fn show(rt: &HostRuntime, names: &NameSet, line: &str) -> io::Result<()> {
     println!(rt; "> {line}")?;
+    if let Some(text) = line.strip_prefix("head ") {
+        let tokens = tokens_of(rt.alloc(), text)?;
+        return show_head(rt, names, tokens.as_slice());
+    }
     match line.strip_prefix("type-name") {
         Some(text) => {
             let tokens = tokens_of(rt.alloc(), text)?;

@@ -3,7 +3,7 @@ use std::alloc::{AllocError, Global};
 use tok_data::OutToken;
 use tree_data::{
     Association, Bound, Braces, Choice, Declarator, Deriving, Designator, Expr, Group, Init,
-    Parameters, Piece, Prefix, Specifier, Suffix, TypeName,
+    Parameters, Piece, Prefix, Specifier, Specs, Suffix, TypeName,
 };
 
 fn spelling(tokens: &[OutToken], at: u32) -> &str {
@@ -75,7 +75,11 @@ fn close(out: &mut String, count: usize) -> Result<(), AllocError> {
     Ok(())
 }
 
-fn show_text(out: &mut String, tokens: &[OutToken], pieces: &[u32]) -> Result<(), AllocError> {
+pub(crate) fn show_text(
+    out: &mut String,
+    tokens: &[OutToken],
+    pieces: &[u32],
+) -> Result<(), AllocError> {
     out.push_str("(str")?;
     for piece in pieces {
         out.push_str(" ")?;
@@ -235,7 +239,7 @@ fn open_pointers(
 }
 
 #[cycle(show)]
-fn show_declarator(
+pub(crate) fn show_declarator(
     out: &mut String,
     tokens: &[OutToken],
     declarator: &Declarator,
@@ -260,13 +264,23 @@ fn show_name(
     name: &TypeName,
 ) -> Result<(), AllocError> {
     out.push_str(opening)?;
+    show_specifiers(out, tokens, &name.specs)?;
+    out.push_str(" ")?;
+    show_declarator(out, tokens, &name.declarator)?;
+    out.push_str(")")
+}
+
+#[cycle(show)]
+pub(crate) fn show_specifiers(
+    out: &mut String,
+    tokens: &[OutToken],
+    specs: &Specs,
+) -> Result<(), AllocError> {
     out.push_str("(specs")?;
-    for specifier in &name.specs.specifiers {
+    for specifier in &specs.specifiers {
         out.push_str(" ")?;
         show_specifier(out, tokens, specifier)?;
     }
-    out.push_str(") ")?;
-    show_declarator(out, tokens, &name.declarator)?;
     out.push_str(")")
 }
 
@@ -324,7 +338,11 @@ fn show_suffix(out: &mut String, tokens: &[OutToken], suffix: &Suffix) -> Result
 }
 
 #[cycle(show)]
-fn show_init(out: &mut String, tokens: &[OutToken], init: &Init) -> Result<(), AllocError> {
+pub(crate) fn show_init(
+    out: &mut String,
+    tokens: &[OutToken],
+    init: &Init,
+) -> Result<(), AllocError> {
     match init {
         Init::Value(expr) => show(out, tokens, expr),
         Init::List(list) => show_braces(out, tokens, list),
@@ -540,6 +558,15 @@ fn show(out: &mut String, tokens: &[OutToken], expr: &Expr) -> Result<(), AllocE
         Expr::Generic(_, _, _, _, _) => show_generic(out, tokens, expr),
         Expr::Offset(_, _, _, _, _, _, _) => show_offset(out, tokens, expr),
     }
+}
+
+// The tree of an expression, behind what stands there.
+pub(crate) fn shown_into(
+    out: &mut String,
+    tokens: &[OutToken],
+    expr: &Expr,
+) -> Result<(), AllocError> {
+    show(out, tokens, expr)
 }
 
 /// The tree of an expression of these tokens.
