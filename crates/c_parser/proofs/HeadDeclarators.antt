@@ -80,7 +80,7 @@ direct_same ks y a k d b only (Group_of o d' c) m h =
     )
 
 -- behind the pointers
-direct_begins : (ks : List Kind) → (y : Bool) → (g : Grouping) → (a m : ℕ) → HoldsDirect ks y g a m → ends_stars (kind_at ks a) ≡ true
+pub direct_begins : (ks : List Kind) → (y : Bool) → (g : Grouping) → (a m : ℕ) → HoldsDirect ks y g a m → ends_stars (kind_at ks a) ≡ true
 direct_begins ks y No_group a m h = absurd h
 direct_begins ks y (Named_of n) a m h = word_stars (kind_at ks a) (named_it y (kind_at ks a) h.1)
 direct_begins ks y (Group_of o d c) a m h = ap ends_stars h.1

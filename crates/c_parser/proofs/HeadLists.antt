@@ -67,7 +67,7 @@ ends_declarator Semicolon h = refl
 ends_declarator OpenBrace h = refl
 ends_declarator _ h = absurd (true≢false (sym h))
 
-ends_last : (k : Kind) → ends_all k ≡ true → ends_one k ≡ true
+pub ends_last : (k : Kind) → ends_all k ≡ true → ends_one k ≡ true
 ends_last Semicolon h = refl
 ends_last OpenBrace h = refl
 ends_last _ h = absurd (true≢false (sym h))
@@ -105,11 +105,11 @@ in_front : (w : Words) → (s : Leading) → (d : Declaring) → (f : Kind → B
     → (n : ℕ) → f (kind_at (shown (past w s d)) n) ≡ f (kind_at w.kinds n)
 in_front w s d f same n = same n ∙ ap (λ ks. f (kind_at ks n)) (past_kinds w s d)
 
-ends_behind : (w : Words) → (s : Leading) → (d : Declaring) → (b : ℕ) → ends_one (kind_at w.kinds b) ≡ true
+pub ends_behind : (w : Words) → (s : Leading) → (d : Declaring) → (b : ℕ) → ends_one (kind_at w.kinds b) ≡ true
     → ends_one (kind_at (shown (past w s d)) b) ≡ true
 ends_behind w s d b e = in_front w s d ends_one (λ n. plain_at ends_one (λ x. refl) (past w s d) n) b ∙ e
 
-ends_here : (w : Words) → (s : Leading) → (d : Declaring) → (i : Option Initial) → (m b : ℕ) → HoldsValue (shown (past w s d)) i m b
+pub ends_here : (w : Words) → (s : Leading) → (d : Declaring) → (i : Option Initial) → (m b : ℕ) → HoldsValue (shown (past w s d)) i m b
     → ends_one (kind_at w.kinds b) ≡ true → ends_type (kind_at (shown w) m) ≡ true
 ends_here w s d i m b h e =
     plain_at ends_type (λ x. refl) w m

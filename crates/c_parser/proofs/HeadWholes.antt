@@ -79,7 +79,7 @@ shown_semicolon w a k = semicolon_is (kind_at (shown w) a) (plain_at is_semicolo
 pub shown_assert : (w : Words) → (a : ℕ) → kind_at w.kinds a ≡ Assert → kind_at (shown w) a ≡ Assert
 shown_assert w a k = assert_is (kind_at (shown w) a) (plain_at is_assert (λ n. refl) w a ∙ ap is_assert k)
 
-was_assert : (w : Words) → (a : ℕ) → kind_at (shown w) a ≡ Assert → kind_at w.kinds a ≡ Assert
+pub was_assert : (w : Words) → (a : ℕ) → kind_at (shown w) a ≡ Assert → kind_at w.kinds a ≡ Assert
 was_assert w a k = assert_is (kind_at w.kinds a) (sym (plain_at is_assert (λ n. refl) w a) ∙ ap is_assert k)
 
 -- declarators up to the end of the head
@@ -90,7 +90,7 @@ OnlyDeclared w s a ds body b =
 abbrev pub FailsDeclared : Words → Leading → ℕ → Stop → Type 0
 FailsDeclared w s a e = (ds : List Piece) → (body : Bool) → (n : ℕ) → HoldAll w s ds a n → Closes w.kinds ds body n → IsWant e
 
-closes_ends : (ks : List Kind) → (ds : List Piece) → (body : Bool) → (n : ℕ) → Closes ks ds body n → ends_all (kind_at ks n) ≡ true
+pub closes_ends : (ks : List Kind) → (ds : List Piece) → (body : Bool) → (n : ℕ) → Closes ks ds body n → ends_all (kind_at ks n) ≡ true
 closes_ends ks ds false n c = ap ends_all c
 closes_ends ks ds true n c = ap ends_all c.0
 
@@ -172,10 +172,10 @@ OnlyHead w a h b = (h' : Heading) → (b' : ℕ) → HoldsHead w h' a b' → (h 
 abbrev pub FailsHead : Words → ℕ → Stop → Type 0
 FailsHead w a e = (h : Heading) → (b : ℕ) → HoldsHead w h a b → IsWant e
 
-asserts_first : (ks : List Kind) → (x : Assertion) → (a b : ℕ) → HoldsAssertion ks x a b → kind_at ks a ≡ Assert
+pub asserts_first : (ks : List Kind) → (x : Assertion) → (a b : ℕ) → HoldsAssertion ks x a b → kind_at ks a ≡ Assert
 asserts_first ks (Assertion_of k o t c ns p e) a b h = h.1
 
-specifiers_end : (w : Words) → (ss : Specifyings) → (ds : List Piece) → (body : Bool) → (m n : ℕ) → HoldAll w (leading_of (shown w) ss) ds m n
+pub specifiers_end : (w : Words) → (ss : Specifyings) → (ds : List Piece) → (body : Bool) → (m n : ℕ) → HoldAll w (leading_of (shown w) ss) ds m n
     → Closes w.kinds ds body n → ends_specifiers (kind_at (shown w) m) (typed_by (shown w) false ss) ≡ true
 specifiers_end w ss [] false m n h c =
     ap
@@ -313,7 +313,7 @@ assertion_same ks a t c only ns p found (Assertion_of k o t' c' ns' p' e) b h =
     )
 
 -- a head
-some_starts : (ks : List Kind) → (y : Bool) → (ss : Specifyings) → (a m : ℕ) → AreSome ss → HoldSpecifyings ks y ss a m → starts_type (kind_at ks a) ≡ true
+pub some_starts : (ks : List Kind) → (y : Bool) → (ss : Specifyings) → (a m : ℕ) → AreSome ss → HoldSpecifyings ks y ss a m → starts_type (kind_at ks a) ≡ true
 some_starts ks y No_specifiers a m i h = absurd i
 some_starts ks y (Specifier_then s ss) a m i h = starting ks y s a h.0 h.1
 

@@ -21,6 +21,8 @@ mod Openings
 mod Operations
 mod ParameterLists
 mod Parsing
+mod PartLemmas
+mod PartsFound
 mod Pushes
 mod SameParts
 mod ScopeLemmas

@@ -16,6 +16,10 @@ pub record Words : Type 0 where
 abbrev pub shown : Words → List Kind
 shown w = map (shade w.hidden) w.kinds
 
+-- what the token with this number is
+abbrev pub kind_in : Words → ℕ → Kind
+kind_in w at = kind_at (shown w) at
+
 unfoldable pub flagged : List Bool → ℕ → Bool → List Bool
 flagged hidden n b = if nat_lt n (length hidden) then slice_set hidden n b else hidden
 

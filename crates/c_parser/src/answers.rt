@@ -10,10 +10,10 @@ pub enum ParseError {
     NoMemory,
 }
 
-// Why the parser stopped.
+/// Why the parser stopped.
 #[derive(Clone, Copy, Debug, PartialEq, Eq, Hash, Drop)]
-pub(crate) enum Stop {
-    // At this token, which no expression has there.
+pub enum Stop {
+    /// At this token, which nothing that is parsed has there.
     Syntax(u32),
     NoMemory,
 }

@@ -1,25 +1,27 @@
 // The kinds of tokens that the grammar of expressions tells apart (ISO C11 6.5).
 ghost use Rattle.std.specs.Prelude.{◌≡◌, ◌<◌, ◌≤◌, ◌||◌, length};
 ghost use Rattle.c_parser.specs.Kinds as spec;
+ghost use Rattle.c_parser.specs.Parts as parts;
 
 use crate::scope::Kinds;
 
+/// What a token is to the grammar. Operators that stand in the same places are one kind.
 #[derive(Clone, Copy, Debug, PartialEq, Eq, Hash, Drop)]
-pub(crate) enum Kind {
-    // An identifier that is neither a keyword nor a typedef name.
+pub enum Kind {
+    /// An identifier that is neither a keyword nor a typedef name.
     Identifier,
-    // A typedef name in force, by its number.
+    /// A typedef name in force, by its number.
     TypeName(u32),
-    // A keyword that is a type specifier by itself, as `int`.
+    /// A keyword that is a type specifier by itself, as `int`.
     TypeWord,
     Qualifier,
-    // `_Atomic`.
+    /// `_Atomic`.
     Atomic,
-    // A storage class but `typedef` and `static`, or a function specifier (6.7.1, 6.7.4).
+    /// A storage class but `typedef` and `static`, or a function specifier (6.7.1, 6.7.4).
     Storage,
     Typedef,
     Static,
-    // `struct`, `union` and `enum`.
+    /// `struct`, `union` and `enum`.
     Tag,
     Constant,
     Text,
@@ -29,21 +31,21 @@ pub(crate) enum Kind {
     CloseBracket,
     OpenBrace,
     CloseBrace,
-    // `.`.
+    /// `.`.
     Dot,
-    // `->`.
+    /// `->`.
     Member,
-    // `++` and `--`.
+    /// `++` and `--`.
     Step,
     Ampersand,
     Star,
-    // `+` and `-`.
+    /// `+` and `-`.
     Sign,
-    // `~` and `!`.
+    /// `~` and `!`.
     Complement,
     SizeOf,
     AlignOf,
-    // `/` and `%`.
+    /// `/` and `%`.
     Quotient,
     Shift,
     Relation,
@@ -54,23 +56,34 @@ pub(crate) enum Kind {
     Or,
     Question,
     Colon,
-    // An operator of assignment but `=`.
+    /// An operator of assignment but `=`.
     Assignment,
     Equals,
     Comma,
-    // `_Generic`.
+    /// `_Generic`.
     Generic,
-    // `__offsetof`.
+    /// `__offsetof`.
     OffsetOf,
     Default,
-    // `...`.
+    /// `...`.
     Ellipsis,
     Semicolon,
-    // `_Static_assert`.
+    /// `_Static_assert`.
     Assert,
-    // Of no use in an expression.
+    If,
+    Else,
+    Switch,
+    Case,
+    While,
+    Do,
+    For,
+    Goto,
+    Continue,
+    Break,
+    Return,
+    /// Of no use in an expression.
     Other,
-    // No token is left.
+    /// No token is left.
     End,
 }
 
@@ -245,7 +258,25 @@ impl Kind {
         matches!(self, Kind::Identifier)
     }
 
-    // Whether it is an identifier, a typedef name or not.
+    /// Whether a declaration begins with it (6.7).
+    pub fn starts_declaration(self) -> bool
+        ensures { result ≡ parts.starts_declaration self }
+    {
+        matches!(
+            self,
+            Kind::TypeWord
+                | Kind::Qualifier
+                | Kind::Tag
+                | Kind::TypeName(_)
+                | Kind::Atomic
+                | Kind::Storage
+                | Kind::Typedef
+                | Kind::Static
+                | Kind::Assert
+        )
+    }
+
+    /// Whether it is an identifier, a typedef name or not.
     pub fn is_word(self) -> bool
         ensures { result ≡ spec.is_word self }
     {
@@ -323,9 +354,9 @@ pub(crate) fn any_size_at(kinds: &Kinds<'_>, at: u32) -> bool
     kind_at(kinds, at).is_star() && kind_at(kinds, at + 1).is_closing_bracket()
 }
 
-// Which name a declarator may have.
+/// Which name a declarator may have (6.7.6).
 #[derive(Clone, Copy, Debug, PartialEq, Eq, Hash, Drop)]
-pub(crate) enum Named {
+pub enum Named {
     // None, as in the name of a type (6.7.7).
     Never,
     // An identifier that is no typedef name.

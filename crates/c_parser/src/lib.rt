@@ -11,14 +11,18 @@ mod initializers;
 mod joining;
 mod kinds;
 mod names;
+mod parts;
 mod scope;
 mod selections;
 mod tokens;
 mod type_names;
 mod whole;
 
-pub use answers::ParseError;
+pub use answers::{ParseError, Stop};
+pub use kinds::{Kind, Named};
 pub use names::NameSet;
+pub use parts::{declaration_at, expression_at, parts_law};
+pub use scope::Scope;
 pub use whole::{
-    parse_expr, parse_head, parse_type_name, reading_is_unique, type_reading_is_unique,
+    item_words, parse_expr, parse_head, parse_type_name, reading_is_unique, type_reading_is_unique,
 };

@@ -167,9 +167,9 @@ pub(crate) fn token_at(tokens: &[Kind], at: u32) -> Kind
     }
 }
 
-// The identifiers of an item, each with its number, and which of them are no typedef names where the parser stands (6.2.1, 6.7.8).
+/// The identifiers of an item, each with its number, and which of them are no typedef names where the parser stands (6.2.1, 6.7.8).
 #[derive(Drop)]
-pub(crate) struct Scope<'a> {
+pub struct Scope<'a> {
     tokens: &'a [Kind],
     hidden: Rc<Vec<bool>>,
 }
@@ -210,8 +210,8 @@ fn told(
 }
 
 impl<'a> Scope<'a> {
-    // Tokens with these flags.
-    pub(crate) fn new(
+    /// Tokens with these flags.
+    pub fn new(
         alloc: Global,
         tokens: &'a [Kind],
         hidden: Vec<bool>,
@@ -228,6 +228,28 @@ impl<'a> Scope<'a> {
     {
         let hidden = self.hidden.clone()?;
         Ok(Kinds {
+            tokens: self.tokens,
+            hidden,
+        })
+    }
+
+    /// What the token with this number is here, `End` behind the last.
+    pub fn kind_at(&self, at: u32) -> Kind
+        ensures kind { result ≡ words.kind_in self.now at }
+        ensures inside { spec.IsInside self.now.kinds at result }
+    {
+        match self.tokens.get(at as usize) {
+            Some(kind) => shaded(&self.hidden, *kind),
+            None => Kind::End,
+        }
+    }
+
+    /// The same identifiers. They are shared.
+    pub fn share(&self) -> Result<Scope<'a>, AllocError>
+        ensures { IfOk result (λ s. s ≡ self.now) }
+    {
+        let hidden = self.hidden.clone()?;
+        Ok(Scope {
             tokens: self.tokens,
             hidden,
         })

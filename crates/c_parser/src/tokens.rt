@@ -65,7 +65,7 @@ static MARKS: [(&str, Kind); 50] = [
     (";", Kind::Semicolon),
 ];
 
-static WORDS: [(&str, Kind); 33] = [
+static WORDS: [(&str, Kind); 44] = [
     ("sizeof", Kind::SizeOf),
     ("_Alignof", Kind::AlignOf),
     ("const", Kind::Qualifier),
@@ -99,6 +99,17 @@ static WORDS: [(&str, Kind); 33] = [
     ("inline", Kind::Storage),
     ("_Noreturn", Kind::Storage),
     ("_Static_assert", Kind::Assert),
+    ("if", Kind::If),
+    ("else", Kind::Else),
+    ("switch", Kind::Switch),
+    ("case", Kind::Case),
+    ("while", Kind::While),
+    ("do", Kind::Do),
+    ("for", Kind::For),
+    ("goto", Kind::Goto),
+    ("continue", Kind::Continue),
+    ("break", Kind::Break),
+    ("return", Kind::Return),
 ];
 
 fn look_up(text: &str, table: &[(&str, Kind)]) -> Option<Kind>

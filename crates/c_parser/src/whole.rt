@@ -199,6 +199,29 @@ fn shallow_words(alloc: Global, tokens: &[OutToken]) -> Result<Vec<Kind>, ParseE
     Ok(kinds)
 }
 
+/// What each token of an item is, with a number for each identifier, and of each number whether it is none of these names.
+///
+/// Errors: TooDeep with the bracket that opens the 257th level; NoMemory.
+pub fn item_words(
+    alloc: Global,
+    tokens: &[OutToken],
+    names: &NameSet,
+) -> Result<(Vec<Kind>, Vec<bool>), ParseError>
+    requires { length tokens.now ≤ 2000000 }
+    ensures words { IfOk result (λ r. record { kinds = r.0.items; hidden = r.1.items } ≡ words.words_of names.now tokens.now) }
+    ensures shallow { IfOk result (λ r. too_deep r.0.items ≡ None) }
+    ensures deep { IfErr result (λ e. IsDeep (words.words_of names.now tokens.now).kinds e) }
+{
+    let kinds = match shallow_words(alloc, tokens) {
+        Ok(kinds) => kinds,
+        Err(error) => return Err(error),
+    };
+    let Ok(hidden) = hidden_of(alloc, tokens, names) else {
+        return Err(ParseError::NoMemory);
+    };
+    Ok((kinds, hidden))
+}
+
 fn whole_head(alloc: Global, kinds: &[Kind], hidden: Vec<bool>) -> Result<Head, ParseError>
     requires { length kinds.now ≤ 2000000 }
     ensures found { IfOk result (λ h. HoldsHead (record { kinds = kinds.now; hidden = hidden.items }) (heading_of h) 0 (length kinds.now)) }

@@ -1,0 +1,291 @@
+-- What expressions and declarations give to statements.
+use Rattle.std.proofs.Common.{◌≡◌, refl, ap, sym, ◌∙◌, subst, ℕ, ◌+◌, ◌<◌, ◌≤◌, List, [], ◌∷◌, length, arith, Option, Some, None, Bool, true, false, not, ◌||◌, true≢false}
+use Rattle.tree_data.specs.Trees.{Tree, Declaring, Declaring_of, Grouping, No_group, Named_of, Group_of, Specifying, Word_of, Typedef_of, Tag_of, Atomic_of, Specifyings, No_specifiers, Specifier_then, Initial, Assertion, Assertion_of, Heading, Declares_of, Asserts_of}
+use Rattle.c_parser.specs.declared.kinds.Kind.{Kind}
+use Rattle.c_parser.specs.declared.kinds.Kind.TheVariants.{Identifier, TypeName, TypeWord, Qualifier, Tag, Atomic, Storage, Typedef, Static, Assert, Constant, Text, OpenParen, CloseParen, Step, Ampersand, Star, Sign, Complement, SizeOf, AlignOf, Generic, OffsetOf, Colon, Comma, Semicolon, OpenBrace, Equals}
+use Rattle.c_parser.specs.Grammar.{AreSome, has_type, typed_by}
+use Rattle.c_parser.specs.Heads.{names_it, plain_behind, HoldsDeclarator, HoldsDirect, HoldsValue, HoldsOne, HoldOthers, HoldAll, Closes, Leading, leading_of, past, past_all, freely, HoldsAssertion, HoldsHead, past_head}
+use Rattle.c_parser.specs.Kinds.{kind_at, is_word, is_equals, ends_type, ends_specifiers, starts_type}
+use Rattle.c_parser.specs.HeadsFound.{ends_one, ends_all}
+use Rattle.c_parser.specs.Parts.{PartsLaw, IsBlind, HoldsDeclaration, past_declaration, is_declaration, starts_expression, starts_declaration}
+use Rattle.c_parser.specs.Reading.{Holds, HoldTexts, HoldPointers, HoldDerivings, HoldSpecifying, HoldSpecifyings, HoldsInitial, Reads, Stops}
+use Rattle.c_parser.specs.Words.{Words, shown, kind_in}
+use Rattle.c_parser.proofs.HeadDeclarators.{OnlyDeclarator, OnlyDirect, name_same, direct_same, direct_begins, declarator_starts, starts_declarator}
+use Rattle.c_parser.proofs.HeadLists.{Piece, OnlyValue, OnlyOne, OnlyAll, value_none, value_same, one_same, ends_here, ends_last, ends_behind}
+use Rattle.c_parser.proofs.HeadWholes.{OnlyFront, OnlyDeclared, OnlyHead, OnlyAssertion, none_same, semicolon_same, brace_same, declares_same, asserts_same, specifiers_end, some_starts, closes_ends, asserts_first, was_assert, shown_assert}
+use Rattle.c_parser.proofs.HeadWords.{plain_at, past_kinds}
+use Rattle.c_parser.proofs.Marks.{is_start, stops_at}
+use Rattle.c_parser.proofs.SameParts.{Only, texts_only}
+use Rattle.c_parser.proofs.TypeReading.{everywhere, derivings_only, specifyings_only, no_star, no_qualifier}
+use Rattle.c_parser.proofs.Types.{pointers_only, starting}
+use Rattle.c_parser.proofs.Uniqueness.{reads_only, initial_only}
+use Rattle.c_parser.proofs.Views.{starts}
+
+-- declarators
+declarator_pointers : (ks : List Kind) → (y : Bool) → (ps : List (ℕ × List ℕ)) → (g : Grouping) → (a m n : ℕ) → HoldPointers ks ps a m
+    → HoldsDirect ks (plain_behind y ps) g m n → (ps' : List (ℕ × List ℕ)) → (g' : Grouping) → (m' n' : ℕ) → HoldPointers ks ps' a m'
+    → HoldsDirect ks (plain_behind y ps') g' m' n' → (ps ≡ ps') × (m ≡ m')
+declarator_pointers ks y ps g a m n h i ps' g' m' n' h' i' =
+    let begun = direct_begins ks (plain_behind y ps) g m n i in
+    let begun' = direct_begins ks (plain_behind y ps') g' m' n' i' in
+    pointers_only ks ps a m h (no_star ks m begun) (no_qualifier ks m begun) ps' m' h' (no_star ks m' begun') (no_qualifier ks m' begun')
+
+mutual
+  declarator_only : (ks : List Kind) → (y : Bool) → (d : Declaring) → (a b : ℕ) → HoldsDeclarator ks y d a b → ends_type (kind_at ks b) ≡ true
+      → OnlyDeclarator ks y a d b
+  declarator_only ks y (Declaring_of ps g ds) a b h e (Declaring_of ps' g' ds') b' h' e' =
+      let one = declarator_pointers ks y ps g a h.0 h.1 h.2 h.3 ps' g' h'.0 h'.1 h'.2 h'.3 in
+      let moved : HoldsDirect ks (plain_behind y ps) g' h.0 h'.1 =
+      subst (λ x. HoldsDirect ks (plain_behind y x) g' h.0 h'.1) (sym one.0)
+      (subst (λ x. HoldsDirect ks (plain_behind y ps') g' x h'.1) (sym one.1) h'.3) in
+      let two = direct_only ks (plain_behind y ps) g h.0 h.1 h.3 g' h'.1 moved in
+      let three = derivings_only ks ds h.1 b (everywhere ks h.1) h.4 e ds' b' (subst (λ x. HoldDerivings ks ds' x b') (sym two.1) h'.4) e' in (
+        ap (λ x. Declaring_of x g ds) one.0 ∙ ap (λ x. Declaring_of ps' x ds) two.0 ∙ ap (λ x. Declaring_of ps' g' x) three.0,
+        three.1,
+      )
+
+  direct_only : (ks : List Kind) → (y : Bool) → (g : Grouping) → (a m : ℕ) → HoldsDirect ks y g a m → OnlyDirect ks y a g m
+  direct_only ks y No_group a m h g' m' h' = absurd h
+  direct_only ks y (Named_of n) a m h g' m' h' =
+      let same = name_same ks y a h.1 g' m' h' in
+      (ap Named_of h.0 ∙ same.0, h.2 ∙ same.1)
+  direct_only ks y (Group_of o d c) a m h g' m' h' =
+      let same = direct_same ks y a h.1 d c (declarator_only ks false d (a + 1) c h.2 (ap ends_type h.3)) g' m' h' in
+      (ap (λ x. Group_of x d c) h.0 ∙ same.0, h.4 ∙ same.1)
+
+-- with their initializers
+equals_here : (k : Kind) → is_equals k ≡ true → k ≡ Equals
+equals_here Equals h = refl
+equals_here _ h = absurd (true≢false (sym h))
+
+ends_unequal : (k : Kind) → ends_one k ≡ true → k ≡ Equals → ⊥
+ends_unequal k h e = true≢false (sym h ∙ ap ends_one e)
+
+ends_lower : (k : Kind) → ends_one k ≡ true → (ks : List Kind) → (b : ℕ) → kind_at ks b ≡ k → Stops ks 2 b
+ends_lower Comma h ks b e = stops_at ks 2 b Comma e (omega arith)
+ends_lower Semicolon h ks b e = stops_at ks 2 b Semicolon e (omega arith)
+ends_lower OpenBrace h ks b e = stops_at ks 2 b OpenBrace e (omega arith)
+ends_lower _ h ks b e = absurd (true≢false (sym h))
+
+value_only : (ks : List Kind) → (i : Option Initial) → (a b : ℕ) → HoldsValue ks i a b → ends_one (kind_at ks b) ≡ true → OnlyValue ks a i b
+value_only ks None a b h e i' b' h' e' =
+    let same = value_none ks a (ends_unequal (kind_at ks a) (ap (λ x. ends_one (kind_at ks x)) (sym h) ∙ e)) i' b' h' e' in
+    (same.0, h ∙ same.1)
+value_only ks (Some i) a b h e i' b' h' e' =
+    value_same ks a (equals_here (kind_at ks a) h.0) i b (initial_only ks i (a + 1) b h.1 (ends_lower (kind_at ks b) e ks b refl)) i' b' h' e'
+
+one_only : (w : Words) → (s : Leading) → (d : Declaring) → (i : Option Initial) → (a b : ℕ) → HoldsOne w s d i a b → ends_one (kind_at w.kinds b) ≡ true
+    → OnlyOne w s a d i b
+one_only w s d i a b h e =
+    one_same w s a d h.0 (declarator_only (shown w) (not s.typed) d a h.0 h.1 (ends_here w s d i h.0 b h.2 e)) (past w s d) refl i b
+    (value_only (shown (past w s d)) i h.0 b h.2 (ends_behind w s d b e))
+
+comma_ends : (w : Words) → (a : ℕ) → kind_at w.kinds a ≡ Comma → ends_one (kind_at w.kinds a) ≡ true
+comma_ends w a k = ap ends_one k
+
+-- where one ends: a comma, or the end of all
+others_end : (w v : Words) → v.kinds ≡ w.kinds → (s : Leading) → (ps : List Piece) → (a b : ℕ) → HoldOthers v s ps a b → ends_all (kind_at w.kinds b) ≡ true
+    → ends_one (kind_at w.kinds a) ≡ true
+others_end w v e s [] a b h f = ap (λ x. ends_one (kind_at w.kinds x)) (sym h) ∙ ends_last (kind_at w.kinds b) f
+others_end w v e s (p ∷ ps) a b h f = ap (λ ks. ends_one (kind_at ks a)) (sym e) ∙ ap ends_one h.1
+
+comma_all : (k : Kind) → k ≡ Comma → ends_all k ≡ true → ⊥
+comma_all k e h = true≢false (sym h ∙ ap ends_all e)
+
+others_only : (w : Words) → (s : Leading) → (ps : List Piece) → (a b : ℕ) → HoldOthers w s ps a b → ends_all (kind_at w.kinds b) ≡ true
+    → (ps' : List Piece) → (b' : ℕ) → HoldOthers w s ps' a b' → ends_all (kind_at w.kinds b') ≡ true → (ps ≡ ps') × (b ≡ b')
+others_only w s [] a b h e [] b' h' e' = (refl, h ∙ sym h')
+others_only w s [] a b h e (p ∷ ps) b' h' e' = absurd (comma_all (kind_at w.kinds b) (ap (λ x. kind_at w.kinds x) h ∙ h'.1) e)
+others_only w s (p ∷ ps) a b h e [] b' h' e' = absurd (comma_all (kind_at w.kinds b') (ap (λ x. kind_at w.kinds x) h' ∙ h.1) e')
+others_only w s (p ∷ ps) a b h e (p' ∷ ps') b' h' e' =
+    let v : Words = past w s p.0 in
+    let same : v.kinds ≡ w.kinds = past_kinds w s p.0 in
+    let one =
+    one_only w s p.0 p.1 (a + 1) h.0 h.2 (others_end w v same s ps h.0 b h.3 e) p'.0 p'.1 h'.0 h'.2
+    (others_end w (past w s p'.0) (past_kinds w s p'.0) s ps' h'.0 b' h'.3 e') in
+    let piece : p ≡ p' = one.0 in
+    let rest : HoldOthers v s ps' h.0 b' =
+    subst (λ x. HoldOthers (past w s x.0) s ps' h.0 b') (sym piece) (subst (λ x. HoldOthers (past w s p'.0) s ps' x b') (sym one.1) h'.3) in
+    let more =
+    others_only v s ps h.0 b h.3 (ap (λ ks. ends_all (kind_at ks b)) same ∙ e) ps' b' rest (ap (λ ks. ends_all (kind_at ks b')) same ∙ e') in
+    (λ i. piece i ∷ more.0 i, more.1)
+
+all_only : (w : Words) → (s : Leading) → (p : Piece) → (ps : List Piece) → (a b : ℕ) → HoldAll w s (p ∷ ps) a b → ends_all (kind_at w.kinds b) ≡ true
+    → OnlyAll w s a (p ∷ ps) b
+all_only w s p ps a b h e p' ps' b' h' e' =
+    let v : Words = past w s p.0 in
+    let same : v.kinds ≡ w.kinds = past_kinds w s p.0 in
+    let one =
+    one_only w s p.0 p.1 a h.0 h.1 (others_end w v same (freely s) ps h.0 b h.2 e) p'.0 p'.1 h'.0 h'.1
+    (others_end w (past w s p'.0) (past_kinds w s p'.0) (freely s) ps' h'.0 b' h'.2 e') in
+    let piece : p ≡ p' = one.0 in
+    let rest : HoldOthers v (freely s) ps' h.0 b' =
+    subst (λ x. HoldOthers (past w s x.0) (freely s) ps' h.0 b') (sym piece)
+    (subst (λ x. HoldOthers (past w s p'.0) (freely s) ps' x b') (sym one.1) h'.2) in
+    let more =
+    others_only v (freely s) ps h.0 b h.2 (ap (λ ks. ends_all (kind_at ks b)) same ∙ e) ps' b' rest (ap (λ ks. ends_all (kind_at ks b')) same ∙ e') in
+    (λ i. piece i ∷ more.0 i, more.1)
+
+-- up to the end of the head
+declarator_unended : (w : Words) → (s : Leading) → (p : Piece) → (ps : List Piece) → (a n : ℕ) → HoldAll w s (p ∷ ps) a n → kind_at w.kinds a ≡ Semicolon → ⊥
+declarator_unended w s p ps a n h k =
+    true≢false
+    (sym (declarator_starts (shown w) (not s.typed) p.0 a h.1.0 h.1.1) ∙ plain_at starts_declarator (λ x. refl) w a ∙ ap starts_declarator k)
+
+declared_only : (w : Words) → (s : Leading) → (ds : List Piece) → (body : Bool) → (a n : ℕ) → HoldAll w s ds a n → Closes w.kinds ds body n
+    → OnlyDeclared w s a ds body (n + 1)
+declared_only w s [] false a n h c ds' body' n' h' c' =
+    let same = none_same w s a (ap (λ x. kind_at w.kinds x) (sym h) ∙ c) ds' body' n' h' c' in
+    (same.0, same.1, ap (λ x. x + 1) h ∙ same.2)
+declared_only w s [] true a n h c ds' body' n' h' c' = absurd (true≢false (sym c.1))
+declared_only w s (p ∷ ps) false a n h c ds' body' n' h' c' =
+    semicolon_same w s a (declarator_unended w s p ps a n h) (p ∷ ps) n
+    (all_only w s p ps a n h (closes_ends w.kinds (p ∷ ps) false n c)) c ds' body' n' h' c'
+declared_only w s (p ∷ ps) true a n h c ds' body' n' h' c' =
+    brace_same w s a (declarator_unended w s p ps a n h) (p ∷ ps) n (all_only w s p ps a n h (closes_ends w.kinds (p ∷ ps) true n c)) c.0 ds' body' n' h' c'
+
+front_only : (ks : List Kind) → (ss : Specifyings) → (a m : ℕ) → HoldSpecifyings ks false ss a m
+    → ends_specifiers (kind_at ks m) (typed_by ks false ss) ≡ true → OnlyFront ks a ss m
+front_only ks ss a m h e ss' m' some h' e' = specifyings_only ks false ss a m (everywhere ks (a + 1)) h e ss' m' h' e'
+
+-- a static assertion
+assertion_only : (ks : List Kind) → (x : Assertion) → (a b : ℕ) → HoldsAssertion ks x a b → OnlyAssertion ks a x b
+assertion_only ks (Assertion_of k o t c ns p e) a b h (Assertion_of k' o' t' c' ns' p' e') b' h' =
+    let one : o ≡ o' = h.2 ∙ sym h'.2 in
+    let test =
+    reads_only ks 3 t (o + 1) c (omega arith) (h.4, h.5) (stops_at ks 3 c Comma h.6 (omega arith)) t' c'
+    (h'.4, subst (λ x. Holds ks t' (x + 1) c') (sym one) h'.5) (stops_at ks 3 c' Comma h'.6 (omega arith)) in
+    let text = texts_only ks ns (c + 1) p h.8 ns' p' (subst (λ x. HoldTexts ks ns' (x + 1) p') (sym test.1) h'.8) in
+    let last : e ≡ e' = h.10 ∙ ap (λ x. x + 1) text.1 ∙ sym h'.10 in (
+      ap (λ x. Assertion_of x o t c ns p e) (h.0 ∙ sym h'.0)
+          ∙ ap (λ x. Assertion_of k' x t c ns p e) one
+          ∙ ap (λ x. Assertion_of k' o' x c ns p e) test.0
+          ∙ ap (λ x. Assertion_of k' o' t' x ns p e) test.1
+          ∙ ap (λ x. Assertion_of k' o' t' c' x p e) text.0
+          ∙ ap (λ x. Assertion_of k' o' t' c' ns' x e) text.1
+          ∙ ap (λ x. Assertion_of k' o' t' c' ns' p' x) last,
+      h.12 ∙ ap (λ x. x + 1) last ∙ sym h'.12,
+    )
+
+type_no_assert : (ks : List Kind) → (a : ℕ) → starts_type (kind_at ks a) ≡ true → kind_at ks a ≡ Assert → ⊥
+type_no_assert ks a h k = true≢false (sym h ∙ ap starts_type k)
+
+pub heads_only : (w : Words) → (d : Heading) → (a b : ℕ) → HoldsHead w d a b → OnlyHead w a d b
+heads_only w (Declares_of ss ds body) a b h d' b' h' =
+    let starts_so = some_starts (shown w) false ss a h.0 h.2 h.3 in
+    let same =
+    declares_same w a (λ k. type_no_assert (shown w) a starts_so (shown_assert w a k)) ss h.0
+    (front_only (shown w) ss a h.0 h.3 (specifiers_end w ss ds body h.0 h.1 h.4 h.5)) (leading_of (shown w) ss) refl ds body (h.1 + 1)
+    (declared_only w (leading_of (shown w) ss) ds body h.0 h.1 h.4 h.5) d' b' h' in
+    (same.0, h.6 ∙ same.1)
+heads_only w (Asserts_of x) a b h d' b' h' =
+    asserts_same w a (was_assert w a (asserts_first (shown w) x a b h)) x b (assertion_only (shown w) x a b h) d' b' h'
+
+-- what they begin with
+start_expression : (k : Kind) → is_start k ≡ true → starts_expression k ≡ true
+start_expression Identifier h = refl
+start_expression Constant h = refl
+start_expression Text h = refl
+start_expression OpenParen h = refl
+start_expression Step h = refl
+start_expression Ampersand h = refl
+start_expression Star h = refl
+start_expression Sign h = refl
+start_expression Complement h = refl
+start_expression SizeOf h = refl
+start_expression AlignOf h = refl
+start_expression Generic h = refl
+start_expression OffsetOf h = refl
+start_expression _ h = absurd (true≢false (sym h))
+
+type_declares : (k : Kind) → starts_type k ≡ true → starts_declaration k ≡ true
+type_declares TypeWord h = refl
+type_declares Qualifier h = refl
+type_declares Tag h = refl
+type_declares (TypeName n) h = refl
+type_declares Atomic h = refl
+type_declares Storage h = refl
+type_declares Typedef h = refl
+type_declares Static h = refl
+type_declares _ h = absurd (true≢false (sym h))
+
+head_starts : (w : Words) → (d : Heading) → (a b : ℕ) → HoldsHead w d a b → starts_declaration (kind_in w a) ≡ true
+head_starts w (Declares_of ss ds body) a b h = type_declares (kind_in w a) (some_starts (shown w) false ss a h.0 h.2 h.3)
+head_starts w (Asserts_of x) a b h = ap starts_declaration (asserts_first (shown w) x a b h)
+
+-- no `:` stands behind the first token of one
+abbrev is_colon : Kind → Bool
+is_colon Colon = true
+is_colon _ = false
+
+colon_types_not : (k : Kind) → k ≡ Colon → starts_type k ≡ true → ⊥
+colon_types_not k e h = true≢false (sym h ∙ ap starts_type e)
+
+declares_on : (w : Words) → (s : Leading) → (ds : List Piece) → (body : Bool) → (m n : ℕ) → HoldAll w s ds m n → Closes w.kinds ds body n
+    → kind_in w m ≡ Colon → ⊥
+declares_on w s [] false m n h c k =
+    true≢false
+    (sym (ap is_colon k) ∙ plain_at is_colon (λ x. refl) w m ∙ ap (λ x. is_colon (kind_at w.kinds x)) (sym h) ∙ ap is_colon c)
+declares_on w s [] true m n h c k = true≢false (sym c.1)
+declares_on w s (p ∷ ps) body m n h c k =
+    true≢false (sym (declarator_starts (shown w) (not s.typed) p.0 m h.1.0 h.1.1) ∙ ap starts_declarator k)
+
+specifiers_on : (w : Words) → (y : Bool) → (s : Leading) → (ss : Specifyings) → (ds : List Piece) → (body : Bool) → (a m n : ℕ)
+    → HoldSpecifyings (shown w) y ss a m → HoldAll w s ds m n → Closes w.kinds ds body n → kind_in w a ≡ Colon → ⊥
+specifiers_on w y s No_specifiers ds body a m n h g c k = declares_on w s ds body m n g c (ap (kind_in w) h ∙ k)
+specifiers_on w y s (Specifier_then x ss) ds body a m n h g c k = colon_types_not (kind_in w a) k (starting (shown w) y x a h.0 h.1)
+
+word_colon_not : (k : Kind) → is_word k ≡ true → k ≡ Colon → ⊥
+word_colon_not k h e = true≢false (sym h ∙ ap is_word e)
+
+paren_colon_not : (k : Kind) → k ≡ OpenParen → k ≡ Colon → ⊥
+paren_colon_not k e f = true≢false (sym (ap is_colon f) ∙ ap is_colon e)
+
+-- behind the first specifier, if it is one token
+second_on : (w : Words) → (y : Bool) → (s : Leading) → (ss : Specifyings) → (ds : List Piece) → (body : Bool) → (a p m n : ℕ) → p ≡ a + 1
+    → HoldSpecifyings (shown w) y ss p m → HoldAll w s ds m n → Closes w.kinds ds body n → kind_in w (a + 1) ≡ Colon → ⊥
+second_on w y s ss ds body a p m n e h g c k = specifiers_on w y s ss ds body p m n h g c (ap (kind_in w) e ∙ k)
+
+first_unlabelled : (w : Words) → (s : Leading) → (x : Specifying) → (ss : Specifyings) → (ds : List Piece) → (body : Bool) → (a p m n : ℕ)
+    → HoldSpecifying (shown w) false x a p → HoldSpecifyings (shown w) (has_type (shown w) x || false) ss p m → HoldAll w s ds m n
+    → Closes w.kinds ds body n → kind_in w (a + 1) ≡ Colon → ⊥
+first_unlabelled w s (Word_of i) ss ds body a p m n f h g c k = second_on w (has_type (shown w) (Word_of i) || false) s ss ds body a p m n f.2 h g c k
+first_unlabelled w s (Typedef_of i) ss ds body a p m n f h g c k =
+    second_on w (has_type (shown w) (Typedef_of i) || false) s ss ds body a p m n f.3 h g c k
+first_unlabelled w s (Tag_of i j) ss ds body a p m n f h g c k =
+    word_colon_not (kind_in w (a + 1)) (ap (λ x. is_word (kind_in w x)) (sym f.2) ∙ f.3) k
+first_unlabelled w s (Atomic_of i o t j) ss ds body a p m n f h g c k =
+    paren_colon_not (kind_in w (a + 1)) (ap (kind_in w) (sym f.2) ∙ f.3) k
+
+head_unlabelled : (w : Words) → (d : Heading) → (a b : ℕ) → HoldsHead w d a b → kind_in w (a + 1) ≡ Colon → ⊥
+head_unlabelled w (Declares_of No_specifiers ds body) a b h k = h.2
+head_unlabelled w (Declares_of (Specifier_then x ss) ds body) a b h k =
+    first_unlabelled w (leading_of (shown w) (Specifier_then x ss)) x ss ds body a h.3.0 h.0 h.1 h.3.1 h.3.2 h.4 h.5 k
+head_unlabelled w (Asserts_of (Assertion_of i o t j ns p e)) a b h k =
+    paren_colon_not (kind_in w (a + 1)) (ap (kind_in w) (sym h.2) ∙ h.3) k
+
+-- behind them
+all_past_kinds : (w : Words) → (s : Leading) → (ds : List Piece) → (past_all w s ds).kinds ≡ w.kinds
+all_past_kinds w s [] = refl
+all_past_kinds w s (p ∷ ps) = all_past_kinds (past w s p.0) s ps ∙ past_kinds w s p.0
+
+head_kinds : (w : Words) → (d : Heading) → (past_declaration w d).kinds ≡ w.kinds
+head_kinds w (Declares_of ss ds body) = all_past_kinds w (leading_of (shown w) ss) ds
+head_kinds w (Asserts_of x) = refl
+
+head_blind : (f : Kind → Bool) → IsBlind f → (w : Words) → (d : Heading) → (at : ℕ) → f (kind_in (past_declaration w d) at) ≡ f (kind_in w at)
+head_blind f i w d at =
+    plain_at f i (past_declaration w d) at ∙ ap (λ ks. f (kind_at ks at)) (head_kinds w d) ∙ sym (plain_at f i w at)
+
+pub parts_law : PartsLaw
+parts_law = record {
+  expression_only = λ w n t u a b c le h s g r. reads_only (shown w) n t a b le h s u c g r;
+  declaration_only = λ w d e a b c h g. heads_only w d a b h.1 e c g.1;
+  expression_starts = λ w n t a b h. start_expression (kind_in w a) (starts (shown w) t a b h.1);
+  declaration_starts = λ w d a b h. head_starts w d a b h.1;
+  declaration_unlabelled = λ w d a b h. head_unlabelled w d a b h.1;
+  tree_blind = λ f i w t at. refl;
+  declaration_blind = head_blind;
+  tree_kinds = λ w t. refl;
+  declaration_kinds = head_kinds;
+}

@@ -1,0 +1,82 @@
+// Expressions and declarations as parts of statements (ISO C11 6.8).
+ghost use Rattle.std.specs.Prelude.{◌≡◌, ℕ, ◌≤◌, length, IfOk};
+ghost use Rattle.tree_data.specs.Heads.{heading_of};
+ghost use Rattle.tree_data.specs.Seen.{tree_of};
+ghost use Rattle.tree_data.specs.Trees.{Tree, Heading};
+ghost use Rattle.c_parser.specs.Parts as spec;
+ghost use Rattle.c_parser.specs.Parts.{PartsLaw, FoundExpression, FoundDeclaration, HoldsDeclaration, past_declaration};
+ghost use Rattle.c_parser.specs.Reading.{Reads, Stops, MustGive};
+ghost use Rattle.c_parser.specs.Words.{shown};
+
+use crate::answers::Stop;
+use crate::expressions::level;
+use crate::heads::head;
+use crate::scope::Scope;
+use std::alloc::Global;
+use tree_data::{Expr, Head};
+
+/// The expression of the nonterminal n that stands here: 1 for expression, 3 for constant-expression (6.5.17, 6.6). It goes on as far as it may.
+///
+/// Errors: Syntax exactly where none stands here, with the token at which the parser stopped; NoMemory.
+pub fn expression_at(alloc: Global, scope: &Scope<'_>, n: u8, at: u32) -> Result<(Expr, u32), Stop>
+    requires size { length scope.now.kinds ≤ 2000000 }
+    requires inside { at ≤ length scope.now.kinds }
+    requires low { 1 ≤ n }
+    requires high { n ≤ 3 }
+    ensures found { IfOk result (λ r. FoundExpression scope.now n at (tree_of r.0) r.1) }
+    ensures only { (t : Tree) → (end : ℕ) → Reads (shown scope.now) n t at end → Stops (shown scope.now) n end
+        → MustGive result (λ r. (tree_of r.0 ≡ t) × (r.1 ≡ end)) }
+{
+    let Ok(kinds) = scope.kinds() else {
+        return Err(Stop::NoMemory);
+    };
+    match level(alloc, &kinds, n, at) {
+        Ok(found) => Ok(found),
+        Err(stop) => Err(stop),
+    }
+}
+
+// Whether it has its `;`, and no body.
+fn is_declaration(head: &Head) -> bool
+    ensures { result ≡ spec.is_declaration (heading_of head.now) }
+{
+    match &head.assertion {
+        Some(_) => true,
+        None => !head.has_body,
+    }
+}
+
+/// The declaration that stands here, with its `;`, and the identifiers in force behind it (6.7).
+///
+/// Errors: Syntax exactly where none stands here; NoMemory.
+pub fn declaration_at<'a>(
+    alloc: Global,
+    scope: &Scope<'a>,
+    at: u32,
+) -> Result<(Head, Scope<'a>, u32), Stop>
+    requires size { length scope.now.kinds ≤ 2000000 }
+    requires inside { at ≤ length scope.now.kinds }
+    ensures found { IfOk result (λ r. FoundDeclaration scope.now at (heading_of r.0) r.2) }
+    ensures past { IfOk result (λ r. r.1 ≡ past_declaration scope.now (heading_of r.0)) }
+    ensures only { (d : Heading) → (end : ℕ) → HoldsDeclaration scope.now d at end
+        → MustGive result (λ r. (heading_of r.0 ≡ d) × (r.2 ≡ end)) }
+{
+    let shared = match scope.share() {
+        Ok(shared) => shared,
+        Err(_) => return Err(Stop::NoMemory),
+    };
+    let (head, behind, end) = match head(alloc, shared, at) {
+        Ok(found) => found,
+        Err(stop) => return Err(stop),
+    };
+    if !is_declaration(&head) {
+        return Err(Stop::Syntax(at));
+    }
+    Ok((head, behind, end))
+}
+
+/// What expressions and declarations give to whatever has them as parts: no two stand from one place on, what they begin with, and that they tell
+/// no typedef name from another identifier. It has nothing to run; its contract is the law.
+pub fn parts_law()
+    ensures { PartsLaw }
+{}
