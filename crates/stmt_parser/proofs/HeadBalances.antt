@@ -1,0 +1,435 @@
+-- Heads are quiet, and the parts of statements are balanced.
+use Rattle.std.proofs.Common.{◌≡◌, refl, ap, sym, ◌∙◌, subst, ℕ, ◌+◌, ◌≤◌, arith, Bool, true, false, true≢false, not, ◌&&◌, ◌||◌, List, [], ◌∷◌, Option, None, Some, is_none}
+use Rattle.tree_data.specs.Trees.{Declaring, Declaring_of, Grouping, No_group, Named_of, Group_of, Initial, Specifying, Word_of, Typedef_of, Tag_of, Atomic_of, Specifyings, No_specifiers, Specifier_then, Assertion, Assertion_of, Heading, Declares_of, Asserts_of}
+use Rattle.c_parser.specs.declared.kinds.Kind.{Kind}
+use Rattle.c_parser.specs.declared.kinds.Kind.TheVariants.{TypeName, OpenParen, CloseParen, OpenBracket, CloseBracket, OpenBrace, CloseBrace, Semicolon, Equals, Comma, Assert}
+use Rattle.c_parser.specs.Brackets.{opens, closes}
+use Rattle.c_parser.specs.Heads.{names_it, plain_behind, HoldsDeclarator, HoldsDirect, HoldsValue, HoldsOne, HoldOthers, HoldAll, Closes, is_alone, Leading, leading_of, freely, HoldsHead, HoldsAssertion}
+use Rattle.c_parser.specs.Heads as head
+use Rattle.c_parser.specs.Kinds.{kind_at, is_equals, is_identifier}
+use Rattle.c_parser.specs.Parts.{IsBlind, HoldsDeclaration, is_declaration}
+use Rattle.c_parser.specs.Grammar.{AreSome}
+use Rattle.c_parser.specs.Reading.{HoldSpecifying, HoldSpecifyings}
+use Rattle.c_parser.specs.Words.{Words, shown, kind_in, declared_as}
+use Rattle.stmt_parser.specs.Balance.{Pairs, No_token, Token_then, Pair_then, ArePairs, AreBalanced, PartsAreBalanced}
+use Rattle.stmt_parser.specs.Externals.{is_semicolon, is_open_brace, is_close_paren, AreQuiet, IsQuiet, DeclarationIsQuiet, HeadsAreQuiet}
+use Rattle.stmt_parser.proofs.Balances as statements
+use Rattle.stmt_parser.proofs.Cuts.{shaded_at, quiet_forth, pairs_forth}
+use Rattle.stmt_parser.proofs.PartBalances.{plain, opener, AreCalm, Calm, join, nothing, token, mark, pair, loosen, plain_by, word_plain, pointers_calm, tree_calm, initial_calm, specifyings_calm, naming_calm, derivings_calm, texts_calm}
+
+-- balanced
+plain_bracket : (s : Bool) → (k : Kind) → plain s k ≡ true → (opens k || closes k) ≡ false
+plain_bracket s OpenParen h = absurd (true≢false (sym h))
+plain_bracket s CloseParen h = absurd (true≢false (sym h))
+plain_bracket s OpenBracket h = absurd (true≢false (sym h))
+plain_bracket s CloseBracket h = absurd (true≢false (sym h))
+plain_bracket s OpenBrace h = absurd (true≢false (sym h))
+plain_bracket s CloseBrace h = absurd (true≢false (sym h))
+plain_bracket s _ h = refl
+
+plain_semicolon : (s : Bool) → (k : Kind) → plain s k ≡ true → is_semicolon k ≡ false
+plain_semicolon s Semicolon h = absurd (true≢false (sym h))
+plain_semicolon s _ h = refl
+
+strict_equals : (k : Kind) → plain true k ≡ true → is_equals k ≡ false
+strict_equals Equals h = absurd (true≢false (sym h))
+strict_equals _ h = refl
+
+opener_opens : (s : Bool) → (k : Kind) → opener s k ≡ true → opens k ≡ true
+opener_opens s OpenParen h = refl
+opener_opens s OpenBracket h = refl
+opener_opens s OpenBrace h = refl
+opener_opens s _ h = absurd (true≢false (sym h))
+
+strict_brace : (k : Kind) → opener true k ≡ true → is_open_brace k ≡ false
+strict_brace OpenBrace h = absurd (true≢false (sym h))
+strict_brace _ h = refl
+
+pairs_of : (s : Bool) → (w : Words) → (ps : Pairs) → (a b : ℕ) → AreCalm s (shown w) ps a b → ArePairs w ps a b
+pairs_of s w No_token a b h = h
+pairs_of s w (Token_then ps) a b h = (plain_bracket s (kind_in w a) h.0, pairs_of s w ps (a + 1) b h.1)
+pairs_of s w (Pair_then inner ps) a b h =
+    (h.0, opener_opens s (kind_in w a) h.1, pairs_of false w inner (a + 1) h.0 h.2, h.3, pairs_of s w ps (h.0 + 1) b h.4)
+
+balanced_of : (s : Bool) → (w : Words) → (a b : ℕ) → Calm s (shown w) a b → AreBalanced w a b
+balanced_of s w a b x = record { pairs = x.pairs; are = pairs_of s w x.pairs a b x.are }
+
+-- quiet, from a state to a state
+record Quieted (w : Words) (a b : ℕ) (c q q' : Bool) : Type 0 where
+  pub end : Bool
+  pub pairs : Pairs
+  pub are : AreQuiet w pairs a b c q end q'
+
+or_true : (b : Bool) → (b || true) ≡ true
+or_true true = refl
+or_true false = refl
+
+or_false : (b : Bool) → (b || false) ≡ b
+or_false true = refl
+or_false false = refl
+
+and_nothing : (b : Bool) → (b && false) ≡ false
+and_nothing true = refl
+and_nothing false = refl
+
+-- where an `=` stood
+quiet_behind : (w : Words) → (ps : Pairs) → (a b : ℕ) → (c : Bool) → AreCalm false (shown w) ps a b → Quieted w a b c true true
+quiet_behind w No_token a b c h = record { end = c; pairs = No_token; are = (h, refl, refl) }
+quiet_behind w (Token_then ps) a b c h =
+    let more = quiet_behind w ps (a + 1) b false h.1 in
+    record {
+      end = more.end;
+      pairs = Token_then more.pairs;
+      are = (plain_bracket false (kind_in w a) h.0, plain_semicolon false (kind_in w a) h.0, more.are);
+    }
+quiet_behind w (Pair_then inner ps) a b c h =
+    let more = quiet_behind w ps (h.0 + 1) b (is_close_paren (kind_in w h.0)) h.4 in
+    record {
+      end = more.end;
+      pairs = Pair_then inner more.pairs;
+      are = (
+        h.0,
+        opener_opens false (kind_in w a) h.1,
+        and_nothing (is_open_brace (kind_in w a) && c),
+        pairs_of false w inner (a + 1) h.0 h.2,
+        h.3,
+        more.are,
+      );
+    }
+
+-- where none did
+quiet_still : (w : Words) → (ps : Pairs) → (a b : ℕ) → (c q : Bool) → AreCalm true (shown w) ps a b → Quieted w a b c q q
+quiet_still w No_token a b c q h = record { end = c; pairs = No_token; are = (h, refl, refl) }
+quiet_still w (Token_then ps) a b c q h =
+    let same : (q || is_equals (kind_in w a)) ≡ q = ap (λ x. q || x) (strict_equals (kind_in w a) h.0) ∙ or_false q in
+    let more = quiet_still w ps (a + 1) b false q h.1 in
+    record {
+      end = more.end;
+      pairs = Token_then more.pairs;
+      are = (
+        plain_bracket true (kind_in w a) h.0,
+        plain_semicolon true (kind_in w a) h.0,
+        subst (λ x. AreQuiet w more.pairs (a + 1) b false x more.end q) (sym same) more.are,
+      );
+    }
+quiet_still w (Pair_then inner ps) a b c q h =
+    let more = quiet_still w ps (h.0 + 1) b (is_close_paren (kind_in w h.0)) q h.4 in
+    record {
+      end = more.end;
+      pairs = Pair_then inner more.pairs;
+      are = (
+        h.0,
+        opener_opens true (kind_in w a) h.1,
+        ap (λ x. x && c && not q) (strict_brace (kind_in w a) h.1),
+        pairs_of false w inner (a + 1) h.0 h.2,
+        h.3,
+        more.are,
+      );
+    }
+
+quiet_then : (w : Words) → (ps : Pairs) → (a m b : ℕ) → (c q c1 q1 q2 : Bool) → AreQuiet w ps a m c q c1 q1 → Quieted w m b c1 q1 q2 → Quieted w a b c q q2
+quiet_then w No_token a m b c q c1 q1 q2 h x =
+    subst (λ i. Quieted w i b c q q2) h.0
+    (subst (λ y. Quieted w m b y q q2) (sym h.1) (subst (λ y. Quieted w m b c1 y q2) (sym h.2) x))
+quiet_then w (Token_then ps) a m b c q c1 q1 q2 h x =
+    let more = quiet_then w ps (a + 1) m b false (q || is_equals (kind_in w a)) c1 q1 q2 h.2 x in
+    record { end = more.end; pairs = Token_then more.pairs; are = (h.0, h.1, more.are) }
+quiet_then w (Pair_then inner ps) a m b c q c1 q1 q2 h x =
+    let more = quiet_then w ps (h.0 + 1) m b (is_close_paren (kind_in w h.0)) q c1 q1 q2 h.5 x in
+    record { end = more.end; pairs = Pair_then inner more.pairs; are = (h.0, h.1, h.2, h.3, h.4, more.are) }
+
+then_quiet : (w : Words) → (a m b : ℕ) → (c q q1 q2 : Bool) → (x : Quieted w a m c q q1) → Quieted w m b x.end q1 q2 → Quieted w a b c q q2
+then_quiet w a m b c q q1 q2 x y = quiet_then w x.pairs a m b c q x.end q1 q2 x.are y
+
+still : (w : Words) → (a b : ℕ) → (c q : Bool) → Calm true (shown w) a b → Quieted w a b c q q
+still w a b c q x = quiet_still w x.pairs a b c q x.are
+
+-- declarators
+name_plain : (y : Bool) → (k : Kind) → names_it y k ≡ true → plain true k ≡ true
+name_plain true k h = plain_by is_identifier true refl refl refl refl refl refl refl refl k h
+name_plain false k h = word_plain true k h
+
+mutual
+  declarator_calm : (d : Declaring) → (ks : List Kind) → (y : Bool) → (a b : ℕ) → HoldsDeclarator ks y d a b → Calm true ks a b
+  declarator_calm (Declaring_of ps g ds) ks y a b h =
+      join true ks a h.0 b (pointers_calm ks ps a h.0 h.2)
+      (join true ks h.0 h.1 b (direct_calm g ks (plain_behind y ps) h.0 h.1 h.3) (derivings_calm ds ks h.1 b h.4))
+
+  direct_calm : (g : Grouping) → (ks : List Kind) → (y : Bool) → (a m : ℕ) → HoldsDirect ks y g a m → Calm true ks a m
+  direct_calm No_group ks y a m h = absurd h
+  direct_calm (Named_of n) ks y a m h = token true ks a m (name_plain y (kind_at ks a) h.1) h.2
+  direct_calm (Group_of o d c) ks y a m h =
+      pair true ks a c m OpenParen CloseParen h.1 refl (loosen ks (a + 1) c (declarator_calm d ks false (a + 1) c h.2)) h.3 refl h.4
+
+-- a scope behind a declarator shows the same marks
+as_shown : (f : Kind → Bool) → IsBlind f → (v w : Words) → v.kinds ≡ w.kinds → (a : ℕ) → f (kind_in v a) ≡ f (kind_in w a)
+as_shown f i v w e a =
+    shaded_at f i v.hidden v.kinds a ∙ ap (λ ks. f (kind_at ks a)) e ∙ sym (shaded_at f i w.hidden w.kinds a)
+
+calm_under : (s : Bool) → (v w : Words) → v.kinds ≡ w.kinds → (ps : Pairs) → (a b : ℕ) → AreCalm s (shown v) ps a b → AreCalm s (shown w) ps a b
+calm_under s v w e No_token a b h = h
+calm_under s v w e (Token_then ps) a b h =
+    (sym (as_shown (plain s) (λ n. refl) v w e a) ∙ h.0, calm_under s v w e ps (a + 1) b h.1)
+calm_under s v w e (Pair_then inner ps) a b h = (
+  h.0,
+  sym (as_shown (opener s) (λ n. refl) v w e a) ∙ h.1,
+  calm_under false v w e inner (a + 1) h.0 h.2,
+  sym (as_shown closes (λ n. refl) v w e h.0) ∙ h.3,
+  calm_under s v w e ps (h.0 + 1) b h.4,
+)
+
+seen_calm : (s : Bool) → (v w : Words) → v.kinds ≡ w.kinds → (a b : ℕ) → Calm s (shown v) a b → Calm s (shown w) a b
+seen_calm s v w e a b x = record { pairs = x.pairs; are = calm_under s v w e x.pairs a b x.are }
+
+as_kinds : (w : Words) → (y : Bool) → (k : Kind) → (declared_as w y k).kinds ≡ w.kinds
+as_kinds w y (TypeName n) = refl
+as_kinds w y _ = refl
+
+named_kinds : (w : Words) → (y : Bool) → (o : Option ℕ) → (head.named w y o).kinds ≡ w.kinds
+named_kinds w y None = refl
+named_kinds w y (Some n) = as_kinds w y (kind_at w.kinds n)
+
+abbrev Piece : Type 0
+Piece = Declaring × Option Initial
+
+comma_is : (w : Words) → (a : ℕ) → kind_at w.kinds a ≡ Comma → (opens (kind_in w a) || closes (kind_in w a)) ≡ false
+comma_is w a e = shaded_at (λ k. opens k || closes k) (λ n. refl) w.hidden w.kinds a ∙ ap (λ k. opens k || closes k) e
+
+comma_semicolon : (w : Words) → (a : ℕ) → kind_at w.kinds a ≡ Comma → is_semicolon (kind_in w a) ≡ false
+comma_semicolon w a e = shaded_at is_semicolon (λ n. refl) w.hidden w.kinds a ∙ ap is_semicolon e
+
+comma_equals : (w : Words) → (a : ℕ) → kind_at w.kinds a ≡ Comma → is_equals (kind_in w a) ≡ false
+comma_equals w a e = shaded_at is_equals (λ n. refl) w.hidden w.kinds a ∙ ap is_equals e
+
+comma_quiet : (w : Words) → (a : ℕ) → (c q : Bool) → kind_at w.kinds a ≡ Comma → Quieted w a (a + 1) c q q
+comma_quiet w a c q e = record {
+  end = false;
+  pairs = Token_then No_token;
+  are = (comma_is w a e, comma_semicolon w a e, (refl, refl, ap (λ x. q || x) (comma_equals w a e) ∙ or_false q));
+}
+
+equals_is : (k : Kind) → is_equals k ≡ true → k ≡ Equals
+equals_is Equals h = refl
+equals_is _ h = absurd (true≢false (sym h))
+
+equals_quiet : (w : Words) → (a : ℕ) → (c q : Bool) → kind_in w a ≡ Equals → Quieted w a (a + 1) c q true
+equals_quiet w a c q e = record {
+  end = false;
+  pairs = Token_then No_token;
+  are = (
+    ap (λ k. opens k || closes k) e,
+    ap is_semicolon e,
+    (refl, refl, ap (λ k. q || is_equals k) e ∙ or_true q),
+  );
+}
+
+-- quiet, with an `=` or with none
+record Settled (w : Words) (a b : ℕ) (c q : Bool) : Type 0 where
+  pub assigned : Bool
+  pub quiet : Quieted w a b c q assigned
+
+settle : (w : Words) → (a m b : ℕ) → (c q q1 : Bool) → (x : Quieted w a m c q q1) → Settled w m b x.end q1 → Settled w a b c q
+settle w a m b c q q1 x y = record { assigned = y.assigned; quiet = then_quiet w a m b c q q1 y.assigned x y.quiet }
+
+one_settled : (w v : Words) → v.kinds ≡ w.kinds → (s : Leading) → (p : Piece) → (a b : ℕ) → HoldsOne v s p.0 p.1 a b → (c q : Bool) → Settled w a b c q
+one_settled w v e s p a b h c q =
+    let front = still w a h.0 c q (seen_calm true v w e a h.0 (declarator_calm p.0 (shown v) (not s.typed) a h.0 h.1)) in
+    settle w a h.0 b c q q front (by p.1 h.2 front.end)
+  where
+    behind : Words
+    behind = head.past v s p.0
+
+    kinds : behind.kinds ≡ w.kinds
+    kinds = named_kinds v s.typedef _ ∙ e
+
+    by : (x : Option Initial) → HoldsValue (shown behind) x h.0 b → (d : Bool) → Settled w h.0 b d q
+    by None g d = record { assigned = q; quiet = still w h.0 b d q (nothing true (shown w) h.0 b g) }
+    by (Some i) g d =
+        let sign : kind_in w h.0 ≡ Equals = equals_is (kind_in w h.0) (sym (as_shown is_equals (λ n. refl) behind w kinds h.0) ∙ g.0) in
+        let first = equals_quiet w h.0 d q sign in
+        let calm = seen_calm false behind w kinds (h.0 + 1) b (initial_calm i (shown behind) (h.0 + 1) b g.1) in
+        settle w h.0 (h.0 + 1) b d q true first
+        (record { assigned = true; quiet = quiet_behind w calm.pairs (h.0 + 1) b first.end calm.are })
+
+others_settled : (w v : Words) → v.kinds ≡ w.kinds → (s : Leading) → (ps : List Piece) → (a b : ℕ) → HoldOthers v s ps a b → (c q : Bool)
+    → Settled w a b c q
+others_settled w v e s [] a b h c q = record { assigned = q; quiet = still w a b c q (nothing true (shown w) a b h) }
+others_settled w v e s (p ∷ ps) a b h c q =
+    let sign = comma_quiet w a c q (ap (λ ks. kind_at ks a) (sym e) ∙ h.1) in
+    let one = one_settled w v e s p (a + 1) h.0 h.2 sign.end q in
+    let rest =
+    others_settled w (head.past v s p.0) (named_kinds v s.typedef _ ∙ e) s ps h.0 b h.3 one.quiet.end one.assigned in
+    settle w a (a + 1) b c q q sign (settle w (a + 1) h.0 b sign.end q one.assigned one.quiet rest)
+
+all_settled : (w v : Words) → v.kinds ≡ w.kinds → (s : Leading) → (ps : List Piece) → (a b : ℕ) → HoldAll v s ps a b → (c q : Bool) → Settled w a b c q
+all_settled w v e s [] a b h c q = record { assigned = q; quiet = still w a b c q (nothing true (shown w) a b h) }
+all_settled w v e s (p ∷ ps) a b h c q =
+    let one = one_settled w v e s p a h.0 h.1 c q in
+    let rest = others_settled w (head.past v s p.0) (named_kinds v s.typedef _ ∙ e) (freely s) ps h.0 b h.2 one.quiet.end one.assigned in
+    settle w a h.0 b c q one.assigned one.quiet rest
+
+semicolon_is : (k : Kind) → is_semicolon k ≡ true → k ≡ Semicolon
+semicolon_is Semicolon h = refl
+semicolon_is _ h = absurd (true≢false (sym h))
+
+semicolon_seen : (w : Words) → (a : ℕ) → kind_at w.kinds a ≡ Semicolon → kind_in w a ≡ Semicolon
+semicolon_seen w a e = semicolon_is (kind_in w a) (shaded_at is_semicolon (λ n. refl) w.hidden w.kinds a ∙ ap is_semicolon e)
+
+quieted_is : (w : Words) → (a b : ℕ) → (q : Bool) → (x : Quieted w a b false false q) → IsQuiet w a b x.end q
+quieted_is w a b q x = record { pairs = x.pairs; are = x.are }
+
+assertion_calm : (ks : List Kind) → (x : Assertion) → (a b : ℕ) → (m : ℕ) → b ≡ m + 1 → HoldsAssertion ks x a b → Calm true ks a m
+assertion_calm ks (Assertion_of k o t c ns p e) a b m q h =
+    let last : m ≡ p + 1 = omega (arith, q, h.10, h.12) in
+    join true ks a o m (mark true ks a o Assert h.1 refl h.2)
+    (pair true ks o p m OpenParen CloseParen h.3 refl
+    (join false ks (o + 1) c p (tree_calm t ks (o + 1) c h.5)
+    (join false ks c (c + 1) p (mark false ks c (c + 1) Comma h.6 refl refl) (texts_calm ks ns (c + 1) p h.8))) h.9 refl last)
+
+declaration_quiet : (w : Words) → (d : Heading) → (a b : ℕ) → HoldsDeclaration w d a b → DeclarationIsQuiet w a b
+declaration_quiet w (Declares_of ss ds false) a b g =
+    let h = g.1 in
+    let front = still w a h.0 false false (specifyings_calm ss (shown w) false a h.0 h.3) in
+    let rest = all_settled w w refl (leading_of (shown w) ss) ds h.0 h.1 h.4 front.end false in
+    let whole = settle w a h.0 h.1 false false false front rest in
+    record {
+      last = h.1;
+      closed = whole.quiet.end;
+      assigned = whole.assigned;
+      quiet = quieted_is w a h.1 whole.assigned whole.quiet;
+      semicolon = semicolon_seen w h.1 h.5;
+      ends = h.6;
+    }
+declaration_quiet w (Declares_of ss ds true) a b g = absurd (true≢false (sym g.0))
+declaration_quiet w (Asserts_of (Assertion_of k o t c ns p e)) a b g =
+    let h = g.1 in
+    let quiet = still w a e false false (assertion_calm (shown w) (Assertion_of k o t c ns p e) a b e h.12 h) in
+    record {
+      last = e;
+      closed = quiet.end;
+      assigned = false;
+      quiet = quieted_is w a e false quiet;
+      semicolon = h.11;
+      ends = h.12;
+    }
+
+-- what the last token was
+abbrev Some_token : Pairs → Type 0
+Some_token No_token = ⊥
+Some_token (Token_then ps) = Unit {0}
+Some_token (Pair_then inner ps) = Unit {0}
+
+far : (w : Words) → (ps : Pairs) → (a p : ℕ) → (c q c' q' : Bool) → AreQuiet w ps a (p + 1) c q c' q' → Some_token ps → a ≤ p
+far w No_token a p c q c' q' h s = absurd s
+far w (Token_then ps) a p c q c' q' h s =
+    let one : a + 1 ≤ p + 1 = quiet_forth w ps (a + 1) (p + 1) false (q || is_equals (kind_in w a)) c' q' h.2 in
+    omega (arith, one)
+far w (Pair_then inner ps) a p c q c' q' h s =
+    let one : a + 1 ≤ h.0 = pairs_forth w inner (a + 1) h.0 h.3 in
+    let two : h.0 + 1 ≤ p + 1 = quiet_forth w ps (h.0 + 1) (p + 1) (is_close_paren (kind_in w h.0)) q c' q' h.5 in
+    omega (arith, one, two)
+
+closed_by : (w : Words) → (ps : Pairs) → (a p : ℕ) → (c q c' q' : Bool) → a ≤ p → AreQuiet w ps a (p + 1) c q c' q' → c' ≡ is_close_paren (kind_in w p)
+closed_by w No_token a p c q c' q' le h = absurd (omega (arith, le, h.0))
+closed_by w (Token_then No_token) a p c q c' q' le h =
+    let same : a ≡ p = omega (arith, h.2.0) in
+    sym h.2.1 ∙ sym (plain_paren_not (kind_in w a) h.0) ∙ ap (λ i. is_close_paren (kind_in w i)) same
+  where
+    plain_paren_not : (k : Kind) → (opens k || closes k) ≡ false → is_close_paren k ≡ false
+    plain_paren_not CloseParen e = absurd (true≢false e)
+    plain_paren_not _ e = refl
+closed_by w (Token_then (Token_then ps)) a p c q c' q' le h =
+    closed_by w (Token_then ps) (a + 1) p false (q || is_equals (kind_in w a)) c' q' (far w (Token_then ps) (a + 1) p false (q || is_equals (kind_in w a)) c' q' h.2 tt) h.2
+closed_by w (Token_then (Pair_then i ps)) a p c q c' q' le h =
+    closed_by w (Pair_then i ps) (a + 1) p false (q || is_equals (kind_in w a)) c' q' (far w (Pair_then i ps) (a + 1) p false (q || is_equals (kind_in w a)) c' q' h.2 tt) h.2
+closed_by w (Pair_then inner No_token) a p c q c' q' le h =
+    let same : h.0 ≡ p = omega (arith, h.5.0) in
+    sym h.5.1 ∙ ap (λ i. is_close_paren (kind_in w i)) same
+closed_by w (Pair_then inner (Token_then ps)) a p c q c' q' le h =
+    closed_by w (Token_then ps) (h.0 + 1) p (is_close_paren (kind_in w h.0)) q c' q' (far w (Token_then ps) (h.0 + 1) p (is_close_paren (kind_in w h.0)) q c' q' h.5 tt) h.5
+closed_by w (Pair_then inner (Pair_then i ps)) a p c q c' q' le h =
+    closed_by w (Pair_then i ps) (h.0 + 1) p (is_close_paren (kind_in w h.0)) q c' q' (far w (Pair_then i ps) (h.0 + 1) p (is_close_paren (kind_in w h.0)) q c' q' h.5 tt) h.5
+
+-- a head has a token in front of its last
+calm_forth : (s : Bool) → (ks : List Kind) → (ps : Pairs) → (a b : ℕ) → AreCalm s ks ps a b → a ≤ b
+calm_forth s ks No_token a b h = omega (arith, h)
+calm_forth s ks (Token_then ps) a b h = let one : a + 1 ≤ b = calm_forth s ks ps (a + 1) b h.1 in omega (arith, one)
+calm_forth s ks (Pair_then inner ps) a b h =
+    let one : a + 1 ≤ h.0 = calm_forth false ks inner (a + 1) h.0 h.2 in
+    let two : h.0 + 1 ≤ b = calm_forth s ks ps (h.0 + 1) b h.4 in
+    omega (arith, one, two)
+
+specifying_strict : (ks : List Kind) → (y : Bool) → (x : Specifying) → (a b : ℕ) → HoldSpecifying ks y x a b → a + 1 ≤ b
+specifying_strict ks y (Word_of n) a b h = omega (arith, h.2)
+specifying_strict ks y (Typedef_of n) a b h = omega (arith, h.3)
+specifying_strict ks y (Tag_of k n) a b h = omega (arith, h.2, h.4)
+specifying_strict ks y (Atomic_of k o t c) a b h =
+    let inner = naming_calm t ks false (o + 1) c h.4 in
+    let one : o + 1 ≤ c = calm_forth true ks inner.pairs (o + 1) c inner.are in
+    omega (arith, one, h.2, h.6)
+
+some_strict : (ks : List Kind) → (ss : Specifyings) → (a m : ℕ) → AreSome ss → HoldSpecifyings ks false ss a m → a + 1 ≤ m
+some_strict ks No_specifiers a m s h = absurd s
+some_strict ks (Specifier_then x xs) a m s h =
+    let one : a + 1 ≤ h.0 = specifying_strict ks false x a h.0 h.1 in
+    let rest = specifyings_calm xs ks _ h.0 m h.2 in
+    let two : h.0 ≤ m = calm_forth true ks rest.pairs h.0 m rest.are in
+    omega (arith, one, two)
+
+-- a function's head
+alone_still : (w : Words) → (s : Leading) → (ds : List Piece) → (a b : ℕ) → is_alone ds ≡ true → HoldAll w s ds a b → Calm true (shown w) a b
+alone_still w s [] a b e h = absurd (true≢false (sym e))
+alone_still w s (p ∷ []) a b e h = by p.1 e h.1.2
+  where
+    by : (x : Option Initial) → is_none x ≡ true → HoldsValue (shown (head.past w s p.0)) x h.1.0 h.0 → Calm true (shown w) a b
+    by None e g =
+        let one : h.0 ≡ h.1.0 = g in
+        let two : b ≡ h.1.0 = h.2 ∙ one in
+        subst (λ i. Calm true (shown w) a i) (sym two) (declarator_calm p.0 (shown w) (not s.typed) a h.1.0 h.1.1)
+    by (Some i) e g = absurd (true≢false (sym e))
+alone_still w s (p ∷ q ∷ ps) a b e h = absurd (true≢false (sym e))
+
+definition_quiet : (w : Words) → (h : Heading) → (a p : ℕ) → HoldsHead w h a (p + 2) → is_declaration h ≡ false
+    → IsQuiet w a (p + 1) (is_close_paren (kind_in w p)) false
+definition_quiet w (Declares_of ss ds false) a p h e = absurd (true≢false e)
+definition_quiet w (Declares_of ss ds true) a p h e =
+    let last : p + 1 ≡ h.1 = omega (arith, h.6) in
+    let calm =
+    join true (shown w) a h.0 h.1 (specifyings_calm ss (shown w) false a h.0 h.3)
+    (alone_still w (leading_of (shown w) ss) ds h.0 h.1 h.5.1 h.4) in
+    let one : a + 1 ≤ h.0 = some_strict (shown w) ss a h.0 h.2 h.3 in
+    let behind = alone_still w (leading_of (shown w) ss) ds h.0 h.1 h.5.1 h.4 in
+    let two : h.0 ≤ h.1 = calm_forth true (shown w) behind.pairs h.0 h.1 behind.are in
+    from (omega (arith, one, two, last)) (subst (λ i. Calm true (shown w) a i) (sym last) calm)
+  where
+    from : a ≤ p → Calm true (shown w) a (p + 1) → IsQuiet w a (p + 1) (is_close_paren (kind_in w p)) false
+    from start x =
+        let y = still w a (p + 1) false false x in
+        record {
+          pairs = y.pairs;
+          are = subst (λ c. AreQuiet w y.pairs a (p + 1) false false c false) (closed_by w y.pairs a p false false y.end false start y.are) y.are;
+        }
+definition_quiet w (Asserts_of x) a p h e = absurd (true≢false e)
+
+pub heads_quiet : HeadsAreQuiet
+heads_quiet = record { declaration = declaration_quiet; definition = definition_quiet }
+
+-- expressions, and declarations with their `;`
+quiet_pairs : (w : Words) → (ps : Pairs) → (a b : ℕ) → (c q c' q' : Bool) → AreQuiet w ps a b c q c' q' → ArePairs w ps a b
+quiet_pairs w No_token a b c q c' q' h = h.0
+quiet_pairs w (Token_then ps) a b c q c' q' h = (h.0, quiet_pairs w ps (a + 1) b false (q || is_equals (kind_in w a)) c' q' h.2)
+quiet_pairs w (Pair_then inner ps) a b c q c' q' h =
+    (h.0, h.1, h.3, h.4, quiet_pairs w ps (h.0 + 1) b (is_close_paren (kind_in w h.0)) q c' q' h.5)
+
+declaration_balanced : (w : Words) → (d : Heading) → (a b : ℕ) → HoldsDeclaration w d a b → AreBalanced w a b
+declaration_balanced w d a b h =
+    let x = declaration_quiet w d a b h in
+    statements.join w a x.last b
+    (record { pairs = x.quiet.pairs; are = quiet_pairs w x.quiet.pairs a x.last false false x.closed x.assigned x.quiet.are })
+    (record { pairs = Token_then No_token; are = (ap (λ k. opens k || closes k) x.semicolon, x.ends) })
+
+pub parts_balanced : PartsAreBalanced
+parts_balanced = record {
+  expression = λ w n t a b h. balanced_of false w a b (tree_calm t (shown w) a b h.1);
+  declaration = declaration_balanced;
+}

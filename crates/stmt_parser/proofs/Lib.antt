@@ -1,0 +1,14 @@
+mod Balances
+mod CoresRead
+mod Cuts
+mod FrontLemmas
+mod HeadBalances
+mod InForceLemmas
+mod LeadsRead
+mod Marks
+mod OneReading
+mod PartBalances
+mod PartsRead
+mod StatementsRead
+mod Views
+mod Wholes

@@ -1,0 +1,149 @@
+-- Expressions inside statements, as the parser finds them.
+use Rattle.std.proofs.Common.{◌≡◌, refl, ap, sym, ◌∙◌, subst, ℕ, ◌+◌, ◌<◌, ◌≤◌, length, arith, true, false, true≢false, Option, None, Some}
+use Rattle.tree_data.specs.Trees.{Tree}
+use Rattle.c_parser.specs.declared.answers.Stop.{Stop}
+use Rattle.c_parser.specs.declared.kinds.Kind.{Kind}
+use Rattle.c_parser.specs.declared.kinds.Kind.TheVariants.{OpenParen, CloseParen, Semicolon}
+use Rattle.c_parser.specs.Parts.{PartsLaw, FoundExpression}
+use Rattle.c_parser.specs.Reading.{Reads, Stops, IsWant}
+use Rattle.c_parser.specs.Words.{Words, shown, kind_in}
+use Rattle.stmt_parser.specs.Found.{FoundOptional, FoundTest, FoundTail, Alike}
+use Rattle.stmt_parser.specs.InForce.{past_optional}
+use Rattle.stmt_parser.specs.Reading.{HoldsOptional, HoldsTest, ends_expression}
+use Rattle.stmt_parser.proofs.InForceLemmas.{ends_blind}
+use Rattle.stmt_parser.proofs.Marks.{stops_before, ended}
+use Rattle.stmt_parser.proofs.OneReading.{optional_only}
+
+-- an expression hides nothing
+pub past_same : (w : Words) → (x : Option Tree) → past_optional w x ≡ w
+past_same w None = refl
+past_same w (Some t) = refl
+
+-- nothing
+pub nothing_found : (w : Words) → (a : ℕ) → a ≤ length w.kinds → FoundOptional w a None a
+nothing_found w a le = record { reads = refl; forth = omega arith; inside = le }
+
+pub nothing_only : PartsLaw → (w : Words) → (a : ℕ) → ends_expression (kind_in w a) ≡ true → (x : Option Tree) → (b : ℕ) → HoldsOptional w x a b
+    → ends_expression (kind_in w b) ≡ true → (None ≡ x) × (a ≡ b)
+nothing_only law w a e x b h f = optional_only law w None a a refl e x b h f
+
+pub something_found : (w : Words) → (a : ℕ) → (t : Tree) → (b : ℕ) → FoundExpression w 1 a t b → FoundOptional w a (Some t) b
+something_found w a t b f =
+    let forth : a < b = f.forth in
+    record { reads = f.reads; forth = omega (arith, forth); inside = f.inside }
+
+-- whatever holds of each expression from here on holds of each part that may be left out
+pub something_by : (w : Words) → (a : ℕ) → ends_expression (kind_in w a) ≡ false → (P : Option Tree → ℕ → Type 0)
+    → ((t : Tree) → (b : ℕ) → Reads (shown w) 1 t a b → Stops (shown w) 1 b → P (Some t) b)
+    → (x : Option Tree) → (b : ℕ) → HoldsOptional w x a b → ends_expression (kind_in w b) ≡ true → P x b
+something_by w a n P f None b h e = absurd (true≢false (sym e ∙ ap (λ y. ends_expression (kind_in w y)) h ∙ n))
+something_by w a n P f (Some t) b h e = f t b h (stops_before w 1 b (omega arith) e)
+
+pub something_only : (w : Words) → (a : ℕ) → ends_expression (kind_in w a) ≡ false → (t : Tree) → (m : ℕ)
+    → ((u : Tree) → (b : ℕ) → Reads (shown w) 1 u a b → Stops (shown w) 1 b → (t ≡ u) × (m ≡ b))
+    → (x : Option Tree) → (b : ℕ) → HoldsOptional w x a b → ends_expression (kind_in w b) ≡ true → (Some t ≡ x) × (m ≡ b)
+something_only w a n t m f =
+    something_by w a n (λ x b. (Some t ≡ x) × (m ≡ b)) (λ u b r s. (ap (λ y. Some y) (f u b r s).0, (f u b r s).1))
+
+pub something_fails : (w : Words) → (a : ℕ) → ends_expression (kind_in w a) ≡ false → (e : Stop)
+    → ((u : Tree) → (b : ℕ) → Reads (shown w) 1 u a b → Stops (shown w) 1 b → IsWant e)
+    → (x : Option Tree) → (b : ℕ) → HoldsOptional w x a b → ends_expression (kind_in w b) ≡ true → IsWant e
+something_fails w a n e f = something_by w a n (λ x b. IsWant e) f
+
+-- ( expression )
+pub test_found : (w : Words) → (a : ℕ) → kind_in w a ≡ OpenParen → (t : Tree) → (c : ℕ) → FoundExpression w 1 (a + 1) t c
+    → kind_in w c ≡ CloseParen → c < length w.kinds → FoundTest w a t c
+test_found w a o t c f e le =
+    let forth : a + 1 < c = f.forth in
+    record { reads = (refl, o, f.reads, e, refl); forth = omega (arith, forth); inside = le }
+
+pub test_unopened : (w : Words) → (a : ℕ) → (kind_in w a ≡ OpenParen → ⊥) → (o : ℕ) → (t : Tree) → (c b : ℕ) → HoldsTest w o t c a b → ⊥
+test_unopened w a n o t c b h = n h.1
+
+pub test_by : (w : Words) → (a : ℕ) → (P : Tree → ℕ → Type 0)
+    → ((t : Tree) → (c : ℕ) → Reads (shown w) 1 t (a + 1) c → Stops (shown w) 1 c → P t c)
+    → (o : ℕ) → (t : Tree) → (c b : ℕ) → HoldsTest w o t c a b → P t c
+test_by w a P f o t c b h = f t c h.2 (stops_before w 1 c (omega arith) (ended w c CloseParen h.3 refl))
+
+pub test_fails : (w : Words) → (a : ℕ) → (e : Stop) → ((t : Tree) → (c : ℕ) → Reads (shown w) 1 t (a + 1) c → Stops (shown w) 1 c → IsWant e)
+    → (o : ℕ) → (t : Tree) → (c b : ℕ) → HoldsTest w o t c a b → IsWant e
+test_fails w a e f = test_by w a (λ t c. IsWant e) f
+
+pub test_same : (w : Words) → (a : ℕ) → (t : Tree) → (m : ℕ)
+    → ((u : Tree) → (c : ℕ) → Reads (shown w) 1 u (a + 1) c → Stops (shown w) 1 c → (t ≡ u) × (m ≡ c))
+    → (o : ℕ) → (u : Tree) → (c b : ℕ) → HoldsTest w o u c a b → (t ≡ u) × (m ≡ c)
+test_same w a t m f = test_by w a (λ u c. (t ≡ u) × (m ≡ c)) f
+
+pub test_unclosed : (w : Words) → (a : ℕ) → (t : Tree) → (m : ℕ)
+    → ((u : Tree) → (c : ℕ) → Reads (shown w) 1 u (a + 1) c → Stops (shown w) 1 c → (t ≡ u) × (m ≡ c)) → (kind_in w m ≡ CloseParen → ⊥)
+    → (o : ℕ) → (u : Tree) → (c b : ℕ) → HoldsTest w o u c a b → ⊥
+test_unclosed w a t m f n o u c b h = n (ap (kind_in w) (test_same w a t m f o u c b h).1 ∙ h.3)
+
+-- the parts of a `for`
+pub alike_itself : (w : Words) → Alike w w
+alike_itself w f i a = refl
+
+pub ends_under : (w v : Words) → Alike w v → (a : ℕ) → (k : Kind) → kind_in v a ≡ k → ends_expression k ≡ true
+    → ends_expression (kind_in w a) ≡ true
+ends_under w v alike a k e f = alike ends_expression ends_blind a ∙ ended v a k e f
+
+abbrev pub OnlyOptional : Words → ℕ → Option Tree → ℕ → Type 0
+OnlyOptional w a x m = (y : Option Tree) → (b : ℕ) → HoldsOptional w y a b → ends_expression (kind_in w b) ≡ true → (x ≡ y) × (m ≡ b)
+
+abbrev pub FailsOptional : Words → ℕ → Stop → Type 0
+FailsOptional w a e = (y : Option Tree) → (b : ℕ) → HoldsOptional w y a b → ends_expression (kind_in w b) ≡ true → IsWant e
+
+abbrev pub FailsTail : Words → Words → ℕ → Stop → Type 0
+FailsTail v w a e = (y : Option Tree) → (n : ℕ) → (z : Option Tree) → (c : ℕ) → HoldsOptional w y a n → kind_in v n ≡ Semicolon
+    → HoldsOptional (past_optional w y) z (n + 1) c → kind_in v c ≡ CloseParen → IsWant e
+
+pub tail_unbegun : (w v : Words) → Alike w v → (a : ℕ) → (e : Stop) → FailsOptional w a e → FailsTail v w a e
+tail_unbegun w v alike a e f y n z c h k g m = f y n h (ends_under w v alike n Semicolon k refl)
+
+pub tail_undivided : (w v : Words) → Alike w v → (a : ℕ) → (x : Option Tree) → (m : ℕ) → OnlyOptional w a x m → (kind_in v m ≡ Semicolon → ⊥)
+    → (at : ℕ) → (y : Option Tree) → (n : ℕ) → (z : Option Tree) → (c : ℕ) → HoldsOptional w y a n → kind_in v n ≡ Semicolon
+    → HoldsOptional (past_optional w y) z (n + 1) c → kind_in v c ≡ CloseParen → ⊥
+tail_undivided w v alike a x m only lack at y n z c h k g q =
+    lack (ap (kind_in v) (only y n h (ends_under w v alike n Semicolon k refl)).1 ∙ k)
+
+-- the second part, from the place where the first one was found to end
+second_part : (w v : Words) → Alike w v → (a : ℕ) → (x : Option Tree) → (m : ℕ) → OnlyOptional w a x m → (y : Option Tree) → (n : ℕ)
+    → (z : Option Tree) → (c : ℕ) → HoldsOptional w y a n → kind_in v n ≡ Semicolon → HoldsOptional (past_optional w y) z (n + 1) c
+    → HoldsOptional w z (m + 1) c
+second_part w v alike a x m only y n z c h k g =
+    let r = only y n h (ends_under w v alike n Semicolon k refl) in
+    subst (λ p. HoldsOptional w z (p + 1) c) (sym r.1) (subst (λ u. HoldsOptional u z (n + 1) c) (past_same w y) g)
+
+pub tail_unstepped : (w v : Words) → Alike w v → (a : ℕ) → (x : Option Tree) → (m : ℕ) → OnlyOptional w a x m → (e : Stop)
+    → FailsOptional w (m + 1) e → FailsTail v w a e
+tail_unstepped w v alike a x m only e f y n z c h k g q =
+    f z c (second_part w v alike a x m only y n z c h k g) (ends_under w v alike c CloseParen q refl)
+
+pub tail_unclosed : (w v : Words) → Alike w v → (a : ℕ) → (x : Option Tree) → (m : ℕ) → OnlyOptional w a x m → (u : Option Tree) → (p : ℕ)
+    → OnlyOptional w (m + 1) u p → (kind_in v p ≡ CloseParen → ⊥)
+    → (y : Option Tree) → (n : ℕ) → (z : Option Tree) → (c : ℕ) → HoldsOptional w y a n → kind_in v n ≡ Semicolon
+    → HoldsOptional (past_optional w y) z (n + 1) c → kind_in v c ≡ CloseParen → ⊥
+tail_unclosed w v alike a x m only u p next lack y n z c h k g q =
+    lack (ap (kind_in v) (next z c (second_part w v alike a x m only y n z c h k g) (ends_under w v alike c CloseParen q refl)).1 ∙ q)
+
+pub tail_same : (w v : Words) → Alike w v → (a : ℕ) → (x : Option Tree) → (m : ℕ) → OnlyOptional w a x m → (u : Option Tree) → (p : ℕ)
+    → OnlyOptional w (m + 1) u p → (y : Option Tree) → (n : ℕ) → (z : Option Tree) → (c : ℕ) → HoldsOptional w y a n → kind_in v n ≡ Semicolon
+    → HoldsOptional (past_optional w y) z (n + 1) c → kind_in v c ≡ CloseParen → (x ≡ y) × (m ≡ n) × (u ≡ z) × (p ≡ c)
+tail_same w v alike a x m only u p next y n z c h k g q =
+    let r = only y n h (ends_under w v alike n Semicolon k refl) in
+    let s = next z c (second_part w v alike a x m only y n z c h k g) (ends_under w v alike c CloseParen q refl) in
+    (r.0, r.1, s.0, s.1)
+
+pub tail_found : (w v : Words) → (a : ℕ) → (x : Option Tree) → (m : ℕ) → FoundOptional w a x m → kind_in v m ≡ Semicolon
+    → (u : Option Tree) → (p : ℕ) → FoundOptional w (m + 1) u p → kind_in v p ≡ CloseParen → p < length w.kinds → FoundTail v w a x m u p
+tail_found w v a x m f k u p g q le =
+    let first : a ≤ m = f.forth in
+    let second : m + 1 ≤ p = g.forth in
+    record {
+      test = f.reads;
+      semicolon = k;
+      step = subst (λ y. HoldsOptional y u (m + 1) p) (sym (past_same w x)) g.reads;
+      closing = q;
+      forth = omega (arith, first, second);
+      inside = le;
+    }

@@ -1,0 +1,23 @@
+use Rattle.std.proofs.Common.{◌∙◌, sym, subst, ◌+◌}
+use Rattle.stmt_parser.specs.Found.{FoundStatement}
+use Rattle.c_parser.specs.declared.answers.Stop.TheVariants as stop
+use Rattle.stmt_parser.proofs.CoresRead.{plain_unbegun, plain_unended, plain_found}
+use Rattle.stmt_parser.proofs.cores.expression.Goals as goal
+
+pub returns-in-Err : goal.returns-in-Err
+returns-in-Err c = record {
+  found = tt;
+  fails = plain_unbegun _ _ c.requires.unlabelled c.requires.unmarked _ c.in-Err.ensures.only;
+}
+
+pub returns-in_default : goal.returns-in_default
+returns-in_default c = record {
+  found = tt;
+  fails = plain_unended _ _ c.requires.unlabelled c.requires.unmarked _ _ c.in-Ok.ensures.only (λ k. c.in_default.not-Semicolon (c.kind_at.ensures.kind ∙ k)) (stop.Syntax 0);
+}
+
+pub returns-in-Ok-expression : goal.returns-in-Ok-expression
+returns-in-Ok-expression c = record {
+  found = subst (λ s. FoundStatement c.args.scope.now c.args.at s (c.in-Ok.found.1 + 1)) (sym c.in-Ok-expression.ensures) (plain_found _ _ _ _ c.in-Ok.ensures.found (sym c.in-Semicolon.ensures.kind) c.in-Semicolon.ensures.inside);
+  fails = tt;
+}

@@ -1,0 +1,40 @@
+use Rattle.std.proofs.Common.{◌∙◌, sym, ap, subst, ◌+◌, option_map}
+use Rattle.stmt_parser.specs.Found.{FoundLead}
+use Rattle.stmt_parser.specs.InForce.{inside}
+use Rattle.tree_data.specs.Heads.{heading_of}
+use Rattle.tree_data.specs.Seen.{tree_of}
+use Rattle.stmt_parser.proofs.LeadsRead.{declaring_unbegun, declaring_fails, declaring_found, declaring_past}
+use Rattle.stmt_parser.proofs.leads.for_declaring.Goals as goal
+
+pub returns-in-Err : goal.returns-in-Err
+returns-in-Err c = record {
+  found = tt;
+  past = tt;
+  fails = declaring_unbegun c.requires.law _ _ c.requires.kind c.requires.declares _ c.in-Err.ensures.only;
+}
+
+pub returns-in-Err-tail : goal.returns-in-Err-tail
+returns-in-Err-tail c = record {
+  found = tt;
+  past = tt;
+  fails = declaring_fails c.requires.law _ _ c.requires.kind c.requires.declares _ _ c.in-Ok.ensures.only _ c.in-Ok.ensures.past _ c.in-Err-tail.ensures.only;
+}
+
+pub returns-in-Ok-for_declaring : goal.returns-in-Ok-for_declaring
+returns-in-Ok-for_declaring c = record {
+  found = subst (λ l. FoundLead c.args.scope.now c.args.at l (c.in-Ok-tail.found.3 + 1)) (sym c.in-Ok-for_declaring.ensures) (declaring_found c.requires.law _ _ c.requires.kind c.requires.opening _ _ c.in-Ok.ensures.found _ c.in-Ok.ensures.past _ _ _ _ c.in-Ok-tail.ensures.found);
+  past =
+      declaring_past
+      c.args.scope.now
+      _
+      (heading_of c.in-Ok.found.0)
+      c.in-Ok.ensures.past
+      c.args.at
+      (c.args.at + 1)
+      (option_map tree_of c.in-Ok-tail.found.0)
+      c.in-Ok-tail.found.1
+      (option_map tree_of c.in-Ok-tail.found.2)
+      c.in-Ok-tail.found.3
+      ∙ sym (ap (inside c.args.scope.now) c.in-Ok-for_declaring.ensures);
+  fails = tt;
+}

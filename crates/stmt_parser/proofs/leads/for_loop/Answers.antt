@@ -1,0 +1,44 @@
+use Rattle.std.proofs.Common.{◌∙◌, sym, ap, subst, ◌+◌, option_map}
+use Rattle.stmt_parser.specs.Found.{FoundLead}
+use Rattle.stmt_parser.specs.InForce.{inside}
+use Rattle.tree_data.specs.Seen.{tree_of}
+use Rattle.c_parser.specs.declared.answers.Stop.TheVariants as stop
+use Rattle.stmt_parser.proofs.LeadsRead.{loop_unbegun, loop_undivided, loop_fails, loop_found, loop_past}
+use Rattle.stmt_parser.proofs.leads.for_loop.Goals as goal
+
+pub returns-in-Err : goal.returns-in-Err
+returns-in-Err c = record {
+  found = tt;
+  past = tt;
+  fails = loop_unbegun c.requires.law _ _ c.requires.kind c.requires.declares _ c.in-Err.ensures.only;
+}
+
+pub returns-in_default : goal.returns-in_default
+returns-in_default c = record {
+  found = tt;
+  past = tt;
+  fails = loop_undivided c.requires.law _ _ c.requires.kind c.requires.declares _ _ c.in-Ok.ensures.only (λ k. c.in_default.not-Semicolon (c.kind_at.ensures.kind ∙ k)) (stop.Syntax 0);
+}
+
+pub returns-in-Err-tail : goal.returns-in-Err-tail
+returns-in-Err-tail c = record {
+  found = tt;
+  past = tt;
+  fails = loop_fails c.requires.law _ _ c.requires.kind c.requires.declares _ _ c.in-Ok.ensures.only _ c.in-Err-tail.ensures.only;
+}
+
+pub returns-in-Ok-for_loop : goal.returns-in-Ok-for_loop
+returns-in-Ok-for_loop c = record {
+  found = subst (λ l. FoundLead c.args.scope.now c.args.at l (c.in-Ok-tail.found.3 + 1)) (sym c.in-Ok-for_loop.ensures) (loop_found _ _ c.requires.kind c.requires.opening _ _ c.in-Ok.ensures.found (sym c.in-Semicolon.ensures.kind) _ _ _ _ c.in-Ok-tail.ensures.found);
+  past = ap (inside c.args.scope.now) c.in-Ok-for_loop.ensures ∙ loop_past
+      c.args.scope.now
+      c.args.at
+      (c.args.at + 1)
+      (option_map tree_of c.in-Ok.found.0)
+      c.in-Ok.found.1
+      (option_map tree_of c.in-Ok-tail.found.0)
+      c.in-Ok-tail.found.1
+      (option_map tree_of c.in-Ok-tail.found.2)
+      c.in-Ok-tail.found.3;
+  fails = tt;
+}

@@ -1,0 +1,33 @@
+use Rattle.std.proofs.Common.{◌∙◌, sym}
+use Rattle.stmt_parser.proofs.PartsRead.{tail_unbegun, tail_undivided, tail_unstepped, tail_unclosed, tail_same, tail_found, alike_itself}
+use Rattle.stmt_parser.proofs.parts.tail.Goals as goal
+
+pub returns-in-Err : goal.returns-in-Err
+returns-in-Err c = record {
+  found = tt;
+  only = tail_unbegun _ _ (alike_itself _) _ _ c.in-Err.ensures.only;
+}
+
+pub returns-in_default : goal.returns-in_default
+returns-in_default c = record {
+  found = tt;
+  only = tail_undivided _ _ (alike_itself _) _ _ _ c.in-Ok.ensures.only (λ k. c.in_default.not-Semicolon (c.kind_at.ensures.kind ∙ k)) 0;
+}
+
+pub returns-in-Err-optional : goal.returns-in-Err-optional
+returns-in-Err-optional c = record {
+  found = tt;
+  only = tail_unstepped _ _ (alike_itself _) _ _ _ c.in-Ok.ensures.only _ c.in-Err-optional.ensures.only;
+}
+
+pub returns-in_default-kind_at : goal.returns-in_default-kind_at
+returns-in_default-kind_at c = record {
+  found = tt;
+  only = tail_unclosed _ _ (alike_itself _) _ _ _ c.in-Ok.ensures.only _ _ c.in-Ok-optional.ensures.only (λ k. c.in_default-kind_at.not-CloseParen (c.kind_at-2.ensures.kind ∙ k));
+}
+
+pub returns : goal.returns
+returns c = record {
+  found = tail_found _ _ _ _ _ c.in-Ok.ensures.found (sym c.in-Semicolon.ensures.kind) _ _ c.in-Ok-optional.ensures.found (sym c.in-CloseParen.ensures.kind) c.in-CloseParen.ensures.inside;
+  only = tail_same _ _ (alike_itself _) _ _ _ c.in-Ok.ensures.only _ _ c.in-Ok-optional.ensures.only;
+}

@@ -1,0 +1,99 @@
+// Expressions inside statements (ISO C11 6.8.3 to 6.8.5).
+ghost use Rattle.std.specs.Prelude.{◌≡◌, ℕ, ◌+◌, ◌≤◌, true, length, Option, option_map, IfOk};
+ghost use Rattle.tree_data.specs.Seen.{tree_of};
+ghost use Rattle.tree_data.specs.Trees.{Tree};
+ghost use Rattle.c_parser.specs.declared.kinds.Kind.TheVariants.{Semicolon, CloseParen};
+ghost use Rattle.c_parser.specs.Parts.{PartsLaw};
+ghost use Rattle.c_parser.specs.Reading.{MustGive};
+ghost use Rattle.c_parser.specs.Words.{kind_in};
+ghost use Rattle.stmt_parser.specs.Found.{FoundOptional, FoundTest, FoundTail};
+ghost use Rattle.stmt_parser.specs.InForce.{past_optional};
+ghost use Rattle.stmt_parser.specs.Reading as spec;
+ghost use Rattle.stmt_parser.specs.Reading.{HoldsOptional, HoldsTest};
+
+use crate::fronts::ends_expression;
+use c_parser::{Kind, Scope, Stop, expression_at};
+use std::alloc::Global;
+use tree_data::Expr;
+
+// Nonterminals of expressions (6.5.17, 6.6).
+pub(crate) const EXPRESSION: u8 = 1;
+
+pub(crate) const CONSTANT: u8 = 3;
+
+// An expression, if there is one.
+pub(crate) fn optional(
+    alloc: Global,
+    scope: &Scope<'_>,
+    at: u32,
+) -> Result<(Option<Expr>, u32), Stop>
+    requires law { PartsLaw }
+    requires size { length scope.now.kinds ≤ 2000000 }
+    requires inside { at ≤ length scope.now.kinds }
+    ensures found { IfOk result (λ r. FoundOptional scope.now at (option_map tree_of r.0) r.1) }
+    ensures only { (x : Option Tree) → (end : ℕ) → HoldsOptional scope.now x at end
+        → spec.ends_expression (kind_in scope.now end) ≡ true → MustGive result (λ r. (option_map tree_of r.0 ≡ x) × (r.1 ≡ end)) }
+{
+    if ends_expression(scope.kind_at(at)) {
+        return Ok((None, at));
+    }
+    match expression_at(alloc, scope, EXPRESSION, at) {
+        Ok((expr, end)) => Ok((Some(expr), end)),
+        Err(stop) => Err(stop),
+    }
+}
+
+// An expression in parentheses, and the number of its `)`.
+pub(crate) fn test(alloc: Global, scope: &Scope<'_>, at: u32) -> Result<(Expr, u32), Stop>
+    requires law { PartsLaw }
+    requires size { length scope.now.kinds ≤ 2000000 }
+    requires inside { at ≤ length scope.now.kinds }
+    ensures found { IfOk result (λ r. FoundTest scope.now at (tree_of r.0) r.1) }
+    ensures only { (o : ℕ) → (t : Tree) → (c : ℕ) → (end : ℕ) → HoldsTest scope.now o t c at end
+        → MustGive result (λ r. (tree_of r.0 ≡ t) × (r.1 ≡ c)) }
+{
+    let Kind::OpenParen = scope.kind_at(at) else {
+        return Err(Stop::Syntax(at));
+    };
+    let (expr, closing) = match expression_at(alloc, scope, EXPRESSION, at + 1) {
+        Ok(found) => found,
+        Err(stop) => return Err(stop),
+    };
+    let Kind::CloseParen = scope.kind_at(closing) else {
+        return Err(Stop::Syntax(closing));
+    };
+    Ok((expr, closing))
+}
+
+// What stands in the parentheses of a `for` behind its first part: two expressions, each if it is there, the numbers of the `;` between them and of
+// the `)`.
+pub(crate) fn tail(
+    alloc: Global,
+    scope: &Scope<'_>,
+    at: u32,
+) -> Result<(Option<Expr>, u32, Option<Expr>, u32), Stop>
+    requires law { PartsLaw }
+    requires size { length scope.now.kinds ≤ 2000000 }
+    requires inside { at ≤ length scope.now.kinds }
+    ensures found { IfOk result (λ r. FoundTail scope.now scope.now at (option_map tree_of r.0) r.1 (option_map tree_of r.2) r.3) }
+    ensures only { (y : Option Tree) → (n : ℕ) → (z : Option Tree) → (c : ℕ) → HoldsOptional scope.now y at n
+        → kind_in scope.now n ≡ Semicolon → HoldsOptional (past_optional scope.now y) z (n + 1) c
+        → kind_in scope.now c ≡ CloseParen
+        → MustGive result (λ r. (option_map tree_of r.0 ≡ y) × (r.1 ≡ n) × (option_map tree_of r.2 ≡ z) × (r.3 ≡ c)) }
+{
+    let (test, middle) = match optional(alloc, scope, at) {
+        Ok(found) => found,
+        Err(stop) => return Err(stop),
+    };
+    let Kind::Semicolon = scope.kind_at(middle) else {
+        return Err(Stop::Syntax(middle));
+    };
+    let (step, closing) = match optional(alloc, scope, middle + 1) {
+        Ok(found) => found,
+        Err(stop) => return Err(stop),
+    };
+    let Kind::CloseParen = scope.kind_at(closing) else {
+        return Err(Stop::Syntax(closing));
+    };
+    Ok((test, middle, step, closing))
+}
