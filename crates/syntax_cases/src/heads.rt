@@ -48,12 +48,21 @@ fn show_declaration(out: &mut String, tokens: &[OutToken], head: &Head) -> Resul
     out.push_str(")")
 }
 
+// The tree of a head, behind what stands there.
+pub(crate) fn show_head(
+    out: &mut String,
+    tokens: &[OutToken],
+    head: &Head,
+) -> Result<(), AllocError> {
+    match &head.assertion {
+        Some(assertion) => show_assertion(out, tokens, assertion),
+        None => show_declaration(out, tokens, head),
+    }
+}
+
 /// The head of these tokens.
 pub fn shown_head(alloc: Global, tokens: &[OutToken], head: &Head) -> Result<String, AllocError> {
     let mut out = String::new(alloc);
-    match &head.assertion {
-        Some(assertion) => show_assertion(&mut out, tokens, assertion)?,
-        None => show_declaration(&mut out, tokens, head)?,
-    }
+    show_head(&mut out, tokens, head)?;
     Ok(out)
 }

@@ -1,11 +1,14 @@
-// Expressions, names of types and heads, line by line: a line `names` with typedef names, then texts of one line each, those of
-// names behind the word `type-name`, those of heads behind `head`. Behind each stands its tree as an S-expression, or why there is none.
+// Expressions, names of types, heads and bodies, line by line: a line `names` with typedef names, then texts of one line each, those of
+// names behind the word `type-name`, those of heads behind `head`, those of bodies behind `body`. Behind each stands its tree as an
+// S-expression, or why there is none.
 #![tactic(auto)]
 
+mod bodies;
 mod heads;
 mod reading;
 mod shown;
 
+use bodies::shown_body;
 use c_parser::{NameSet, ParseError, parse_expr, parse_head, parse_type_name};
 use heads::shown_head;
 use reading::tokens_of;
@@ -14,6 +17,7 @@ use shown::{shown, shown_name};
 use std::alloc::{AllocError, Global};
 use std::io;
 use std::io::Read;
+use stmt_parser::parse_body;
 use tok_data::OutToken;
 use tree_data::TypeName;
 
@@ -79,11 +83,29 @@ fn show_head(rt: &HostRuntime, names: &NameSet, tokens: &[OutToken]) -> io::Resu
     }
 }
 
+fn show_body(rt: &HostRuntime, names: &NameSet, tokens: &[OutToken]) -> io::Result<()> {
+    if MOST_TOKENS < tokens.len() {
+        return Ok(());
+    }
+    match parse_body(rt.alloc(), tokens, names) {
+        Ok(body) => {
+            let text = shown_body(rt.alloc(), tokens, &body)?;
+            let text = text.as_str();
+            println!(rt; "{text}")
+        }
+        Err(error) => show_error(rt, error),
+    }
+}
+
 fn show(rt: &HostRuntime, names: &NameSet, line: &str) -> io::Result<()> {
     println!(rt; "> {line}")?;
     if let Some(text) = line.strip_prefix("head ") {
         let tokens = tokens_of(rt.alloc(), text)?;
         return show_head(rt, names, tokens.as_slice());
+    }
+    if let Some(text) = line.strip_prefix("body ") {
+        let tokens = tokens_of(rt.alloc(), text)?;
+        return show_body(rt, names, tokens.as_slice());
     }
     match line.strip_prefix("type-name") {
         Some(text) => {

@@ -13,7 +13,7 @@ fn spelling(tokens: &[OutToken], at: u32) -> &str {
     }
 }
 
-fn spell(out: &mut String, tokens: &[OutToken], at: u32) -> Result<(), AllocError> {
+pub(crate) fn spell(out: &mut String, tokens: &[OutToken], at: u32) -> Result<(), AllocError> {
     out.push_str(spelling(tokens, at))
 }
 
@@ -68,7 +68,7 @@ fn open_unary(out: &mut String, tokens: &[OutToken], operator: u32) -> Result<()
     out.push_str(" ")
 }
 
-fn close(out: &mut String, count: usize) -> Result<(), AllocError> {
+pub(crate) fn close(out: &mut String, count: usize) -> Result<(), AllocError> {
     for _ in 0..count {
         out.push_str(")")?;
     }
