@@ -1,5 +1,5 @@
 // Edits of a text, and one call of each function with ample memory.
-use std::alloc::Global;
+use std::alloc::{AllocError, Global};
 use std::process::Abort;
 use std::test::Fail;
 use text_lines::{Change, ChangeText, EditError, Encoding, Pos, apply};
@@ -24,9 +24,8 @@ static EDITS: [Edit; 8] = [
     ("", (0, 0), (0, 0), "X", Ok("X")),
 ];
 
-fn check_edit(rt: &impl Abort, alloc: Global, edit: &Edit) -> Result<(), Fail> {
-    let (before, start, end, new, want) = *edit;
-    let mut text = String::from_str(alloc, before)?;
+fn change_of(alloc: Global, edit: &Edit) -> Result<Change, AllocError> {
+    let (_, start, end, new, _) = *edit;
     let start = Pos {
         line: start.0,
         character: start.1,
@@ -35,22 +34,30 @@ fn check_edit(rt: &impl Abort, alloc: Global, edit: &Edit) -> Result<(), Fail> {
         line: end.0,
         character: end.1,
     };
-    let change = Change {
+    let text = String::from_str(alloc, new)?;
+    Ok(Change {
         range: Some((start, end)),
-        text: ChangeText::from_string(String::from_str(alloc, new)?),
-    };
+        text: ChangeText::from_string(text),
+    })
+}
+
+/// What an edit answers, and the text that it leaves.
+fn is_edited(rt: &impl Abort, text: &mut String, change: &Change, edit: &Edit) {
+    let (before, _, _, _, want) = *edit;
     assert!(rt; text.len() <= 1000);
-    let answer = apply(&mut text, &change, Encoding::Utf16);
-    match want {
-        Ok(after) => {
-            assert_eq!(rt; answer, Ok(()));
-            assert_eq!(rt; text.as_str(), after);
-        }
-        Err(error) => {
-            assert_eq!(rt; answer, Err(error));
-            assert_eq!(rt; text.as_str(), before);
-        }
-    }
+    let answer = apply(text, change, Encoding::Utf16);
+    let (left, told) = match want {
+        Ok(after) => (after, Ok(())),
+        Err(error) => (before, Err(error)),
+    };
+    assert_eq!(rt; answer, told);
+    assert_eq!(rt; text.as_str(), left);
+}
+
+fn check_edit(rt: &impl Abort, alloc: Global, edit: &Edit) -> Result<(), AllocError> {
+    let mut text = String::from_str(alloc, edit.0)?;
+    let change = change_of(alloc, edit)?;
+    is_edited(rt, &mut text, &change, edit);
     Ok(())
 }
 
@@ -59,13 +66,23 @@ fn makes_edits(rt: HostRuntime) -> Result<(), Fail> {
     for edit in &EDITS {
         check_edit(&rt, rt.alloc(), edit)?;
     }
+    Ok(())
+}
+
+fn is_whole(rt: &impl Abort, text: &mut String, change: &Change) {
+    assert!(rt; text.len() <= 1000);
+    assert_eq!(rt; apply(text, change, Encoding::Utf8), Ok(()));
+    assert_eq!(rt; text.as_str(), "whole");
+    assert_eq!(rt; change.text.as_str(), "whole");
+}
+
+#[test]
+fn a_change_without_a_range_is_the_text(rt: HostRuntime) -> Result<(), Fail> {
     let mut text = String::from_str(rt.alloc(), "ab")?;
     let change = Change {
         range: None,
         text: ChangeText::from_string(String::from_str(rt.alloc(), "whole")?),
     };
-    assert!(rt; text.len() <= 1000);
-    assert_eq!(rt; apply(&mut text, &change, Encoding::Utf8), Ok(()));
-    assert_eq!(rt; text.as_str(), change.text.as_str());
+    is_whole(&rt, &mut text, &change);
     Ok(())
 }

@@ -13,3 +13,5 @@ mod options;
 mod path_vectors;
 #[cfg(test)]
 mod paths;
+#[cfg(test)]
+mod places;

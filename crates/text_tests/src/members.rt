@@ -4,6 +4,8 @@ use json_view::{
     get_text, get_u32,
 };
 use serde_json::Value;
+use std::alloc::{AllocError, Global};
+use std::process::Abort;
 use std::test::Fail;
 use text_lines::Pos;
 
@@ -39,12 +41,21 @@ static WHOLE: [(&str, Result<i32, ViewError>, Result<u32, ViewError>); 20] = [
     (r#"{"n":1,"n":2}"#, Ok(2), Ok(2)),
 ];
 
+fn are_whole(
+    rt: &impl Abort,
+    value: &Value,
+    signed: Result<i32, ViewError>,
+    unsigned: Result<u32, ViewError>,
+) {
+    assert_eq!(rt; get_i32(value, KEY), signed);
+    assert_eq!(rt; get_u32(value, KEY), unsigned);
+}
+
 #[test]
 fn whole_numbers_are_read(rt: HostRuntime) -> Result<(), Fail> {
     for (text, signed, unsigned) in &WHOLE {
         let value = Value::from_str(rt.alloc(), text)?;
-        assert_eq!(rt; get_i32(&value, KEY), *signed);
-        assert_eq!(rt; get_u32(&value, KEY), *unsigned);
+        are_whole(&rt, &value, *signed, *unsigned);
     }
     Ok(())
 }
@@ -66,13 +77,23 @@ fn is_text(found: &Result<String, ViewError>, wanted: &Result<&str, ViewError>) 
     }
 }
 
+fn are_read(
+    rt: &impl Abort,
+    value: &Value,
+    text: Result<&str, ViewError>,
+    truth: Result<bool, ViewError>,
+) {
+    assert_eq!(rt; get_str(value, KEY), text);
+    assert_eq!(rt; get_bool(value, KEY), truth);
+}
+
 #[test]
 fn texts_and_truth_values_are_read(rt: HostRuntime) -> Result<(), Fail> {
     for (json, text, truth) in &KINDS {
         let value = Value::from_str(rt.alloc(), json)?;
-        assert!(rt; is_text(&get_text(rt.alloc(), &value, KEY), text));
-        assert_eq!(rt; get_str(&value, KEY), *text);
-        assert_eq!(rt; get_bool(&value, KEY), *truth);
+        let copy = get_text(rt.alloc(), &value, KEY);
+        assert!(rt; is_text(&copy, text));
+        are_read(&rt, &value, *text, *truth);
     }
     Ok(())
 }
@@ -87,20 +108,26 @@ static PARTS: [(&str, Result<usize, ViewError>, Result<&str, ViewError>); 6] = [
     (r#"{}"#, Err(MISSING), Err(MISSING)),
 ];
 
+fn number_of(value: &Value) -> Result<usize, ViewError> {
+    match get_array(value, KEY) {
+        Ok(found) => Ok(found.len()),
+        Err(error) => Err(error),
+    }
+}
+
+fn inner_of(value: &Value) -> Result<&str, ViewError> {
+    match get_object(value, KEY) {
+        Ok(object) => get_str(object, KEY),
+        Err(error) => Err(error),
+    }
+}
+
 #[test]
 fn arrays_and_objects_are_read(rt: HostRuntime) -> Result<(), Fail> {
     for (json, elements, inner) in &PARTS {
         let value = Value::from_str(rt.alloc(), json)?;
-        let number = match get_array(&value, KEY) {
-            Ok(found) => Ok(found.len()),
-            Err(error) => Err(error),
-        };
-        assert_eq!(rt; number, *elements);
-        let text = match get_object(&value, KEY) {
-            Ok(object) => get_str(object, KEY),
-            Err(error) => Err(error),
-        };
-        assert_eq!(rt; text, *inner);
+        assert_eq!(rt; number_of(&value), *elements);
+        assert_eq!(rt; inner_of(&value), *inner);
     }
     Ok(())
 }
@@ -204,16 +231,20 @@ static IDS: [(&str, &str); 12] = [
     (r#"null"#, "`id` is missing"),
 ];
 
+fn shown_id(alloc: Global, value: &Value) -> Result<String, AllocError> {
+    match get_id(alloc, value) {
+        Ok(Id::Text(text)) => format!(in alloc; "text {}", text.as_str()),
+        Ok(Id::Int(number)) => format!(in alloc; "int {number}"),
+        Ok(Id::Big(number)) => format!(in alloc; "big {number}"),
+        Err(error) => format!(in alloc; "{error}"),
+    }
+}
+
 #[test]
 fn ids_are_read(rt: HostRuntime) -> Result<(), Fail> {
     for (json, wanted) in &IDS {
         let value = Value::from_str(rt.alloc(), json)?;
-        let shown = match get_id(rt.alloc(), &value) {
-            Ok(Id::Text(text)) => format!(in rt.alloc(); "text {}", text.as_str())?,
-            Ok(Id::Int(number)) => format!(in rt.alloc(); "int {number}")?,
-            Ok(Id::Big(number)) => format!(in rt.alloc(); "big {number}")?,
-            Err(error) => format!(in rt.alloc(); "{error}")?,
-        };
+        let shown = shown_id(rt.alloc(), &value)?;
         assert_eq!(rt; shown.as_str(), *wanted);
     }
     Ok(())

@@ -1,7 +1,9 @@
 // What is put in is what is lent.
+use crate::places::path;
 use project_conf::*;
 use shared_text::Name;
 use std::alloc::{AllocError, Global};
+use std::process::Abort;
 use uri_paths::Path;
 
 fn folder(alloc: Global, text: &str) -> Result<Folder, AllocError> {
@@ -9,17 +11,29 @@ fn folder(alloc: Global, text: &str) -> Result<Folder, AllocError> {
     Ok(Folder::from_string(text))
 }
 
-fn path(alloc: Global, text: &str) -> Result<Path, AllocError> {
-    match Path::read(alloc, text)? {
-        Some(path) => Ok(path),
-        None => Err(AllocError),
-    }
+fn push_set(
+    all: &mut Vec<Define>,
+    alloc: Global,
+    name: &str,
+    text: &str,
+) -> Result<(), AllocError> {
+    let name = Name::from_str(alloc, name)?;
+    let text = Name::from_str(alloc, text)?;
+    all.push(Define::Set(name, text))?;
+    Ok(())
+}
+
+fn push_unset(all: &mut Vec<Define>, alloc: Global, name: &str) -> Result<(), AllocError> {
+    let name = Name::from_str(alloc, name)?;
+    all.push(Define::Unset(name))?;
+    Ok(())
 }
 
 fn defines(alloc: Global) -> Result<Defines, AllocError> {
-    let set = Define::Set(Name::from_str(alloc, "LEVEL")?, Name::from_str(alloc, "2")?);
-    let unset = Define::Unset(Name::from_str(alloc, "NDEBUG")?);
-    Ok(Defines::from_vec(vec![in alloc; set, unset]?))
+    let mut all = Vec::new(alloc);
+    push_set(&mut all, alloc, "LEVEL", "2")?;
+    push_unset(&mut all, alloc, "NDEBUG")?;
+    Ok(Defines::from_vec(all))
 }
 
 fn is_set(define: &Define, name: &str, text: &str) -> bool {
@@ -36,57 +50,120 @@ fn is_unset(define: &Define, name: &str) -> bool {
     }
 }
 
-#[test]
-fn options_are_as_given(rt: HostRuntime) -> Result<(), AllocError> {
-    let alloc = rt.alloc();
-    let folders = vec![in alloc; folder(alloc, "include")?, folder(alloc, "/usr/include")?]?;
-    let options = Options {
-        includes: Folders::from_vec(folders),
+fn push_folder(all: &mut Vec<Folder>, alloc: Global, text: &str) -> Result<(), AllocError> {
+    let folder = folder(alloc, text)?;
+    all.push(folder)?;
+    Ok(())
+}
+
+fn folders(alloc: Global) -> Result<Folders, AllocError> {
+    let mut all = Vec::new(alloc);
+    push_folder(&mut all, alloc, "include")?;
+    push_folder(&mut all, alloc, "/usr/include")?;
+    Ok(Folders::from_vec(all))
+}
+
+fn options(alloc: Global) -> Result<Options, AllocError> {
+    let includes = folders(alloc)?;
+    Ok(Options {
+        includes,
         defines: defines(alloc)?,
         generate: Some(512),
-    };
-    let [first, second] = options.includes.as_slice() else {
+    })
+}
+
+fn are_folders(rt: &impl Abort, folders: &[Folder]) {
+    let [first, second] = folders else {
         panic!(rt; "two folders")
     };
     assert_eq!(rt; first.as_str(), "include");
     assert_eq!(rt; second.as_str(), "/usr/include");
-    let [set, unset] = options.defines.as_slice() else {
+}
+
+fn are_defines(rt: &impl Abort, defines: &[Define]) {
+    let [set, unset] = defines else {
         panic!(rt; "two definitions")
     };
     assert!(rt; is_set(set, "LEVEL", "2"));
     assert!(rt; is_unset(unset, "NDEBUG"));
+}
+
+#[test]
+fn options_are_as_given(rt: HostRuntime) -> Result<(), AllocError> {
+    let options = options(rt.alloc())?;
+    are_folders(&rt, options.includes.as_slice());
+    are_defines(&rt, options.defines.as_slice());
     assert_eq!(rt; options.generate, Some(512));
-    let none = Options::none(alloc);
-    assert!(rt; none.includes.as_slice().is_empty());
-    assert!(rt; none.defines.as_slice().is_empty());
-    assert_eq!(rt; none.generate, None);
     Ok(())
 }
 
 #[test]
-fn units_are_as_given(rt: HostRuntime) -> Result<(), AllocError> {
-    let alloc = rt.alloc();
-    let unit = UnitConf {
-        file: path(alloc, "/p/a.c")?,
-        includes: IncludePaths::from_vec(vec![in alloc; path(alloc, "/p")?]?),
+fn no_options_are_given(rt: HostRuntime) {
+    let none = Options::none(rt.alloc());
+    assert!(rt; none.includes.as_slice().is_empty());
+    assert!(rt; none.defines.as_slice().is_empty());
+    assert_eq!(rt; none.generate, None);
+}
+
+fn push_path(all: &mut Vec<Path>, alloc: Global, text: &str) -> Result<(), AllocError> {
+    let path = path(alloc, text)?;
+    all.push(path)?;
+    Ok(())
+}
+
+fn include_paths(alloc: Global, texts: &[&str]) -> Result<IncludePaths, AllocError> {
+    let mut all = Vec::new(alloc);
+    for text in texts {
+        push_path(&mut all, alloc, text)?;
+    }
+    Ok(IncludePaths::from_vec(all))
+}
+
+fn unit(alloc: Global) -> Result<UnitConf, AllocError> {
+    let file = path(alloc, "/p/a.c")?;
+    let includes = include_paths(alloc, &["/p"])?;
+    Ok(UnitConf {
+        file,
+        includes,
         defines: defines(alloc)?,
-    };
-    let conf = Conf {
-        root: Some(path(alloc, "/p")?),
-        includes: IncludePaths::from_vec(vec![in alloc; path(alloc, "/q")?, path(alloc, "/")?]?),
+    })
+}
+
+fn database(alloc: Global) -> Result<UnitConfs, AllocError> {
+    let unit = unit(alloc)?;
+    let mut all = Vec::new(alloc);
+    all.push(unit)?;
+    Ok(UnitConfs::from_vec(all))
+}
+
+fn conf(alloc: Global) -> Result<Conf, AllocError> {
+    let root = path(alloc, "/p")?;
+    let includes = include_paths(alloc, &["/q", "/"])?;
+    Ok(Conf {
+        root: Some(root),
+        includes,
         defines: Defines::from_vec(Vec::new(alloc)),
-        database: Some(UnitConfs::from_vec(vec![in alloc; unit]?)),
-    };
-    assert_eq!(rt; conf.includes.as_slice().len(), 2);
-    assert!(rt; conf.defines.as_slice().is_empty());
-    let Some(database) = &conf.database else {
-        panic!(rt; "a database")
-    };
-    let [unit] = database.as_slice() else {
+        database: Some(database(alloc)?),
+    })
+}
+
+fn is_unit(rt: &impl Abort, units: &[UnitConf]) {
+    let [unit] = units else {
         panic!(rt; "one unit")
     };
     assert_eq!(rt; unit.file.as_str(), "/p/a.c");
     assert_eq!(rt; unit.includes.as_slice().len(), 1);
     assert_eq!(rt; unit.defines.as_slice().len(), 2);
+}
+
+#[test]
+fn units_are_as_given(rt: HostRuntime) -> Result<(), AllocError> {
+    let conf = conf(rt.alloc())?;
+    assert_eq!(rt; conf.includes.as_slice().len(), 2);
+    assert!(rt; conf.defines.as_slice().is_empty());
+    let Some(database) = &conf.database else {
+        panic!(rt; "a database")
+    };
+    is_unit(&rt, database.as_slice());
     Ok(())
 }

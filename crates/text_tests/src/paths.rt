@@ -1,6 +1,6 @@
 // The paths and URIs that were worked out apart from this crate, and one call of each function with ample memory.
 use crate::path_vectors::{BESIDE, READ, WITHIN, WRITTEN};
-use std::alloc::{AllocError, Global};
+use crate::places::path;
 use std::test::Fail;
 use uri_paths::{Path, UriError, beside, path_of, under, uri_of, within};
 
@@ -19,15 +19,6 @@ fn is_found(found: &Option<Path>, wanted: &Option<&str>) -> bool {
         (Some(path), Some(text)) => path.as_str() == *text,
         (None, None) => true,
         _ => false,
-    }
-}
-
-/// The path with a text that is known to be one's, or `/`.
-#[tactic(auto, unfolding(uri_paths::specs::Paths::is_path))]
-fn path(alloc: Global, text: &str) -> Result<Path, AllocError> {
-    match Path::read(alloc, text)? {
-        Some(path) => Ok(path),
-        None => Ok(Path::read(alloc, "/")?.unwrap()),
     }
 }
 
