@@ -1,8 +1,9 @@
 // Members, tags and the wanted layout of a line: what a call on layouts reads beside types.
+use fault_texts::message;
 use shared_list::Listing;
 use shared_text::Name;
 use std::alloc::{AllocError, Global};
-use type_data::{CType, ItemName, Layout, Member, Qual, TagId, TagInfo, TagKind, Tags};
+use type_data::{CType, Fault, ItemName, Layout, Member, Qual, TagId, TagInfo, TagKind, Tags};
 use type_print::print;
 use type_rel::{layout, size_align};
 
@@ -159,6 +160,11 @@ impl Laying {
         name: &str,
     ) -> Result<String, AllocError> {
         print(alloc, ty, qual, name, &self.tags)
+    }
+
+    /// The message of a fault.
+    pub fn message(&self, alloc: Global, fault: &Fault) -> Result<Name, AllocError> {
+        message(alloc, fault, &self.tags)
     }
 
     /// Whether the word is one of those that take no type.

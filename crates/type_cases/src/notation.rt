@@ -1,9 +1,20 @@
 // Types in postfix notation: each word takes its parts from those that were read before it.
 use crate::laying::{Laying, tag};
 use crate::words::{basic_named, constancy_named, extent_named, proto_named, qual_named};
+use shared_list::Listing;
+use shared_text::Name;
 use std::alloc::{AllocError, Global};
-use type_data::{CType, Constancy, Judged, Node, ParamList, Params, Place, Qual};
+use type_data::{CType, Constancy, Fault, Judged, Node, ParamList, Params, Place, Qual};
 use type_rel::{assignable, compatible, composite, promote, usual};
+
+fn names_of(alloc: Global, words: &str) -> Result<Listing<Name>, AllocError> {
+    let mut names = Vec::new(alloc);
+    for word in words.split(',') {
+        let name = Name::from_str(alloc, word)?;
+        names.push(name)?;
+    }
+    Ok(Listing::from_vec(names))
+}
 
 /// What was read.
 #[derive(Drop)]
@@ -194,6 +205,18 @@ impl Notes {
         };
         let text = self.laying.printed(alloc, &ty, qual_named(quals), name)?;
         Ok(Some(text))
+    }
+
+    /// The message of a rule with these names, which commas part, and all types that were read.
+    pub fn message(&mut self, alloc: Global, rule: u16, names: &str) -> Result<Name, AllocError> {
+        let types = std::mem::replace(&mut self.types, Vec::new(alloc));
+        let fault = Fault {
+            rule,
+            at: 0,
+            names: names_of(alloc, names)?,
+            types: Listing::from_vec(types),
+        };
+        self.laying.message(alloc, &fault)
     }
 
     /// The answer of a call with what was read, or whether it answers the last type that was read.
