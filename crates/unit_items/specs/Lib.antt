@@ -1,0 +1,4 @@
+pub mod Items
+pub mod Maps
+pub mod Sources
+pub mod Units
