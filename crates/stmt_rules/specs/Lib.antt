@@ -1,0 +1,9 @@
+pub mod Apart
+pub mod Cases
+pub mod Conditions
+pub mod Declarations
+pub mod Faults
+pub mod Jumps
+pub mod Labels
+pub mod Returns
+pub mod Switches
