@@ -1,0 +1,13 @@
+pub mod Alignments
+pub mod Anonymous
+pub mod Assertions
+pub mod Bare
+pub mod Bodies
+pub mod Enumerators
+pub mod Faults
+pub mod Fields
+pub mod Flexible
+pub mod Members
+pub mod Naming
+pub mod Roles
+pub mod Widths
