@@ -2,9 +2,9 @@
 // many tokens that are wanted, `#define` lines, and a text of one line. The definitions stand in texts `/m0.h`, `/m1.h` and so on, the text in `/t.c`, and every site is on line 1, but after
 // `no lines`, where no line is known.
 use crate::reading::{definition, tokens_of};
-use crate::shown::shown;
+use crate::shown::{shown, shown_answer, shown_def};
 use macro_expand::{Within, expand, expand_within};
-use macro_table::MacroTable;
+use macro_table::{Defined, MacroTable};
 use std::alloc::{AllocError, Global};
 use tok_data::{OutToken, TokId};
 
@@ -18,12 +18,34 @@ pub struct Case {
     lines_known: bool,
 }
 
+fn push_line(out: &mut Vec<(TokId, u32)>, token: &OutToken) -> Result<(), AllocError> {
+    let site = token.site.copy()?;
+    out.push((site, 1))?;
+    Ok(())
+}
+
 fn lines_of(alloc: Global, tokens: &[OutToken]) -> Result<Vec<(TokId, u32)>, AllocError> {
     let mut out = Vec::new(alloc);
     for token in tokens {
-        out.push((token.site.copy()?, 1))?;
+        push_line(&mut out, token)?;
     }
     Ok(out)
+}
+
+/// What defining the macro of a line answers; none where the line has no name.
+pub fn defines(
+    alloc: Global,
+    table: &mut MacroTable,
+    file: &str,
+    line: &str,
+) -> Result<Option<Defined>, AllocError> {
+    match definition(alloc, file, line)? {
+        Some(def) => {
+            let answer = table.define(def)?;
+            Ok(Some(answer))
+        }
+        None => Ok(None),
+    }
 }
 
 impl Case {
@@ -45,30 +67,53 @@ impl Case {
         self.room = Some(room.parse::<usize>().unwrap_or(0));
     }
 
-    /// A `#define` line.
-    pub fn define(&mut self, alloc: Global, line: &str) -> Result<(), AllocError> {
+    /// A `#define` line, and what it answers.
+    pub fn define(&mut self, alloc: Global, line: &str) -> Result<Option<Defined>, AllocError> {
         let number = self.defined;
+        self.defined = number.saturating_add(1);
         let file = format!(in alloc; "/m{number}.h")?;
-        if let Some(def) = definition(alloc, file.as_str(), line)? {
-            self.table.define(def)?;
+        defines(alloc, &mut self.table, file.as_str(), line)
+    }
+
+    /// The same, with the answer shown.
+    pub fn answer(&mut self, alloc: Global, line: &str) -> Result<String, AllocError> {
+        let answer = self.define(alloc, line)?;
+        shown_answer(alloc, &answer)
+    }
+
+    /// Removes a name's definition, and says whether it had one.
+    pub fn undef(&mut self, name: &str) -> &'static str {
+        if self.table.undef(name) {
+            "removed\n"
+        } else {
+            "no macro\n"
         }
-        self.defined = self.defined.saturating_add(1);
-        Ok(())
+    }
+
+    /// A name's definition.
+    pub fn look(&self, alloc: Global, name: &str) -> Result<String, AllocError> {
+        match self.table.get(name) {
+            Some(def) => shown_def(alloc, def),
+            None => String::from_str(alloc, "no macro\n"),
+        }
     }
 
     /// What the text expands to.
     pub fn expansion(&self, alloc: Global, text: &str) -> Result<String, AllocError> {
         let tokens = tokens_of(alloc, "/t.c", text)?;
-        let lines = if self.lines_known {
-            lines_of(alloc, tokens.as_slice())?
-        } else {
-            Vec::new(alloc)
-        };
-        let within = self.within(alloc, tokens.as_slice(), lines.as_slice())?;
+        let within = self.within(alloc, tokens.as_slice())?;
         shown(alloc, &within)
     }
 
-    fn within(
+    fn within(&self, alloc: Global, tokens: &[OutToken]) -> Result<Within, AllocError> {
+        if !self.lines_known {
+            return self.on_lines(alloc, tokens, &[]);
+        }
+        let lines = lines_of(alloc, tokens)?;
+        self.on_lines(alloc, tokens, lines.as_slice())
+    }
+
+    fn on_lines(
         &self,
         alloc: Global,
         tokens: &[OutToken],
