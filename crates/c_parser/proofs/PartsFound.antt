@@ -89,17 +89,17 @@ pub declaration_found : (w : Words) → (a : ℕ) → (d : Heading) → (b : ℕ
 declaration_found w a d b f h =
     record { reads = (h, f.reads); forth = head_forth w d a b f.reads; inside = f.inside }
 
-pub declaration_same : (w v : Words) → v ≡ w → (a : ℕ) → (d : Heading) → (b : ℕ) → OnlyHead v a d b → (u : Heading) → (c : ℕ) → HoldsDeclaration w u a c
+pub declaration_same : (w : Words) → (a : ℕ) → (d : Heading) → (b : ℕ) → OnlyHead w a d b → (u : Heading) → (c : ℕ) → HoldsDeclaration w u a c
     → (d ≡ u) × (b ≡ c)
-declaration_same w v e a d b only u c h = only u c (subst (λ x. HoldsHead x u a c) (sym e) h.1)
+declaration_same w a d b only u c h = only u c h.1
 
-pub declaration_missing : (w v : Words) → v ≡ w → (a : ℕ) → (e : Stop) → FailsHead v a e → (u : Heading) → (c : ℕ) → HoldsDeclaration w u a c → IsWant e
-declaration_missing w v q a e f u c h = f u c (subst (λ x. HoldsHead x u a c) (sym q) h.1)
+pub declaration_missing : (w : Words) → (a : ℕ) → (e : Stop) → FailsHead w a e → (u : Heading) → (c : ℕ) → HoldsDeclaration w u a c → IsWant e
+declaration_missing w a e f u c h = f u c h.1
 
-pub defined_instead : (w v : Words) → v ≡ w → (a : ℕ) → (d : Heading) → (b : ℕ) → OnlyHead v a d b → is_declaration d ≡ false → (u : Heading) → (c : ℕ)
+pub defined_instead : (w : Words) → (a : ℕ) → (d : Heading) → (b : ℕ) → OnlyHead w a d b → is_declaration d ≡ false → (u : Heading) → (c : ℕ)
     → HoldsDeclaration w u a c → ⊥
-defined_instead w v e a d b only f u c h =
-    true≢false (sym h.0 ∙ ap is_declaration (sym (declaration_same w v e a d b only u c h).0) ∙ f)
+defined_instead w a d b only f u c h =
+    true≢false (sym h.0 ∙ ap is_declaration (sym (declaration_same w a d b only u c h).0) ∙ f)
 
 abbrev pub OnlyAt : List Kind → ℕ → ℕ → Tree → ℕ → Type 0
 OnlyAt ks n a t b = (u : Tree) → (c : ℕ) → Reads ks n u a c → Stops ks n c → (t ≡ u) × (b ≡ c)

@@ -46,26 +46,23 @@ fn is_declaration(head: &Head) -> bool
     }
 }
 
-/// The declaration that stands here, with its `;`, and the identifiers in force behind it (6.7).
+/// The declaration that stands here, with its `;`, and the identifiers in force behind it (6.7). It takes the scope, so that a name is declared
+/// at a constant cost where no one else shares it; else the flags of all tokens are copied once.
 ///
 /// Errors: Syntax exactly where none stands here; NoMemory.
 pub fn declaration_at<'a>(
     alloc: Global,
-    scope: &Scope<'a>,
+    scope: Scope<'a>,
     at: u32,
 ) -> Result<(Head, Scope<'a>, u32), Stop>
-    requires size { length scope.now.kinds ≤ 2000000 }
-    requires inside { at ≤ length scope.now.kinds }
-    ensures found { IfOk result (λ r. FoundDeclaration scope.now at (heading_of r.0) r.2) }
-    ensures past { IfOk result (λ r. r.1 ≡ past_declaration scope.now (heading_of r.0)) }
-    ensures only { (d : Heading) → (end : ℕ) → HoldsDeclaration scope.now d at end
+    requires size { length scope.kinds ≤ 2000000 }
+    requires inside { at ≤ length scope.kinds }
+    ensures found { IfOk result (λ r. FoundDeclaration scope.entry at (heading_of r.0) r.2) }
+    ensures past { IfOk result (λ r. r.1 ≡ past_declaration scope.entry (heading_of r.0)) }
+    ensures only { (d : Heading) → (end : ℕ) → HoldsDeclaration scope.entry d at end
         → MustGive result (λ r. (heading_of r.0 ≡ d) × (r.2 ≡ end)) }
 {
-    let shared = match scope.share() {
-        Ok(shared) => shared,
-        Err(_) => return Err(Stop::NoMemory),
-    };
-    let (head, behind, end) = match head(alloc, shared, at) {
+    let (head, behind, end) = match head(alloc, scope, at) {
         Ok(found) => found,
         Err(stop) => return Err(stop),
     };
