@@ -1,9 +1,10 @@
 -- The code's view of the kinds of tokens is what the grammar has where names are hidden.
-use Rattle.std.proofs.Common.{◌≡◌, refl, ap, ◌∙◌, ℕ, zero, suc, ◌<◌, List, [], ◌∷◌, ◌++◌, length, map, Bool, true, false, ◌||◌, ◌==◌, if◌then◌else◌, slice_index_or}
+use Rattle.std.proofs.Common.{◌≡◌, refl, ap, sym, ◌∙◌, ℕ, zero, suc, ◌<◌, List, [], ◌∷◌, ◌++◌, length, map, Bool, true, false, ◌||◌, ◌==◌, if◌then◌else◌, slice_index_or, slice_set, nat_lt}
 use Rattle.c_parser.specs.declared.kinds.Kind.{Kind}
 use Rattle.c_parser.specs.declared.kinds.Kind.TheVariants.{Identifier, TypeName, End}
 use Rattle.c_parser.specs.Kinds.{kind_at, IsInside, hidden_one, hide_word}
 use Rattle.c_parser.specs.Scopes.{shade}
+use Rattle.c_parser.specs.Words.{flagged}
 
 bare_one : (k : Kind) → shade [] k ≡ k
 bare_one (TypeName n) = refl
@@ -58,3 +59,17 @@ flag_behind [] zero = refl
 flag_behind [] (suc n) = refl
 flag_behind (b ∷ flags) zero = refl
 flag_behind (b ∷ flags) (suc n) = flag_behind flags n
+
+-- a flag that is as told
+set_same : (flags : List Bool) → (n : ℕ) → (b : Bool) → slice_index_or flags n b ≡ b → slice_set flags n b ≡ flags
+set_same [] n b h = refl
+set_same (x ∷ flags) zero b h = ap (λ y. y ∷ flags) (sym h)
+set_same (x ∷ flags) (suc n) b h = ap (λ ys. x ∷ ys) (set_same flags n b h)
+
+either_way : (flags : List Bool) → (t : Bool) → (n : ℕ) → (b : Bool) → slice_index_or flags n b ≡ b → (if t then slice_set flags n b else flags) ≡ flags
+either_way flags true n b h = set_same flags n b h
+either_way flags false n b h = refl
+
+pub told_already : (flags : List Bool) → (n : ℕ) → (b : Bool) → slice_index_or flags n b ≡ b → flags ≡ flagged flags n b
+unfolding flagged
+told_already flags n b h = sym (either_way flags (nat_lt n (length flags)) n b h)

@@ -46,8 +46,8 @@ fn is_declaration(head: &Head) -> bool
     }
 }
 
-/// The declaration that stands here, with its `;`, and the identifiers in force behind it (6.7). It takes the scope, so that a name is declared
-/// at a constant cost where no one else shares it; else the flags of all tokens are copied once.
+/// The declaration that stands here, with its `;`, and the identifiers in force behind it (6.7). It takes the scope: a name whose flag
+/// turns, as a typedef's does, takes a constant where no one else shares the flags, and a copy of them once where someone does.
 ///
 /// Errors: Syntax exactly where none stands here; NoMemory.
 pub fn declaration_at<'a>(

@@ -1,6 +1,6 @@
 // What each token is where the parser stands: under the typedef names in force (ISO C11 6.2.1). A list of parameters has a view of its
 // own, in which the names that it hides are identifiers, and shares with others what it doesn't change.
-ghost use Rattle.std.specs.Prelude.{◌≡◌, not, [], ℕ, ◌<◌, ◌==◌, ◌||◌, false, length, IfOk, OnOk, slice_index_or};
+ghost use Rattle.std.specs.Prelude.{◌≡◌, not, [], ℕ, ◌<◌, ◌==◌, ◌||◌, false, length, IfOk, IsTrue, OnOk, slice_index_or};
 ghost use Rattle.c_parser.specs.Kinds as spec;
 ghost use Rattle.c_parser.specs.Scopes.{shade};
 ghost use Rattle.c_parser.specs.Words as words;
@@ -195,7 +195,17 @@ fn flagged(flags: Vec<bool>, number: u32, flag: bool) -> Vec<bool>
     flags
 }
 
-// The same of flags that may be shared.
+// Whether this flag is as told, or there is none: nothing changes then.
+fn is_told(hidden: &Rc<Vec<bool>>, number: u32, flag: bool) -> bool
+    ensures { IsTrue result → slice_index_or hidden.now.value.items number flag ≡ flag }
+{
+    match hidden.get(number as usize) {
+        Some(known) => *known == flag,
+        None => true,
+    }
+}
+
+// The same of flags that may be shared: these are copied where the flag turns.
 fn told(
     alloc: Global,
     hidden: Rc<Vec<bool>>,
@@ -204,6 +214,9 @@ fn told(
 ) -> Result<Rc<Vec<bool>>, AllocError>
     ensures { IfOk result (λ h. h.value.items ≡ words.flagged hidden.value.items number flag) }
 {
+    if is_told(&hidden, number, flag) {
+        return Ok(hidden);
+    }
     let flags = own(alloc, hidden)?;
     let hidden = Rc::new(alloc, flagged(flags, number, flag))?;
     Ok(hidden)
