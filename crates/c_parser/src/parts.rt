@@ -17,7 +17,7 @@ use tree_data::{Expr, Head};
 
 /// The expression of the nonterminal n that stands here: 1 for expression, 3 for constant-expression (6.5.17, 6.6). It goes on as far as it may.
 ///
-/// Errors: Syntax exactly where none stands here, with the token at which the parser stopped; NoMemory.
+/// Errors: Syntax exactly where none that goes on as far as it may stands here, with the token at which the parser stopped; NoMemory.
 pub fn expression_at(alloc: Global, scope: &Scope<'_>, n: u8, at: u32) -> Result<(Expr, u32), Stop>
     requires size { length scope.now.kinds ≤ 2000000 }
     requires inside { at ≤ length scope.now.kinds }
@@ -72,8 +72,8 @@ pub fn declaration_at<'a>(
     Ok((head, behind, end))
 }
 
-/// What expressions and declarations give to whatever has them as parts: no two stand from one place on, what they begin with, and that they tell
-/// no typedef name from another identifier. It has nothing to run; its contract is the law.
+/// What expressions and declarations give to whatever has them as parts: no two expressions that go on as far as they may, and no two declarations,
+/// stand from one place on; what they begin with; and what stands behind them differs in typedef names alone. It has nothing to run; its contract is the law.
 pub fn parts_law()
     ensures { PartsLaw }
 {}
