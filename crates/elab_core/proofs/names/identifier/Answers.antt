@@ -1,0 +1,20 @@
+use Rattle.std.proofs.Common.{rules, ◌≡◌, ◌∷◌, [], sym, ap, ◌∙◌, Some, None}
+use Rattle.asking.specs.Asking.{Gives, and_then}
+use Rattle.asking.specs.LookUps.{Ends, run_by}
+use Rattle.elab_state.specs.Looks.{Anonymous, At, Deep, look, told}
+use Rattle.elab_state.specs.Seen.{context_of, told_of}
+use Rattle.elab_state.specs.Wants.{answered}
+use Rattle.elab_state.proofs.Runs.{comes_on, leads_on, run_then, stops_as, stops_on}
+use Rattle.type_data.specs.declared.members.Space.TheVariants as space
+use Rattle.elab_state.specs.Tokens.{spelling}
+use Rattle.elab_state.specs.Names.{denoted}
+use Rattle.elab_core.specs.Names.{used_row}
+use Rattle.elab_core.proofs.names.identifier.Goals as goal
+
+pub returns-in-Err : goal.returns-in-Err
+returns-in-Err c = stops_on (answered (told_of c.args.around.now)) (denoted (context_of c.args.around.now) space.Ordinary (spelling c.args.around.now.tokens.now c.args.at) c.args.made.now) (λ r. used_row (context_of c.args.around.now) c.args.counted c.args.at r.0 r.1) c.in-Err.halt c.in-Err.ensures
+
+pub returns : goal.returns
+returns c =
+    let first : run_by (answered (told_of c.args.around.now)) (denoted (context_of c.args.around.now) space.Ordinary (spelling c.args.around.now.tokens.now c.args.at) c.args.made.now) ≡ Ends (c.in-Ok.entity, c.args.made.now) = search rules in
+    comes_on (told_of c.args.around.now) (denoted (context_of c.args.around.now) space.Ordinary (spelling c.args.around.now.tokens.now c.args.at) c.args.made.now) (λ r. used_row (context_of c.args.around.now) c.args.counted c.args.at r.0 r.1) (λ j. j) (c.in-Ok.entity, c.args.made.now) c.used_row.result c.used_row.new.made first c.used_row.ensures

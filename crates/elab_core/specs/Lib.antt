@@ -1,0 +1,17 @@
+pub mod Accesses
+pub mod Braced
+pub mod Casts
+pub mod Constants
+pub mod Flexible
+pub mod Kinds
+pub mod Members
+pub mod Names
+pub mod Operators
+pub mod Parameters
+pub mod Qualified
+pub mod Rows
+pub mod Specifiers
+pub mod Steps
+pub mod Tags
+pub mod Tests
+pub mod Ties

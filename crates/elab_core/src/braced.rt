@@ -1,0 +1,169 @@
+// The initializer of a compound literal (ISO C11 6.5.2.5, 6.7.9), piece by piece.
+ghost use Rattle.std.specs.Prelude.{◌≡◌, IfOk, OnOk};
+ghost use Rattle.elab_core.specs.Braced as spec;
+ghost use Rattle.elab_core.specs.Constants;
+
+use crate::constants::needed;
+use crate::shapes::{Filling, Typed};
+use elab_state::Made;
+use expr_rules::Form;
+use init_rules::{InitPiece, InitState, Stack, completed, init_step};
+use scope_tables::ScopeKind;
+use std::alloc::{AllocError, Global};
+use type_data::{CType, CheckError, Judged, Node, Value};
+use type_rel::is_bad;
+
+fn is_file(kind: ScopeKind) -> bool
+    ensures { result ≡ spec.is_file kind }
+{
+    match kind {
+        ScopeKind::File => true,
+        ScopeKind::Function => false,
+        ScopeKind::Block => false,
+        ScopeKind::Prototype => false,
+    }
+}
+
+/// The initializer of a compound literal of this type in a scope of this kind, before its first piece.
+pub fn empty(alloc: Global, kind: ScopeKind, typed: &Typed) -> Result<Filling, AllocError>
+    ensures { IfOk result (λ f. f ≡ spec.empty kind typed.now) }
+{
+    let ty = typed.ty.share()?;
+    let faulty = is_bad(&ty);
+    Ok(Filling {
+        state: InitState {
+            ty,
+            open_places: Stack::new(alloc),
+            at: 0,
+            constant: is_file(kind),
+            designating: false,
+            reached: 0,
+        },
+        faulty,
+    })
+}
+
+/// Reads a piece, whose fault stands on the token `at` and is noted.
+pub fn fill(
+    alloc: Global,
+    made: &mut Made,
+    filling: &mut Filling,
+    at: u32,
+    piece: &InitPiece,
+) -> Result<(), AllocError>
+    ensures { OnOk result ((filling.new, made.new) ≡ spec.filled at piece.now filling.old made.old) }
+{
+    filling.state.at = at;
+    match init_step(alloc, &mut filling.state, piece, &made.tags) {
+        Ok(()) => Ok(()),
+        Err(CheckError::Broken(fault)) => {
+            made.faults.push(fault)?;
+            filling.faulty = true;
+            Ok(())
+        }
+        Err(CheckError::NoMemory) => Err(AllocError),
+    }
+}
+
+fn doubt(filling: &mut Filling, bad: bool)
+    ensures { filling.new ≡ spec.with_doubt bad filling.old }
+{
+    if bad {
+        filling.faulty = true;
+    }
+}
+
+fn item(text: bool, judged: Judged) -> InitPiece
+    ensures { result ≡ spec.item text judged }
+{
+    if text {
+        return InitPiece::Text(judged);
+    }
+    InitPiece::Item(judged)
+}
+
+/// Reads an expression whose first token is `at`; `text` says that it is a string literal.
+pub fn express(
+    alloc: Global,
+    made: &mut Made,
+    filling: &mut Filling,
+    at: u32,
+    text: bool,
+    judged: Judged,
+) -> Result<(), AllocError>
+    ensures { OnOk result ((filling.new, made.new) ≡ spec.expressed at text judged filling.old made.old) }
+{
+    doubt(filling, is_bad(&judged.ty));
+    let piece = item(text, judged);
+    fill(alloc, made, filling, at, &piece)?;
+    Ok(())
+}
+
+fn index_piece(value: Option<Value>) -> InitPiece
+    ensures { result ≡ spec.index_piece (Constants.as_needed value) }
+{
+    match value {
+        Some(value) => InitPiece::Index(value),
+        None => InitPiece::Index(Value::Faulty(0)),
+    }
+}
+
+fn lacks(value: Option<Value>) -> bool
+    ensures { result ≡ spec.lacks (Constants.as_needed value) }
+{
+    match value {
+        Some(_) => false,
+        None => true,
+    }
+}
+
+fn designate_by(
+    alloc: Global,
+    made: &mut Made,
+    filling: &mut Filling,
+    opening: u32,
+    value: Option<Value>,
+) -> Result<(), AllocError>
+    ensures { OnOk result ((filling.new, made.new) ≡ spec.designated_by opening (Constants.as_needed value) filling.old made.old) }
+{
+    doubt(filling, lacks(value));
+    let piece = index_piece(value);
+    fill(alloc, made, filling, opening, &piece)
+}
+
+/// Reads a designator in brackets, whose `[` is the token `opening` and whose expression begins with the token `begins`.
+pub fn designate(
+    alloc: Global,
+    made: &mut Made,
+    filling: &mut Filling,
+    opening: u32,
+    begins: u32,
+    index: &Judged,
+) -> Result<(), AllocError>
+    ensures { OnOk result ((filling.new, made.new) ≡ spec.designated opening begins index.now filling.old made.old) }
+{
+    let value = needed(alloc, made, begins, index)?;
+    designate_by(alloc, made, filling, opening, value)
+}
+
+fn whole_type(alloc: Global, filling: &Filling) -> Result<CType, AllocError>
+    ensures { IfOk result (λ t. t ≡ spec.whole_type filling.now) }
+{
+    if filling.faulty {
+        return Ok(CType::of(Node::Bad));
+    }
+    completed(alloc, &filling.state)
+}
+
+/// The construct that a compound literal of this type is, in a scope of this kind, behind the last piece of its initializer.
+pub fn whole(
+    alloc: Global,
+    kind: ScopeKind,
+    typed: &Typed,
+    filling: &Filling,
+) -> Result<Form, AllocError>
+    ensures { IfOk result (λ f. f ≡ spec.whole kind typed.now filling.now) }
+{
+    let ty = whole_type(alloc, filling)?;
+    Ok(Form::Compound(ty, typed.qual, kind))
+}
