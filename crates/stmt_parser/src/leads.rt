@@ -106,18 +106,18 @@ pub(crate) fn while_test(alloc: Global, scope: &Scope<'_>, at: u32) -> Result<(L
 // `for (` with a declaration behind it, and the identifiers in force inside.
 fn for_declaring<'a>(
     alloc: Global,
-    scope: &Scope<'a>,
+    scope: Scope<'a>,
     at: u32,
 ) -> Result<(Lead, Scope<'a>, u32), Stop>
     requires law { PartsLaw }
-    requires size { length scope.now.kinds ≤ 2000000 }
-    requires inside { at + 1 < length scope.now.kinds }
-    requires kind { kind_in scope.now at ≡ kind.For }
-    requires opening { kind_in scope.now (at + 1) ≡ kind.OpenParen }
-    requires declares { starts_declaration (kind_in scope.now (at + 2)) ≡ true }
-    ensures found { IfOk result (λ r. FoundLead scope.now at (lead_of r.0) r.2) }
-    ensures past { IfOk result (λ r. r.1 ≡ force.inside scope.now (lead_of r.0)) }
-    ensures fails { IfErr result (FailsStatement scope.now at) }
+    requires size { length scope.kinds ≤ 2000000 }
+    requires inside { at + 1 < length scope.kinds }
+    requires kind { kind_in scope at ≡ kind.For }
+    requires opening { kind_in scope (at + 1) ≡ kind.OpenParen }
+    requires declares { starts_declaration (kind_in scope (at + 2)) ≡ true }
+    ensures found { IfOk result (λ r. FoundLead scope.entry at (lead_of r.0) r.2) }
+    ensures past { IfOk result (λ r. r.1 ≡ force.inside scope.entry (lead_of r.0)) }
+    ensures fails { IfErr result (FailsStatement scope.entry at) }
 {
     let (first, behind, place) = match declaration_at(alloc, scope, at + 2) {
         Ok(found) => found,
@@ -165,16 +165,16 @@ fn for_loop(alloc: Global, scope: &Scope<'_>, at: u32) -> Result<(Lead, u32), St
 // `for ( .. )`, and the identifiers in force inside.
 pub(crate) fn for_lead<'a>(
     alloc: Global,
-    scope: &Scope<'a>,
+    scope: Scope<'a>,
     at: u32,
 ) -> Result<(Lead, Scope<'a>, u32), Stop>
     requires law { PartsLaw }
-    requires size { length scope.now.kinds ≤ 2000000 }
-    requires inside { at < length scope.now.kinds }
-    requires kind { kind_in scope.now at ≡ kind.For }
-    ensures found { IfOk result (λ r. FoundLead scope.now at (lead_of r.0) r.2) }
-    ensures past { IfOk result (λ r. r.1 ≡ force.inside scope.now (lead_of r.0)) }
-    ensures fails { IfErr result (FailsStatement scope.now at) }
+    requires size { length scope.kinds ≤ 2000000 }
+    requires inside { at < length scope.kinds }
+    requires kind { kind_in scope at ≡ kind.For }
+    ensures found { IfOk result (λ r. FoundLead scope.entry at (lead_of r.0) r.2) }
+    ensures past { IfOk result (λ r. r.1 ≡ force.inside scope.entry (lead_of r.0)) }
+    ensures fails { IfErr result (FailsStatement scope.entry at) }
 {
     let Kind::OpenParen = scope.kind_at(at + 1) else {
         return Err(Stop::Syntax(at + 1));
@@ -182,12 +182,8 @@ pub(crate) fn for_lead<'a>(
     if scope.kind_at(at + 2).starts_declaration() {
         return for_declaring(alloc, scope, at);
     }
-    let (lead, end) = match for_loop(alloc, scope, at) {
-        Ok(found) => found,
-        Err(stop) => return Err(stop),
-    };
-    match scope.share() {
-        Ok(inside) => Ok((lead, inside, end)),
-        Err(_) => Err(Stop::NoMemory),
+    match for_loop(alloc, &scope, at) {
+        Ok((lead, end)) => Ok((lead, scope, end)),
+        Err(stop) => Err(stop),
     }
 }

@@ -125,7 +125,7 @@ fn for_step<'a>(alloc: Global, scope: Scope<'a>, at: u32) -> Result<(Step, Scope
     ensures past { IfOk result (λ r. r.1 ≡ behind_step scope.entry r.0) }
     ensures fails { IfErr result (FailsStatement scope.entry at) }
 {
-    match for_lead(alloc, &scope, at) {
+    match for_lead(alloc, scope, at) {
         Ok((lead, inside, end)) => Ok((Step::Led(lead), inside, end)),
         Err(stop) => Err(stop),
     }
@@ -214,7 +214,7 @@ fn item<'a>(alloc: Global, scope: Scope<'a>, at: u32) -> Result<(Item, Scope<'a>
     ensures fails { IfErr result (FailsItem scope.entry at) }
 {
     if declares_at(&scope, at) {
-        let (head, behind, end) = match declaration_at(alloc, &scope, at) {
+        let (head, behind, end) = match declaration_at(alloc, scope, at) {
             Ok(found) => found,
             Err(stop) => return Err(stop),
         };

@@ -22,10 +22,10 @@ returns-in-Err-tail c = record {
 
 pub returns-in-Ok-for_declaring : goal.returns-in-Ok-for_declaring
 returns-in-Ok-for_declaring c = record {
-  found = subst (λ l. FoundLead c.args.scope.now c.args.at l (c.in-Ok-tail.found.3 + 1)) (sym c.in-Ok-for_declaring.ensures) (declaring_found c.requires.law _ _ c.requires.kind c.requires.opening _ _ c.in-Ok.ensures.found _ c.in-Ok.ensures.past _ _ _ _ c.in-Ok-tail.ensures.found);
+  found = subst (λ l. FoundLead c.args.scope c.args.at l (c.in-Ok-tail.found.3 + 1)) (sym c.in-Ok-for_declaring.ensures) (declaring_found c.requires.law _ _ c.requires.kind c.requires.opening _ _ c.in-Ok.ensures.found _ c.in-Ok.ensures.past _ _ _ _ c.in-Ok-tail.ensures.found);
   past =
       declaring_past
-      c.args.scope.now
+      c.args.scope
       _
       (heading_of c.in-Ok.found.0)
       c.in-Ok.ensures.past
@@ -35,6 +35,6 @@ returns-in-Ok-for_declaring c = record {
       c.in-Ok-tail.found.1
       (option_map tree_of c.in-Ok-tail.found.2)
       c.in-Ok-tail.found.3
-      ∙ sym (ap (inside c.args.scope.now) c.in-Ok-for_declaring.ensures);
+      ∙ sym (ap (inside c.args.scope) c.in-Ok-for_declaring.ensures);
   fails = tt;
 }
