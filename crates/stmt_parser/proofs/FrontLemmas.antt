@@ -37,31 +37,32 @@ unmarked Break n0 n1 n2 n3 n4 n5 n6 n7 n8 n9 n10 n11 = absurd (n10 refl)
 unmarked Return n0 n1 n2 n3 n4 n5 n6 n7 n8 n9 n10 n11 = absurd (n11 refl)
 unmarked _ n0 n1 n2 n3 n4 n5 n6 n7 n8 n9 n10 n11 = refl
 
--- a front of what has no statement behind it
-pub core_front : (f : Front) → (f ≡ front.If → ⊥) → (f ≡ front.For → ⊥) → (f ≡ front.Label → ⊥) → (f ≡ front.Case → ⊥) → (f ≡ front.Default → ⊥) → (f ≡ front.Switch → ⊥) → (f ≡ front.While → ⊥) → IsCore f
-core_front front.If n0 n1 n2 n3 n4 n5 n6 = absurd (n0 refl)
-core_front front.For n0 n1 n2 n3 n4 n5 n6 = absurd (n1 refl)
-core_front front.Label n0 n1 n2 n3 n4 n5 n6 = absurd (n2 refl)
-core_front front.Case n0 n1 n2 n3 n4 n5 n6 = absurd (n3 refl)
-core_front front.Default n0 n1 n2 n3 n4 n5 n6 = absurd (n4 refl)
-core_front front.Switch n0 n1 n2 n3 n4 n5 n6 = absurd (n5 refl)
-core_front front.While n0 n1 n2 n3 n4 n5 n6 = absurd (n6 refl)
-core_front _ n0 n1 n2 n3 n4 n5 n6 = tt
+-- a front of what no statement outside of braces stands in
+pub core_front : (f : Front) → (f ≡ front.If → ⊥) → (f ≡ front.Do → ⊥) → (f ≡ front.For → ⊥) → (f ≡ front.Label → ⊥) → (f ≡ front.Case → ⊥) → (f ≡ front.Default → ⊥) → (f ≡ front.Switch → ⊥) → (f ≡ front.While → ⊥) → IsCore f
+core_front front.If n0 n1 n2 n3 n4 n5 n6 n7 = absurd (n0 refl)
+core_front front.Do n0 n1 n2 n3 n4 n5 n6 n7 = absurd (n1 refl)
+core_front front.For n0 n1 n2 n3 n4 n5 n6 n7 = absurd (n2 refl)
+core_front front.Label n0 n1 n2 n3 n4 n5 n6 n7 = absurd (n3 refl)
+core_front front.Case n0 n1 n2 n3 n4 n5 n6 n7 = absurd (n4 refl)
+core_front front.Default n0 n1 n2 n3 n4 n5 n6 n7 = absurd (n5 refl)
+core_front front.Switch n0 n1 n2 n3 n4 n5 n6 n7 = absurd (n6 refl)
+core_front front.While n0 n1 n2 n3 n4 n5 n6 n7 = absurd (n7 refl)
+core_front _ n0 n1 n2 n3 n4 n5 n6 n7 = tt
 
 -- and of an expression statement
-pub plain_front : (w : Words) → (a : ℕ) → (f : Front) → IsFront w a f → IsCore f → (f ≡ front.Do → ⊥) → (f ≡ front.Block → ⊥) → (f ≡ front.Goto → ⊥) → (f ≡ front.Continue → ⊥) → (f ≡ front.Break → ⊥) → (f ≡ front.Return → ⊥)
+pub plain_front : (w : Words) → (a : ℕ) → (f : Front) → IsFront w a f → IsCore f → (f ≡ front.Block → ⊥) → (f ≡ front.Goto → ⊥) → (f ≡ front.Continue → ⊥) → (f ≡ front.Break → ⊥) → (f ≡ front.Return → ⊥)
     → (labels_at w a ≡ false) × (is_marked (kind_in w a) ≡ false)
-plain_front w a front.Do h c n0 n1 n2 n3 n4 n5 = absurd (n0 refl)
-plain_front w a front.Block h c n0 n1 n2 n3 n4 n5 = absurd (n1 refl)
-plain_front w a front.Goto h c n0 n1 n2 n3 n4 n5 = absurd (n2 refl)
-plain_front w a front.Continue h c n0 n1 n2 n3 n4 n5 = absurd (n3 refl)
-plain_front w a front.Break h c n0 n1 n2 n3 n4 n5 = absurd (n4 refl)
-plain_front w a front.Return h c n0 n1 n2 n3 n4 n5 = absurd (n5 refl)
-plain_front w a front.If h c n0 n1 n2 n3 n4 n5 = absurd c
-plain_front w a front.For h c n0 n1 n2 n3 n4 n5 = absurd c
-plain_front w a front.Label h c n0 n1 n2 n3 n4 n5 = absurd c
-plain_front w a front.Case h c n0 n1 n2 n3 n4 n5 = absurd c
-plain_front w a front.Default h c n0 n1 n2 n3 n4 n5 = absurd c
-plain_front w a front.Switch h c n0 n1 n2 n3 n4 n5 = absurd c
-plain_front w a front.While h c n0 n1 n2 n3 n4 n5 = absurd c
-plain_front w a front.Plain h c n0 n1 n2 n3 n4 n5 = h
+plain_front w a front.Block h c n0 n1 n2 n3 n4 = absurd (n0 refl)
+plain_front w a front.Goto h c n0 n1 n2 n3 n4 = absurd (n1 refl)
+plain_front w a front.Continue h c n0 n1 n2 n3 n4 = absurd (n2 refl)
+plain_front w a front.Break h c n0 n1 n2 n3 n4 = absurd (n3 refl)
+plain_front w a front.Return h c n0 n1 n2 n3 n4 = absurd (n4 refl)
+plain_front w a front.If h c n0 n1 n2 n3 n4 = absurd c
+plain_front w a front.Do h c n0 n1 n2 n3 n4 = absurd c
+plain_front w a front.For h c n0 n1 n2 n3 n4 = absurd c
+plain_front w a front.Label h c n0 n1 n2 n3 n4 = absurd c
+plain_front w a front.Case h c n0 n1 n2 n3 n4 = absurd c
+plain_front w a front.Default h c n0 n1 n2 n3 n4 = absurd c
+plain_front w a front.Switch h c n0 n1 n2 n3 n4 = absurd c
+plain_front w a front.While h c n0 n1 n2 n3 n4 = absurd c
+plain_front w a front.Plain h c n0 n1 n2 n3 n4 = h

@@ -1,6 +1,7 @@
 mod Balances
 mod CoresRead
 mod Cuts
+mod FramesRead
 mod FrontLemmas
 mod HeadBalances
 mod InForceLemmas
@@ -8,6 +9,7 @@ mod LeadsRead
 mod Marks
 mod OneReading
 mod PartBalances
+mod PartsOnly
 mod PartsRead
 mod StatementsRead
 mod Views

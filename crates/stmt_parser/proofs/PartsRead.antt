@@ -12,7 +12,7 @@ use Rattle.stmt_parser.specs.InForce.{past_optional}
 use Rattle.stmt_parser.specs.Reading.{HoldsOptional, HoldsTest, ends_expression}
 use Rattle.stmt_parser.proofs.InForceLemmas.{ends_blind}
 use Rattle.stmt_parser.proofs.Marks.{stops_before, ended}
-use Rattle.stmt_parser.proofs.OneReading.{optional_only}
+use Rattle.stmt_parser.proofs.PartsOnly.{optional_only}
 
 -- an expression hides nothing
 pub past_same : (w : Words) → (x : Option Tree) → past_optional w x ≡ w

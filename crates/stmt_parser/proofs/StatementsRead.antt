@@ -9,6 +9,7 @@ use Rattle.c_parser.specs.Parts.{PartsLaw, FoundDeclaration, HoldsDeclaration, s
 use Rattle.c_parser.specs.Reading.{IsWant}
 use Rattle.c_parser.specs.Words.{Words, kind_in}
 use Rattle.stmt_parser.specs.Found.{FoundTest, FoundLead, FoundStatement, FailsStatement, FoundItem, FailsItem}
+use Rattle.stmt_parser.specs.Frames.{Further, Leading}
 use Rattle.stmt_parser.specs.Fronts.{labels_at, declares_at}
 use Rattle.stmt_parser.specs.InForce.{past_optional, inside, all_inside, past_core, past_led, past_item, past_items}
 use Rattle.stmt_parser.specs.Reading.{HoldsTest, HoldsStatement, HoldsCore, HoldsLead, HoldLeads, HoldsItem, HoldItems, is_else, Ends}
@@ -102,20 +103,6 @@ if_else_found w a k t c f s b g q le =
     shut false e = absurd (g.ends (sym e) (ap is_else q))
 
 -- what stands in front, one after another
-pub record Further (v : Words) (place b : ℕ) : Type 0 where
-  pub rest : Statement
-  pub reads : HoldsStatement v rest place b
-  pub ends : Ends v rest b
-
-pub record Leading (w : Words) (a : ℕ) (xs : List Lead) (v : Words) (place : ℕ) : Type 0 where
-  pub inner : v ≡ all_inside w (leads xs No_leads)
-  pub holds : HoldLeads w (leads xs No_leads) a place
-  pub closed : take_no_else (leads xs No_leads) ≡ true
-  pub kinds : v.kinds ≡ w.kinds
-  pub forth : a ≤ place
-  pub within : place ≤ length w.kinds
-  pub goes : (s : Statement) → (b : ℕ) → HoldsStatement w s a b → Ends w s b → Further v place b
-
 leading_starts : (w v : Words) → v ≡ w → (a : ℕ) → a ≤ length w.kinds → Leading w a [] v a
 leading_starts w v e a le = record {
   inner = e;

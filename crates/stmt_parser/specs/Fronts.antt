@@ -2,7 +2,7 @@
 use Rattle.std.specs.Prelude.{◌≡◌, ℕ, ◌+◌, ◌&&◌, not, Bool, true, false}
 use Rattle.c_parser.specs.declared.kinds.Kind.{Kind}
 use Rattle.c_parser.specs.declared.kinds.Kind.TheVariants as kind
-use Rattle.c_parser.specs.declared.kinds.Kind.TheVariants.{Colon, OpenBrace, Else}
+use Rattle.c_parser.specs.declared.kinds.Kind.TheVariants.{Colon, OpenBrace}
 use Rattle.c_parser.specs.Kinds.{is_word}
 use Rattle.c_parser.specs.Parts.{starts_declaration}
 use Rattle.c_parser.specs.Words.{Words, kind_in}
@@ -50,7 +50,7 @@ IsFront w at Break = kind_in w at ≡ kind.Break
 IsFront w at Return = kind_in w at ≡ kind.Return
 IsFront w at Plain = (labels_at w at ≡ false) × (is_marked (kind_in w at) ≡ false)
 
--- a front of what has no statement behind it, and isn't `if`
+-- a front of what no statement outside of braces stands in
 abbrev pub IsCore : Front → Type 0
 IsCore Label = ⊥
 IsCore Case = ⊥
@@ -59,6 +59,7 @@ IsCore If = ⊥
 IsCore Switch = ⊥
 IsCore While = ⊥
 IsCore For = ⊥
+IsCore Do = ⊥
 IsCore _ = Unit {0}
 
 -- a declaration begins here, and no label

@@ -2,6 +2,7 @@ pub mod Balance
 pub mod Bodies
 pub mod Externals
 pub mod Found
+pub mod Frames
 pub mod Fronts
 pub mod InForce
 pub mod Reading

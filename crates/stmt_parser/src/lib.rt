@@ -3,11 +3,13 @@
 
 mod bodies;
 mod cores;
+mod frames;
 mod fronts;
 mod laws;
 mod leads;
 mod parts;
 mod statements;
+mod steps;
 
 pub use bodies::parse_body;
 pub use laws::{body_reading_is_unique, statements_are_balanced, units_are_cut};

@@ -1,0 +1,35 @@
+use Rattle.std.proofs.Common.{◌∙◌, refl, subst, ap}
+use Rattle.tree_data.specs.Stated.{lead_of, leads_of}
+use Rattle.stmt_parser.specs.Steps.{FoundStep, behind_step}
+use Rattle.stmt_parser.proofs.StatementsRead.{mapped}
+use Rattle.stmt_parser.proofs.FramesRead.{pending_led, pending_opened, pending_whole}
+use Rattle.stmt_parser.proofs.steps.taken.Goals as goal
+
+pub returns-in-Led-clause-goes : goal.returns-in-Led-clause-goes
+returns-in-Led-clause-goes c =
+    let stepped = c.requires.stepped in
+    pending_led c.requires.law _ _ _ _ _ _ stepped.pending _ _
+    (subst (λ s. FoundStep stepped.before c.args.place s c.args.next) c.in-Led.is stepped.found)
+    _
+    (stepped.past ∙ ap (behind_step stepped.before) c.in-Led.is)
+    _
+    (ap leads_of c.in-Ok.ensures.items ∙ mapped lead_of _ _)
+
+pub returns-in-Ok-opened-clause-goes : goal.returns-in-Ok-opened-clause-goes
+returns-in-Ok-opened-clause-goes c =
+    let stepped = c.requires.stepped in
+    pending_opened _ _ _ _ _ _ _ stepped.pending _
+    (subst (λ s. FoundStep stepped.before c.args.place s c.args.next) c.in-Opened.is stepped.found)
+    (stepped.past ∙ ap (behind_step stepped.before) c.in-Opened.is)
+    c.in-Ok-share.ensures
+    refl
+    _
+    c.in-Ok-opened.ensures
+    _
+    (ap leads_of c.new.ensures.items)
+
+pub close-requires-clause-awaited : goal.close-requires-clause-awaited
+close-requires-clause-awaited c =
+    let stepped = c.requires.stepped in
+    pending_whole c.requires.law _ _ _ _ _ _ stepped.pending _ _
+    (subst (λ s. FoundStep stepped.before c.args.place s c.args.next) c.in-Whole.is stepped.found)
