@@ -1,12 +1,14 @@
 // Expressions, names of types, heads and bodies, line by line: a line `names` with typedef names, then texts of one line each, those of
 // names behind the word `type-name`, those of heads behind `head`, those of bodies behind `body`. Behind each stands its tree as an
-// S-expression, or why there is none.
+// S-expression, or why there is none. With words behind the program's name, the first of which is `unit`, standard input is one unit, whose items
+// are parsed under the others as typedef names.
 #![tactic(auto)]
 
 mod bodies;
 mod heads;
 mod reading;
 mod shown;
+mod unit;
 
 use bodies::shown_body;
 use c_parser::{NameSet, ParseError, parse_expr, parse_head, parse_type_name};
@@ -15,11 +17,12 @@ use reading::tokens_of;
 use shared_text::Name;
 use shown::{shown, shown_name};
 use std::alloc::{AllocError, Global};
-use std::io;
 use std::io::Read;
+use std::{env, io};
 use stmt_parser::parse_body;
 use tok_data::OutToken;
 use tree_data::TypeName;
+use unit::show_unit;
 
 // More tokens are no expression.
 const MOST_TOKENS: usize = 2_000_000;
@@ -119,9 +122,28 @@ fn show(rt: &HostRuntime, names: &NameSet, line: &str) -> io::Result<()> {
     }
 }
 
+// The typedef names of a unit, where the program's words say that it reads one.
+fn words(rt: &HostRuntime) -> io::Result<Option<NameSet>> {
+    let mut words = env::args(rt)?.skip(1);
+    let Some(first) = words.next() else {
+        return Ok(None);
+    };
+    if first.as_str() != "unit" {
+        return Ok(None);
+    }
+    let mut names = Vec::new(rt.alloc());
+    for word in words {
+        names.push(Name::from_str(rt.alloc(), word.as_str())?)?;
+    }
+    Ok(Some(NameSet::from_vec(names)))
+}
+
 fn main(rt: HostRuntime) -> io::Result<()> {
     let mut text = String::new(rt.alloc());
     rt.stdin().read_to_string(&mut text)?;
+    if let Some(names) = words(&rt)? {
+        return show_unit(&rt, &names, text.as_str());
+    }
     let mut names = names_of(rt.alloc(), "")?;
     for line in text.as_str().lines() {
         match line.strip_prefix("names") {
