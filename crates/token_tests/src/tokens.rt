@@ -93,13 +93,22 @@ fn copies_are_equal(rt: HostRuntime) -> Result<(), AllocError> {
     Ok(())
 }
 
+fn enter(
+    alloc: Global,
+    lines: &mut HashMap<TokId, u32>,
+    name: &str,
+    line: u32,
+) -> Result<(), AllocError> {
+    let token = token(alloc, name, 10)?;
+    lines.insert(token, line)?;
+    Ok(())
+}
+
 // What two tokens of one number are mapped to.
 fn lines(alloc: Global) -> Result<HashMap<TokId, u32>, AllocError> {
     let mut lines: HashMap<TokId, u32> = HashMap::new(alloc);
-    let a = token(alloc, "/a.c", 10)?;
-    lines.insert(a, 2)?;
-    let b = token(alloc, "/b.c", 10)?;
-    lines.insert(b, 3)?;
+    enter(alloc, &mut lines, "/a.c", 2)?;
+    enter(alloc, &mut lines, "/b.c", 3)?;
     Ok(lines)
 }
 
