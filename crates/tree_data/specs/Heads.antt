@@ -1,15 +1,11 @@
 -- What a head of the code stands for.
 use Rattle.std.specs.Prelude.{List, Option, Some, None, map, option_map}
-use Rattle.tree_data.specs.declared.heads.Assertion.{Assertion}
 use Rattle.tree_data.specs.declared.heads.Head.{Head}
 use Rattle.tree_data.specs.declared.inits.Init.{Init}
+use Rattle.tree_data.specs.declared.members.Assertion.{Assertion}
 use Rattle.tree_data.specs.declared.types.Declarator.{Declarator}
-use Rattle.tree_data.specs.Seen.{tree_of, specs_of, declarator_of, initial_of}
-use Rattle.tree_data.specs.Trees as spec
-use Rattle.tree_data.specs.Trees.{Declaring, Initial, Heading, Declares_of, Asserts_of, Assertion_of}
-
-abbrev pub assertion_of : Assertion → spec.Assertion
-assertion_of a = Assertion_of a.keyword a.opening (tree_of a.condition) a.comma a.text.items a.closing a.end
+use Rattle.tree_data.specs.Seen.{specs_of, declarator_of, initial_of, assertion_of}
+use Rattle.tree_data.specs.Trees.{Declaring, Initial, Heading, Declares_of, Asserts_of}
 
 abbrev pub declared_one : Declarator × Option Init → Declaring × Option Initial
 declared_one d = (declarator_of d.0, option_map initial_of d.1)

@@ -77,12 +77,53 @@ mutual
     No_associations : Associations
     Association_then : ℕ → Association → Associations → Associations
 
-  -- a specifier or qualifier of a type: a keyword for itself, a typedef name, a tag behind its keyword, `_Atomic ( type-name )`
+  -- a specifier of a declaration: a keyword for itself, a typedef name, a tag behind its keyword, `_Atomic ( type-name )`, `_Alignas` with
+  -- a type or a size, `struct` or `union` with members in braces behind the tag, if there is one, and `enum` with enumerators, behind
+  -- which a comma may stand
   pub data Specifying : Type 0 where
     Word_of : ℕ → Specifying
     Typedef_of : ℕ → Specifying
     Tag_of : ℕ → ℕ → Specifying
     Atomic_of : ℕ → ℕ → Naming → ℕ → Specifying
+    Aligned_as_of : ℕ → ℕ → Naming → ℕ → Specifying
+    Aligned_of : ℕ → ℕ → Tree → ℕ → Specifying
+    Members_of : ℕ → Option ℕ → ℕ → Members → ℕ → Specifying
+    Enumerators_of : ℕ → Option ℕ → ℕ → Enumerator → Enumerators → Option ℕ → ℕ → Specifying
+
+  -- a member declaration: specifiers and `;`; specifiers, the first declarator, each other one with the comma in front of it, and `;`;
+  -- or a static assertion
+  pub data Member : Type 0 where
+    Bare_of : Specifyings → ℕ → Member
+    Fields_of : Specifyings → Field → Fields → ℕ → Member
+    Asserted_of : Assertion → Member
+
+  pub data Members : Type 0 where
+    No_members : Members
+    Member_then : Member → Members → Members
+
+  -- a member's declarator: without a width, with `:` and one, or these alone
+  pub data Field : Type 0 where
+    Declared_of : Declaring → Field
+    Bits_of : Declaring → ℕ → Tree → Field
+    Padding_of : ℕ → Tree → Field
+
+  pub data Fields : Type 0 where
+    No_fields : Fields
+    Field_then : ℕ → Field → Fields → Fields
+
+  -- an enumerator, without a value or with `=` and one
+  pub data Enumerator : Type 0 where
+    Counted_of : ℕ → Enumerator
+    Given_of : ℕ → ℕ → Tree → Enumerator
+
+  -- each with the comma in front of it
+  pub data Enumerators : Type 0 where
+    No_enumerators : Enumerators
+    Enumerator_then : ℕ → Enumerator → Enumerators → Enumerators
+
+  -- `_Static_assert ( condition , text ) ;`
+  pub data Assertion : Type 0 where
+    Assertion_of : ℕ → ℕ → Tree → ℕ → List ℕ → ℕ → ℕ → Assertion
 
   pub data Specifyings : Type 0 where
     No_specifiers : Specifyings
@@ -131,10 +172,6 @@ mutual
     Static_sized_of : ℕ → List ℕ → Tree → Bound
     Sized_static_of : List ℕ → ℕ → Tree → Bound
 
--- `_Static_assert ( condition , text ) ;`
-pub data Assertion : Type 0 where
-  Assertion_of : ℕ → ℕ → Tree → ℕ → List ℕ → ℕ → ℕ → Assertion
-
 -- an external declaration up to and with its `;`, or up to and with the `{` of its body: specifiers, and declarators with their
 -- initializers or without; or a static assertion. The tokens `,`, `=`, `;` and `{` have no number here: they stand between and behind
 -- these parts.
@@ -171,6 +208,18 @@ abbrev pub derivings : List Deriving → Derivings → Derivings
 derivings [] more = more
 derivings (d ∷ ds) more = Deriving_then d (derivings ds more)
 
+abbrev pub members : List Member → Members → Members
+members [] more = more
+members (m ∷ ms) more = Member_then m (members ms more)
+
+abbrev pub fields : List (ℕ × Field) → Fields → Fields
+fields [] more = more
+fields (f ∷ fs) more = Field_then f.0 f.1 (fields fs more)
+
+abbrev pub enumerators : List (ℕ × Enumerator) → Enumerators → Enumerators
+enumerators [] more = more
+enumerators (e ∷ es) more = Enumerator_then e.0 e.1 (enumerators es more)
+
 abbrev pub row : List (ℕ × Naming) → Row → Row
 row [] more = more
 row (p ∷ ps) more = Parameter_then p.0 p.1 (row ps more)
@@ -187,6 +236,10 @@ word_in (Word_of n) = Some n
 word_in (Typedef_of n) = None
 word_in (Tag_of k n) = None
 word_in (Atomic_of k o t c) = None
+word_in (Aligned_as_of k o t c) = None
+word_in (Aligned_of k o e c) = None
+word_in (Members_of k g o ms c) = None
+word_in (Enumerators_of k g o e es t c) = None
 
 abbrev pub are_some : List ℕ → Bool
 are_some [] = false

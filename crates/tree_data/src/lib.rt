@@ -4,14 +4,16 @@
 mod expr;
 mod heads;
 mod inits;
+mod members;
 mod parts;
 mod selections;
 mod statements;
 mod types;
 
 pub use expr::Expr;
-pub use heads::{Assertion, Head};
+pub use heads::Head;
 pub use inits::{Braces, Designator, Init, Piece};
+pub use members::{Assertion, Enumeration, Enumerator, Field, Member};
 pub use parts::{Choice, Suffix};
 pub use selections::Association;
 pub use statements::{Item, Lead, Stmt};

@@ -1,17 +1,18 @@
 // Names of types (ISO C11 6.7.7), and what stands in front of an operand.
 ghost use Rattle.std.specs.Prelude.{◌≡◌, IfOk};
 ghost use Rattle.tree_data.specs.Seen as seen;
-ghost use Rattle.tree_data.specs.Seen.{prefix_of, specifier_of, specs_of, declarator_of, group_of, parameters_of, deriving_of, bound_of, type_of, naming};
+ghost use Rattle.tree_data.specs.Seen.{prefix_of, specifier_of, specs_of, declarator_of, group_of, parameters_of, deriving_of, bound_of, enumerator_of, type_of, naming};
 ghost use Rattle.tree_data.specs.Trees as spec;
 
 use crate::expr::Expr;
+use crate::members::{Enumeration, Enumerator, Member};
 use std::alloc::{AllocError, Global};
 
-/// A specifier or qualifier of a type (6.7.2, 6.7.3).
+/// A specifier of a declaration (6.7), or a specifier or qualifier of a type (6.7.2, 6.7.3).
 #[derive(Drop)]
 #[cycle(trees)]
 pub enum Specifier {
-    /// A keyword that stands for itself: a basic type or a qualifier.
+    /// A keyword that stands for itself: a basic type, a qualifier, a storage class or a function specifier.
     Word(u32),
     /// A typedef name (6.7.8).
     TypedefName(u32),
@@ -19,6 +20,14 @@ pub enum Specifier {
     Tag(u32, u32),
     /// `_Atomic ( type-name )` (6.7.2.4).
     Atomic(u32, u32, Box<TypeName>, u32),
+    /// `_Alignas ( type-name )` (6.7.5).
+    AlignedAs(u32, u32, Box<TypeName>, u32),
+    /// `_Alignas ( constant-expression )` (6.7.5).
+    Aligned(u32, u32, Box<Expr>, u32),
+    /// `struct` or `union`, the tag if there is one, and the members in braces (6.7.2.1).
+    Members(u32, Option<u32>, u32, Vec<Member>, u32),
+    /// `enum` with its enumerators in braces (6.7.2.2).
+    Enumerators(Box<Enumeration>),
 }
 
 /// `*` and the qualifiers behind it (6.7.6.1).
@@ -160,7 +169,79 @@ impl Specifier {
             Specifier::TypedefName(_) => None,
             Specifier::Tag(_, _) => None,
             Specifier::Atomic(_, _, _, _) => None,
+            Specifier::AlignedAs(_, _, _, _) => None,
+            Specifier::Aligned(_, _, _, _) => None,
+            Specifier::Members(_, _, _, _, _) => None,
+            Specifier::Enumerators(_) => None,
         }
+    }
+
+    /// The alignment of a type.
+    pub fn aligned_as(
+        alloc: Global,
+        keyword: u32,
+        opening: u32,
+        name: TypeName,
+        closing: u32,
+    ) -> Result<Specifier, AllocError>
+        ensures { IfOk result (λ s. specifier_of s ≡ spec.Aligned_as_of keyword opening (type_of name) closing) }
+    {
+        let name = Box::new(alloc, name)?;
+        Ok(Specifier::AlignedAs(keyword, opening, name, closing))
+    }
+
+    /// An alignment.
+    pub fn aligned(
+        alloc: Global,
+        keyword: u32,
+        opening: u32,
+        size: Expr,
+        closing: u32,
+    ) -> Result<Specifier, AllocError>
+        ensures { IfOk result (λ s. specifier_of s ≡ spec.Aligned_of keyword opening (seen.tree_of size) closing) }
+    {
+        let size = Box::new(alloc, size)?;
+        Ok(Specifier::Aligned(keyword, opening, size, closing))
+    }
+
+    /// A structure or union with its members.
+    pub fn members(
+        keyword: u32,
+        tag: Option<u32>,
+        opening: u32,
+        members: Vec<Member>,
+        closing: u32,
+    ) -> Specifier
+        ensures { specifier_of result ≡ spec.Members_of keyword tag opening (spec.members (seen.members_of members.items) spec.No_members) closing }
+    {
+        Specifier::Members(keyword, tag, opening, members, closing)
+    }
+
+    /// An enumeration with its enumerators.
+    pub fn enumerators(
+        alloc: Global,
+        keyword: u32,
+        tag: Option<u32>,
+        opening: u32,
+        first: Enumerator,
+        more: Vec<(u32, Enumerator)>,
+        comma: Option<u32>,
+        closing: u32,
+    ) -> Result<Specifier, AllocError>
+        ensures { IfOk result (λ s. specifier_of s ≡ spec.Enumerators_of keyword tag opening (enumerator_of first)
+            (spec.enumerators (seen.enumerators_of more.items) spec.No_enumerators) comma closing) }
+    {
+        let list = Enumeration {
+            keyword,
+            tag,
+            opening,
+            first,
+            more,
+            comma,
+            closing,
+        };
+        let list = Box::new(alloc, list)?;
+        Ok(Specifier::Enumerators(list))
     }
 }
 
