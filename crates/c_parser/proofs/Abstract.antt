@@ -15,7 +15,8 @@ use Rattle.c_parser.specs.TypeNames.{FoundQualifiers, FoundPointers, FoundDeclar
 use Rattle.c_parser.proofs.Marks.{clash, stops_at}
 use Rattle.c_parser.proofs.SameParts.{Only}
 use Rattle.c_parser.proofs.Parsing.{Fails}
-use Rattle.c_parser.proofs.TypeReading.{everywhere, Bounding, first_static, first_others, Behind, nothing, a_star, a_size, a_static, bound_view, bound_only, no_start, no_star, no_qualifier, grouping_begins, parameters_next, written_begins, no_name_next, deriving_only, moved}
+use Rattle.c_parser.proofs.DeclaratorReading.{Bounding, Behind, nothing, a_star, a_size, a_static, bound_view, bound_only, no_start, no_star, no_qualifier, grouping_begins, parameters_next, written_begins, no_name_next, deriving_only, moved, first_static, first_others}
+use Rattle.c_parser.proofs.TypeReading.{everywhere}
 use Rattle.c_parser.proofs.Types.{between, pointers_only, qualifiers_only}
 use Rattle.c_parser.proofs.Views.{starts}
 use Rattle.c_parser.proofs.Words.{either, or_left, or_right, left_of, right_of, test_inside, name_stands, named_word}

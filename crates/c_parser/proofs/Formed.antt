@@ -1,14 +1,14 @@
 -- What holds is formed.
-use Rattle.std.proofs.Common.{◌≡◌, ap, sym, ◌∙◌, subst, ℕ, ◌+◌, List, [], ◌∷◌, ◌||◌, Bool, true, false, Option, Some, None}
-use Rattle.tree_data.specs.Trees.{Tree, Name_of, Constant_of, Text_of, Paren_of, Postfix_of, Unary_of, Binary_of, Conditional_of, Assign_of, Of_type, Compound_of, Behind, Operand_of, Index_of, Call_of, Call_with_of, Member_of, Step_of, Behinds, None_behind, Behind_then, Front, Operator_of, Cast_of, Choice_of, Left_of, Fronts, None_before, Front_then, Braces, Braces_of, Initial, Value_of, List_of, Piece, Plain_of, Designated_of, Pieces, No_pieces, Piece_then, Designator, Element_of, Field_of, Designators, No_designators, Designator_then, Generic_of, Offset_of, Association, Typed_of, Default_of, Associations, No_associations, Association_then, Specifying, Word_of, Typedef_of, Tag_of, Atomic_of, Specifyings, No_specifiers, Specifier_then, Naming, Type_of, Declaring, Declaring_of, No_parameters, Fixed_of, Variadic_of, Names_of, Parameters, Row, No_more, Parameter_then, Named_of, Grouping, No_group, Group_of, Deriving, Array_of, Function_of, Derivings, No_derivings, Deriving_then, Bound, Unsized_of, Any_size_of, Sized_of, Static_sized_of, Sized_static_of}
+use Rattle.std.proofs.Common.{◌≡◌, ap, sym, ◌∙◌, subst, ℕ, ◌+◌, ◌<◌, arith, not, List, [], ◌∷◌, ◌||◌, Bool, true, false, Option, Some, None}
+use Rattle.tree_data.specs.Trees.{Tree, Name_of, Constant_of, Text_of, Paren_of, Postfix_of, Unary_of, Binary_of, Conditional_of, Assign_of, Of_type, Compound_of, Behind, Operand_of, Index_of, Call_of, Call_with_of, Member_of, Step_of, Behinds, None_behind, Behind_then, Front, Operator_of, Cast_of, Choice_of, Left_of, Fronts, None_before, Front_then, Braces, Braces_of, Initial, Value_of, List_of, Piece, Plain_of, Designated_of, Pieces, No_pieces, Piece_then, Designator, Element_of, Field_of, Designators, No_designators, Designator_then, Generic_of, Offset_of, Association, Typed_of, Default_of, Associations, No_associations, Association_then, Specifying, Word_of, Typedef_of, Tag_of, Atomic_of, Specifyings, No_specifiers, Specifier_then, Naming, Type_of, Declaring, Declaring_of, No_parameters, Fixed_of, Variadic_of, Names_of, Parameters, Row, No_more, Parameter_then, Named_of, Grouping, No_group, Group_of, Deriving, Array_of, Function_of, Derivings, No_derivings, Deriving_then, Bound, Unsized_of, Any_size_of, Sized_of, Static_sized_of, Sized_static_of, Aligned_as_of, Aligned_of, Members_of, Enumerators_of, Member, Bare_of, Fields_of, Asserted_of, Members, No_members, Member_then, Field, Declared_of, Bits_of, Padding_of, Fields, No_fields, Field_then, Assertion, Assertion_of}
 use Rattle.c_parser.specs.declared.kinds.Kind.{Kind}
 use Rattle.c_parser.specs.declared.kinds.Kind.TheVariants.{OpenBrace}
-use Rattle.c_parser.specs.Grammar.{IsFormed, IsBehind, AreBehind, IsInFront, AreInFront, GoOn, IsComma, AreBraced, IsInitial, IsPiece, ArePieces, IsDesignator, AreDesignators, IsAssociated, AreAssociated, has_type, IsSpecifying, AreSpecifying, IsNaming, AreParameters, AreMore, IsDeclaring, IsGrouping, IsDerived, AreDerived, IsBound, typed_by, past}
-use Rattle.c_parser.specs.Kinds.{kind_at, level_at, is_prefix, is_size, casts_at, is_dot, is_member, specifies_at, named_by, grouped, behind_pointers, may_name, is_typedef}
+use Rattle.c_parser.specs.Grammar.{IsFormed, IsBehind, AreBehind, IsInFront, AreInFront, GoOn, IsComma, AreBraced, IsInitial, IsPiece, ArePieces, IsDesignator, AreDesignators, IsAssociated, AreAssociated, has_type, IsSpecifying, AreSpecifying, IsNaming, AreParameters, AreMore, IsDeclaring, IsGrouping, IsDerived, AreDerived, IsBound, typed_by, past, IsTag, IsMember, AreMembers, IsField, AreFields, IsAsserted, IsDeclarator, IsDirect, AreTexts}
+use Rattle.c_parser.specs.Kinds.{kind_at, level_at, is_prefix, is_size, casts_at, is_dot, is_member, specifies_at, named_by, grouped, behind_pointers, may_name, is_typedef, is_word, is_tagging, names_it, plain_behind}
 use Rattle.c_parser.specs.Levels.{behinds_level}
 use Rattle.c_parser.proofs.NameLists.{names_formed}
 use Rattle.c_parser.proofs.Types.{qualifiers_formed, pointers_formed}
-use Rattle.c_parser.specs.Reading.{HoldTexts, Holds, HoldsBehind, HoldBehinds, HoldsFront, HoldFronts, HoldsComma, HoldBraces, HoldsInitial, HoldsPiece, HoldPieces, HoldsDesignator, HoldDesignators, HoldsAssociation, HoldAssociations, HoldSpecifying, HoldSpecifyings, HoldsNaming, HoldParameters, HoldRow, HoldsDeclaring, HoldsGrouping, HoldsDeriving, HoldDerivings, HoldsBound}
+use Rattle.c_parser.specs.Reading.{HoldTexts, Holds, HoldsBehind, HoldBehinds, HoldsFront, HoldFronts, HoldsComma, HoldBraces, HoldsInitial, HoldsPiece, HoldPieces, HoldsDesignator, HoldDesignators, HoldsAssociation, HoldAssociations, HoldSpecifying, HoldSpecifyings, HoldsNaming, HoldParameters, HoldRow, HoldsDeclaring, HoldsGrouping, HoldsDeriving, HoldDerivings, HoldsBound, HoldsTag, HoldsMember, HoldMembers, HoldsField, HoldFields, HoldsAssertion, HoldsDeclarator, HoldsDirect}
 use Rattle.c_parser.specs.declared.kinds.Named.{Named}
 
 pub comma_formed : (ks : List Kind) → (t : Option ℕ) → (a b : ℕ) → HoldsComma ks t a b → IsComma ks t
@@ -19,6 +19,16 @@ pub texts_go : (ks : List Kind) → (n : ℕ) → (ns : List ℕ) → (b : ℕ) 
 texts_go ks n [] b h = h.1
 texts_go ks n (m ∷ ms) b h =
     (ap (λ x. kind_at ks x) h.0 ∙ h.1, texts_go ks m ms b (subst (λ x. HoldTexts ks ms (x + 1) b) (sym h.0) h.2))
+
+-- some, as a string literal has them
+pub texts_formed : (ks : List Kind) → (ns : List ℕ) → (a b : ℕ) → a < b → HoldTexts ks ns a b → AreTexts ks ns
+texts_formed ks [] a b l h = absurd (omega (arith, l, h.0))
+texts_formed ks (n ∷ ns) a b l h =
+    (ap (λ x. kind_at ks x) h.0 ∙ h.1, texts_go ks n ns b (subst (λ x. HoldTexts ks ns (x + 1) b) (sym h.0) h.2))
+
+pub tag_formed : (ks : List Kind) → (g : Option ℕ) → (a b : ℕ) → HoldsTag ks g a b → IsTag ks g
+tag_formed ks None a b h = tt
+tag_formed ks (Some n) a b h = ap (λ x. is_word (kind_at ks x)) h.0 ∙ h.1
 
 mutual
   pub formed : (ks : List Kind) → (t : Tree) → (a b : ℕ) → Holds ks t a b → IsFormed ks t
@@ -146,9 +156,65 @@ mutual
   pub formed_specifying : (ks : List Kind) → (y : Bool) → (s : Specifying) → (a b : ℕ) → HoldSpecifying ks y s a b → IsSpecifying ks y s
   formed_specifying ks y (Word_of n) a b h = ap (λ x. specifies_at ks x) h.0 ∙ h.1
   formed_specifying ks y (Typedef_of n) a b h = (h.1, ap (λ x. is_typedef (kind_at ks x)) h.0 ∙ h.2)
-  formed_specifying ks y (Tag_of k n) a b h = (ap (λ x. kind_at ks x) h.0 ∙ h.1, h.3)
+  formed_specifying ks y (Tag_of k n) a b h =
+      (ap (λ x. is_tagging (kind_at ks x)) h.0 ∙ h.1, h.3, subst (λ x. kind_at ks x ≡ OpenBrace → ⊥) h.4 h.5)
   formed_specifying ks y (Atomic_of k o t c) a b h =
       (ap (λ x. kind_at ks x) h.0 ∙ h.1, h.3, formed_naming ks false t (o + 1) c h.4, h.5)
+  formed_specifying ks y (Aligned_as_of k o t c) a b h =
+      (ap (λ x. kind_at ks x) h.0 ∙ h.1, h.3, formed_naming ks false t (o + 1) c h.4, h.5)
+  formed_specifying ks y (Aligned_of k o t c) a b h =
+      (ap (λ x. kind_at ks x) h.0 ∙ h.1, h.3, h.4, formed ks t (o + 1) c h.5, h.6)
+  formed_specifying ks y (Members_of k g o ms c) a b h =
+      (ap (λ x. kind_at ks x) h.0 ∙ h.1, tag_formed ks g (a + 1) o h.2, h.3, h.4, formed_members ks ms (o + 1) c h.5, h.6)
+  formed_specifying ks y (Enumerators_of k g o e es t c) a b h = h
+
+  pub formed_member : (ks : List Kind) → (x : Member) → (a b : ℕ) → HoldsMember ks x a b → IsMember ks x
+  formed_member ks (Bare_of ss e) a b h = (h.0, formed_specifyings ks false ss a e h.1, h.2, h.3)
+  formed_member ks (Fields_of ss f fs e) a b h = (
+    h.2,
+    formed_specifyings ks false ss a h.0 h.3,
+    h.4,
+    formed_field ks (not (typed_by ks false ss)) f h.0 h.1 h.5,
+    formed_fields ks fs h.1 e h.6,
+    h.7,
+  )
+  formed_member ks (Asserted_of x) a b h = formed_assertion ks x a b h
+
+  pub formed_members : (ks : List Kind) → (xs : Members) → (a b : ℕ) → HoldMembers ks xs a b → AreMembers ks xs
+  formed_members ks No_members a b h = tt
+  formed_members ks (Member_then x xs) a b h = (formed_member ks x a h.0 h.1, formed_members ks xs h.0 b h.2)
+
+  pub formed_field : (ks : List Kind) → (y : Bool) → (f : Field) → (a b : ℕ) → HoldsField ks y f a b → IsField ks y f
+  formed_field ks y (Declared_of d) a b h = formed_declarator ks y d a b h
+  formed_field ks y (Bits_of d c w) a b h = (formed_declarator ks y d a c h.0, h.1, h.2, formed ks w (c + 1) b h.3)
+  formed_field ks y (Padding_of c w) a b h = (ap (λ x. kind_at ks x) h.0 ∙ h.1, h.2, formed ks w (a + 1) b h.3)
+
+  pub formed_fields : (ks : List Kind) → (fs : Fields) → (a b : ℕ) → HoldFields ks fs a b → AreFields ks fs
+  formed_fields ks No_fields a b h = tt
+  formed_fields ks (Field_then o f fs) a b h =
+      (ap (λ x. kind_at ks x) h.1 ∙ h.2, formed_field ks false f (a + 1) h.0 h.3, formed_fields ks fs h.0 b h.4)
+
+  pub formed_assertion : (ks : List Kind) → (x : Assertion) → (a b : ℕ) → HoldsAssertion ks x a b → IsAsserted ks x
+  formed_assertion ks (Assertion_of k o t c ns p e) a b h = (
+    ap (λ x. kind_at ks x) h.0 ∙ h.1,
+    h.3,
+    h.4,
+    formed ks t (o + 1) c h.5,
+    h.6,
+    texts_formed ks ns (c + 1) p h.7 h.8,
+    h.9,
+    h.11,
+  )
+
+  pub formed_declarator : (ks : List Kind) → (y : Bool) → (d : Declaring) → (a b : ℕ) → HoldsDeclarator ks y d a b → IsDeclarator ks y d
+  formed_declarator ks y (Declaring_of ps g ds) a b h =
+      (pointers_formed ks ps a h.0 h.2, formed_direct ks (plain_behind y ps) g h.0 h.1 h.3, formed_derivings ks ds h.1 b h.4)
+
+  pub formed_direct : (ks : List Kind) → (y : Bool) → (g : Grouping) → (a b : ℕ) → HoldsDirect ks y g a b → IsDirect ks y g
+  formed_direct ks y No_group a b h = h
+  formed_direct ks y (Named_of n) a b h = ap (λ x. names_it y (kind_at ks x)) h.0 ∙ h.1
+  formed_direct ks y (Group_of o d c) a b h =
+      (ap (λ x. kind_at ks x) h.0 ∙ h.1, formed_declarator ks false d (a + 1) c h.2, h.3)
 
   pub formed_specifyings : (ks : List Kind) → (y : Bool) → (ss : Specifyings) → (a b : ℕ) → HoldSpecifyings ks y ss a b → AreSpecifying ks y ss
   formed_specifyings ks y No_specifiers a b h = tt

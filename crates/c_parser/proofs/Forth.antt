@@ -1,11 +1,11 @@
 -- Parts end no earlier than they begin.
-use Rattle.std.proofs.Common.{ℕ, ◌≤◌, List, Bool}
-use Rattle.tree_data.specs.Trees.{Tree, Behind, Front, Fronts, Piece, Designator, Designators, Association, Specifyings, Naming, Declaring, Grouping, Deriving, Bound}
+use Rattle.std.proofs.Common.{ℕ, ◌≤◌, List, Bool, Option}
+use Rattle.tree_data.specs.Trees.{Tree, Behind, Front, Fronts, Piece, Designator, Designators, Association, Specifyings, Naming, Declaring, Grouping, Deriving, Bound, Member, Members, Field, Fields}
 use Rattle.c_parser.specs.declared.kinds.Kind.{Kind}
-use Rattle.c_parser.specs.Grammar.{spell, spell_behind, spell_front, spell_fronts, spell_piece, spell_designator, spell_designators, spell_association, spell_specifyings, spell_type, spell_declaring, spell_grouping, spell_deriving, spell_bound}
-use Rattle.c_parser.specs.Reading.{Holds, HoldsBehind, HoldsFront, HoldFronts, HoldsPiece, HoldsDesignator, HoldDesignators, HoldsAssociation, HoldSpecifyings, HoldsNaming, HoldsType, HoldsDeclaring, HoldsGrouping, HoldsDeriving, HoldsBound}
+use Rattle.c_parser.specs.Grammar.{spell, spell_behind, spell_front, spell_fronts, spell_piece, spell_designator, spell_designators, spell_association, spell_specifyings, spell_type, spell_declaring, spell_grouping, spell_deriving, spell_bound, spell_tag, spell_member, spell_members, spell_field, spell_fields}
+use Rattle.c_parser.specs.Reading.{Holds, HoldsBehind, HoldsFront, HoldFronts, HoldsPiece, HoldsDesignator, HoldDesignators, HoldsAssociation, HoldSpecifyings, HoldsNaming, HoldsType, HoldsDeclaring, HoldsGrouping, HoldsDeriving, HoldsBound, HoldsTag, HoldsMember, HoldMembers, HoldsField, HoldFields, HoldsDeclarator, HoldsDirect}
 use Rattle.c_parser.proofs.Numbers.{spans_forth}
-use Rattle.c_parser.proofs.Spanned.{spanned, spanned_behind, spanned_front, spanned_fronts, spanned_piece, spanned_designator, spanned_designators, spanned_association, spanned_specifyings, spanned_naming, spanned_declaring, spanned_grouping, spanned_deriving, spanned_bound}
+use Rattle.c_parser.proofs.Spanned.{spanned, spanned_behind, spanned_front, spanned_fronts, spanned_piece, spanned_designator, spanned_designators, spanned_association, spanned_specifyings, spanned_naming, spanned_declaring, spanned_grouping, spanned_deriving, spanned_bound, tag_spanned, spanned_member, spanned_members, spanned_field, spanned_fields, spanned_declarator, spanned_direct}
 use Rattle.c_parser.proofs.Spans.{spanned_type}
 use Rattle.c_parser.specs.declared.kinds.Named.{Named}
 
@@ -53,3 +53,24 @@ deriving_forth ks d a b h = spans_forth (spell_deriving d) a b (spanned_deriving
 
 pub bound_forth : (ks : List Kind) → (x : Bound) → (a b : ℕ) → HoldsBound ks x a b → a ≤ b
 bound_forth ks x a b h = spans_forth (spell_bound x) a b (spanned_bound ks x a b h)
+
+pub members_forth : (ks : List Kind) → (ms : Members) → (a b : ℕ) → HoldMembers ks ms a b → a ≤ b
+members_forth ks ms a b h = spans_forth (spell_members ms) a b (spanned_members ks ms a b h)
+
+pub member_forth : (ks : List Kind) → (x : Member) → (a b : ℕ) → HoldsMember ks x a b → a ≤ b
+member_forth ks x a b h = spans_forth (spell_member x) a b (spanned_member ks x a b h)
+
+pub field_forth : (ks : List Kind) → (y : Bool) → (f : Field) → (a b : ℕ) → HoldsField ks y f a b → a ≤ b
+field_forth ks y f a b h = spans_forth (spell_field f) a b (spanned_field ks y f a b h)
+
+pub fields_forth : (ks : List Kind) → (fs : Fields) → (a b : ℕ) → HoldFields ks fs a b → a ≤ b
+fields_forth ks fs a b h = spans_forth (spell_fields fs) a b (spanned_fields ks fs a b h)
+
+pub declarator_forth : (ks : List Kind) → (y : Bool) → (d : Declaring) → (a b : ℕ) → HoldsDeclarator ks y d a b → a ≤ b
+declarator_forth ks y d a b h = spans_forth (spell_declaring d) a b (spanned_declarator ks y d a b h)
+
+pub direct_forth : (ks : List Kind) → (y : Bool) → (g : Grouping) → (a b : ℕ) → HoldsDirect ks y g a b → a ≤ b
+direct_forth ks y g a b h = spans_forth (spell_grouping g) a b (spanned_direct ks y g a b h)
+
+pub tag_forth : (ks : List Kind) → (g : Option ℕ) → (a b : ℕ) → HoldsTag ks g a b → a ≤ b
+tag_forth ks g a b h = spans_forth (spell_tag g) a b (tag_spanned ks g a b h)

@@ -4,16 +4,16 @@ use Rattle.tree_data.specs.Trees.{Declaring, Declaring_of, Grouping, No_group, N
 use Rattle.c_parser.specs.declared.answers.Stop.{Stop}
 use Rattle.c_parser.specs.declared.answers.Stop.TheVariants as stop
 use Rattle.c_parser.specs.declared.kinds.Kind.{Kind}
-use Rattle.c_parser.specs.declared.kinds.Kind.TheVariants.{Star, Identifier, TypeName, OpenParen, CloseParen}
-use Rattle.c_parser.specs.Heads.{names_it, plain_behind, HoldsDeclarator, HoldsDirect}
+use Rattle.c_parser.specs.declared.kinds.Kind.TheVariants.{OpenParen, CloseParen}
 use Rattle.c_parser.specs.HeadsFound.{FoundDeclarator, FoundDirect}
-use Rattle.c_parser.specs.Kinds.{kind_at, is_word, ends_type, ends_specifiers}
-use Rattle.c_parser.specs.Reading.{HoldPointers, HoldDerivings, IsWant}
+use Rattle.c_parser.specs.Kinds.{kind_at, is_word, ends_type, names_it, plain_behind}
+use Rattle.c_parser.specs.Reading.{HoldPointers, HoldDerivings, HoldsDeclarator, HoldsDirect, IsWant}
 use Rattle.c_parser.specs.TypeNames.{FoundPointers, FoundDerivings}
 use Rattle.c_parser.proofs.Abstract.{OnlyDerivings, FailsDerivings}
-use Rattle.c_parser.proofs.TypeReading.{ends_stars, word_stars, no_star, no_qualifier}
+use Rattle.c_parser.proofs.DeclaratorReading.{no_star, no_qualifier}
+use Rattle.c_parser.proofs.NamedReading.{named_it, not_opening, direct_begins}
 use Rattle.c_parser.proofs.Types.{between, pointers_only}
-use Rattle.c_parser.proofs.Words.{test_inside, word_identifier, word_ends, plain_ends}
+use Rattle.c_parser.proofs.Words.{test_inside}
 
 abbrev pub OnlyDeclarator : List Kind → Bool → ℕ → Declaring → ℕ → Type 0
 OnlyDeclarator ks y a d c = (d' : Declaring) → (c' : ℕ) → HoldsDeclarator ks y d' a c' → ends_type (kind_at ks c') ≡ true → (d ≡ d') × (c ≡ c')
@@ -26,13 +26,6 @@ OnlyDirect ks y a g m = (g' : Grouping) → (m' : ℕ) → HoldsDirect ks y g' a
 
 abbrev pub FailsDirect : List Kind → Bool → ℕ → Stop → Type 0
 FailsDirect ks y a e = (g : Grouping) → (m : ℕ) → HoldsDirect ks y g a m → IsWant e
-
-named_it : (y : Bool) → (k : Kind) → names_it y k ≡ true → is_word k ≡ true
-named_it true k h = word_identifier k h
-named_it false k h = h
-
-not_opening : {A : Type 0} → (ks : List Kind) → (y : Bool) → (a : ℕ) → kind_at ks a ≡ OpenParen → names_it y (kind_at ks a) ≡ true → A
-not_opening ks y a k h = absurd (true≢false (sym (named_it y (kind_at ks a) h) ∙ ap is_word k))
 
 -- a name, or a group
 pub name_found : (ks : List Kind) → (y : Bool) → (a : ℕ) → names_it y (kind_at ks a) ≡ true → FoundDirect ks y a (Named_of a) (a + 1)
@@ -78,12 +71,6 @@ direct_same ks y a k d b only (Group_of o d' c) m h =
       ap (λ x. Group_of x d b) (sym h.0) ∙ ap (λ x. Group_of o x b) same.0 ∙ ap (λ x. Group_of o d' x) same.1,
       ap (λ x. x + 1) same.1 ∙ sym h.4,
     )
-
--- behind the pointers
-pub direct_begins : (ks : List Kind) → (y : Bool) → (g : Grouping) → (a m : ℕ) → HoldsDirect ks y g a m → ends_stars (kind_at ks a) ≡ true
-direct_begins ks y No_group a m h = absurd h
-direct_begins ks y (Named_of n) a m h = word_stars (kind_at ks a) (named_it y (kind_at ks a) h.1)
-direct_begins ks y (Group_of o d c) a m h = ap ends_stars h.1
 
 pointers_same : (ks : List Kind) → (y : Bool) → (a : ℕ) → (ps : List (ℕ × List ℕ)) → (m : ℕ) → FoundPointers ks a ps m → (ps' : List (ℕ × List ℕ)) → (m' : ℕ)
     → HoldPointers ks ps' a m' → (g : Grouping) → (n : ℕ) → HoldsDirect ks y g m' n → (ps ≡ ps') × (m ≡ m')
@@ -136,41 +123,3 @@ declarator_same ks y a ps m x g n v by u ds b z (Declaring_of ps' g' ds') c h f 
       ap (λ k. Declaring_of k g ds) one.0 ∙ ap (λ k. Declaring_of ps' k ds) two.0 ∙ ap (λ k. Declaring_of ps' g' k) three.0,
       three.1,
     )
-
--- specifiers end in front of a declarator
-named_ends : (t : Bool) → (k : Kind) → names_it (not t) k ≡ true → ends_specifiers k t ≡ true
-named_ends true k h = word_ends k h
-named_ends false k h = plain_ends k h
-
-direct_next : (ks : List Kind) → (t : Bool) → (g : Grouping) → (a m : ℕ) → HoldsDirect ks (not t) g a m → ends_specifiers (kind_at ks a) t ≡ true
-direct_next ks t No_group a m h = absurd h
-direct_next ks t (Named_of n) a m h = named_ends t (kind_at ks a) h.1
-direct_next ks t (Group_of o d c) a m h = ap (λ k. ends_specifiers k t) h.1
-
-pub declarator_next : (ks : List Kind) → (t : Bool) → (d : Declaring) → (a b : ℕ) → HoldsDeclarator ks (not t) d a b
-    → ends_specifiers (kind_at ks a) t ≡ true
-declarator_next ks t (Declaring_of [] g ds) a b h = ap (λ x. ends_specifiers (kind_at ks x) t) (sym h.2) ∙ direct_next ks t g h.0 h.1 h.3
-declarator_next ks t (Declaring_of (p ∷ ps) g ds) a b h = ap (λ k. ends_specifiers k t) h.2.2
-
--- with which a declarator begins
-abbrev pub starts_declarator : Kind → Bool
-starts_declarator Star = true
-starts_declarator Identifier = true
-starts_declarator (TypeName n) = true
-starts_declarator OpenParen = true
-starts_declarator _ = false
-
-word_declares : (k : Kind) → is_word k ≡ true → starts_declarator k ≡ true
-word_declares Identifier h = refl
-word_declares (TypeName n) h = refl
-word_declares _ h = absurd (true≢false (sym h))
-
-direct_starts : (ks : List Kind) → (y : Bool) → (g : Grouping) → (a m : ℕ) → HoldsDirect ks y g a m → starts_declarator (kind_at ks a) ≡ true
-direct_starts ks y No_group a m h = absurd h
-direct_starts ks y (Named_of n) a m h = word_declares (kind_at ks a) (named_it y (kind_at ks a) h.1)
-direct_starts ks y (Group_of o d c) a m h = ap starts_declarator h.1
-
-pub declarator_starts : (ks : List Kind) → (y : Bool) → (d : Declaring) → (a b : ℕ) → HoldsDeclarator ks y d a b → starts_declarator (kind_at ks a) ≡ true
-declarator_starts ks y (Declaring_of [] g ds) a b h =
-    ap (λ x. starts_declarator (kind_at ks x)) (sym h.2) ∙ direct_starts ks y g h.0 h.1 h.3
-declarator_starts ks y (Declaring_of (p ∷ ps) g ds) a b h = ap starts_declarator h.2.2

@@ -9,21 +9,22 @@ use Rattle.c_parser.specs.declared.answers.Stop.{Stop}
 use Rattle.c_parser.specs.declared.answers.Stop.TheVariants as stop
 use Rattle.c_parser.specs.declared.kinds.Kind.{Kind}
 use Rattle.c_parser.specs.declared.kinds.Kind.TheVariants.{OpenParen, CloseParen, Comma, Semicolon, OpenBrace, Assert}
+use Rattle.c_parser.specs.declared.kinds.Site.TheVariants.{OfDeclaration}
 use Rattle.c_parser.specs.Brackets.{too_deep}
 use Rattle.c_parser.specs.Grammar.{AreSome, typed_by}
-use Rattle.c_parser.specs.Heads.{Leading, both, leading_of, HoldAll, is_alone, Closes, HoldsAssertion, HoldsHead}
+use Rattle.c_parser.specs.Heads.{Leading, both, leading_of, HoldAll, is_alone, Closes, HoldsHead}
 use Rattle.c_parser.specs.HeadsFound.{FoundFront, FoundDeclared, FoundAll, FoundAssertion, FoundHead, ends_all, IsHeadCause}
 use Rattle.c_parser.specs.Kinds.{kind_at, starts_type, ends_specifiers}
-use Rattle.c_parser.specs.Reading.{Holds, Found, HoldTexts, HoldSpecifyings, FoundTexts, IsWant, at_front, IsAtFront, IsRefused, IsDeep}
+use Rattle.c_parser.specs.Reading.{Holds, HoldsAssertion, Found, HoldTexts, HoldSpecifyings, FoundTexts, IsWant, at_front, IsAtFront, IsRefused, IsDeep}
 use Rattle.c_parser.specs.TypeNames.{FoundSpecifiers}
 use Rattle.c_parser.specs.Words.{Words, shown}
-use Rattle.c_parser.proofs.HeadDeclarators.{declarator_next, declarator_starts, starts_declarator}
+use Rattle.c_parser.proofs.NamedReading.{declarator_next, declarator_starts, starts_declarator}
 use Rattle.c_parser.proofs.HeadLists.{Piece, OnlyAll, FailsAll}
 use Rattle.c_parser.proofs.HeadWords.{plain_at, shown_length}
 use Rattle.c_parser.proofs.Marks.{clash, stops_at}
 use Rattle.c_parser.proofs.Parsing.{Fails}
 use Rattle.c_parser.proofs.SameParts.{Only, texts_only}
-use Rattle.c_parser.proofs.SpecifierLists.{OnlySpecifiers, FailsSpecifiers, some_specifying}
+use Rattle.c_parser.proofs.SpecifierLists.{OnlySpecifiers, FailsSpecifiers, some_specifying, all_stand}
 use Rattle.c_parser.proofs.Types.{starting}
 use Rattle.c_parser.proofs.Wholes.{want_is}
 
@@ -38,20 +39,20 @@ FailsFront ks a e =
     (ss : Specifyings) → (b : ℕ) → AreSome ss → HoldSpecifyings ks false ss a b
     → ends_specifiers (kind_at ks b) (typed_by ks false ss) ≡ true → IsWant e
 
-pub front_fails : (ks : List Kind) → (a : ℕ) → (e : Stop) → FailsSpecifiers ks true a e → FailsFront ks a e
-front_fails ks a e fails ss b some h f = fails ss b h (λ q. refl) f
+pub front_fails : (ks : List Kind) → (a : ℕ) → (e : Stop) → FailsSpecifiers ks OfDeclaration a e → FailsFront ks a e
+front_fails ks a e fails ss b some h f = fails ss b h (all_stand ks ss) f
 
 pub front_none : (ks : List Kind) → (a m : ℕ) → (xs : List Specifier) → (length xs == 0) ≡ true
-    → OnlySpecifiers ks true a (specifyings (specifiers_of xs) No_specifiers) m → (n : ℕ) → FailsFront ks a (stop.Syntax n)
-front_none ks a m [] h only n ss b some r e = subst AreSome (sym (only ss b r (λ q. refl) e).0) some
+    → OnlySpecifiers ks OfDeclaration a (specifyings (specifiers_of xs) No_specifiers) m → (n : ℕ) → FailsFront ks a (stop.Syntax n)
+front_none ks a m [] h only n ss b some r e = subst AreSome (sym (only ss b r (all_stand ks ss) e).0) some
 front_none ks a m (x ∷ xs) h only n ss b some r e = grind (arith, h)
 
 pub front_found : (ks : List Kind) → (a m : ℕ) → (xs : List Specifier) → (length xs == 0) ≡ false
-    → FoundSpecifiers ks true a (specifyings (specifiers_of xs) No_specifiers) m → FoundFront ks a (specifyings (specifiers_of xs) No_specifiers) m
+    → FoundSpecifiers ks OfDeclaration a (specifyings (specifiers_of xs) No_specifiers) m → FoundFront ks a (specifyings (specifiers_of xs) No_specifiers) m
 front_found ks a m xs h found = record { some = some_specifying xs h; reads = found.reads; forth = found.forth; inside = found.inside }
 
-pub front_same : (ks : List Kind) → (a : ℕ) → (ss : Specifyings) → (m : ℕ) → OnlySpecifiers ks true a ss m → OnlyFront ks a ss m
-front_same ks a ss m only ss' b some h e = only ss' b h (λ q. refl) e
+pub front_same : (ks : List Kind) → (a : ℕ) → (ss : Specifyings) → (m : ℕ) → OnlySpecifiers ks OfDeclaration a ss m → OnlyFront ks a ss m
+front_same ks a ss m only ss' b some h e = only ss' b h (all_stand ks ss') e
 
 pub leading_is : (p q p' q' : Bool) → p ≡ p' → q ≡ q' → both p q ≡ both p' q'
 leading_is p q p' q' e f = ap (λ x. both x q) e ∙ ap (λ x. both p' x) f

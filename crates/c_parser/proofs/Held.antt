@@ -1,16 +1,16 @@
 -- What is formed holds where the numbers that it spells are.
-use Rattle.std.proofs.Common.{◌≡◌, ap, sym, ◌∙◌, subst, ℕ, ◌+◌, List, [], ◌∷◌, ◌++◌, ◌||◌, Bool, true, false, Option, Some, None}
-use Rattle.tree_data.specs.Trees.{Tree, Name_of, Constant_of, Text_of, Paren_of, Postfix_of, Unary_of, Binary_of, Conditional_of, Assign_of, Of_type, Compound_of, Behind, Operand_of, Index_of, Call_of, Call_with_of, Member_of, Step_of, Behinds, None_behind, Behind_then, Front, Operator_of, Cast_of, Choice_of, Left_of, Fronts, None_before, Front_then, Braces, Braces_of, Initial, Value_of, List_of, Piece, Plain_of, Designated_of, Pieces, No_pieces, Piece_then, Designator, Element_of, Field_of, Designators, No_designators, Designator_then, Generic_of, Offset_of, Association, Typed_of, Default_of, Associations, No_associations, Association_then, Specifying, Word_of, Typedef_of, Tag_of, Atomic_of, Specifyings, No_specifiers, Specifier_then, Naming, Type_of, Declaring, Declaring_of, No_parameters, Fixed_of, Variadic_of, Names_of, Parameters, Row, No_more, Parameter_then, Named_of, Grouping, No_group, Group_of, Deriving, Array_of, Function_of, Derivings, No_derivings, Deriving_then, Bound, Unsized_of, Any_size_of, Sized_of, Static_sized_of, Sized_static_of}
+use Rattle.std.proofs.Common.{◌≡◌, ap, sym, ◌∙◌, subst, ℕ, ◌+◌, ◌<◌, arith, not, List, [], ◌∷◌, ◌++◌, ◌||◌, Bool, true, false, Option, Some, None}
+use Rattle.tree_data.specs.Trees.{Tree, Name_of, Constant_of, Text_of, Paren_of, Postfix_of, Unary_of, Binary_of, Conditional_of, Assign_of, Of_type, Compound_of, Behind, Operand_of, Index_of, Call_of, Call_with_of, Member_of, Step_of, Behinds, None_behind, Behind_then, Front, Operator_of, Cast_of, Choice_of, Left_of, Fronts, None_before, Front_then, Braces, Braces_of, Initial, Value_of, List_of, Piece, Plain_of, Designated_of, Pieces, No_pieces, Piece_then, Designator, Element_of, Field_of, Designators, No_designators, Designator_then, Generic_of, Offset_of, Association, Typed_of, Default_of, Associations, No_associations, Association_then, Specifying, Word_of, Typedef_of, Tag_of, Atomic_of, Specifyings, No_specifiers, Specifier_then, Naming, Type_of, Declaring, Declaring_of, No_parameters, Fixed_of, Variadic_of, Names_of, Parameters, Row, No_more, Parameter_then, Named_of, Grouping, No_group, Group_of, Deriving, Array_of, Function_of, Derivings, No_derivings, Deriving_then, Bound, Unsized_of, Any_size_of, Sized_of, Static_sized_of, Sized_static_of, Aligned_as_of, Aligned_of, Members_of, Enumerators_of, Member, Bare_of, Fields_of, Asserted_of, Members, No_members, Member_then, Field, Declared_of, Bits_of, Padding_of, Fields, No_fields, Field_then, Assertion, Assertion_of}
 use Rattle.c_parser.specs.declared.kinds.Kind.{Kind}
 use Rattle.c_parser.specs.declared.kinds.Kind.TheVariants.{Text, OpenBrace}
-use Rattle.c_parser.specs.Grammar.{spell, spell_behind, spell_behinds, spell_front, spell_fronts, IsFormed, IsBehind, AreBehind, IsInFront, AreInFront, GoOn, spell_comma, spell_braces, spell_initial, spell_piece, spell_pieces, spell_designator, spell_designators, IsComma, AreBraced, IsInitial, IsPiece, ArePieces, IsDesignator, AreDesignators, spell_association, spell_associations, IsAssociated, AreAssociated, spell_specifying, spell_specifyings, spell_type, spell_declaring, spell_grouping, spell_deriving, spell_derivings, spell_bound, has_type, IsSpecifying, AreSpecifying, IsNaming, AreParameters, AreMore, spell_parameters, spell_row, IsDeclaring, IsGrouping, IsDerived, AreDerived, IsBound, typed_by, past}
-use Rattle.c_parser.specs.Kinds.{kind_at, level_at, is_prefix, is_size, casts_at, is_dot, is_member, specifies_at, named_by, grouped, behind_pointers, may_name, is_typedef}
+use Rattle.c_parser.specs.Grammar.{spell, spell_behind, spell_behinds, spell_front, spell_fronts, IsFormed, IsBehind, AreBehind, IsInFront, AreInFront, GoOn, spell_comma, spell_braces, spell_initial, spell_piece, spell_pieces, spell_designator, spell_designators, IsComma, AreBraced, IsInitial, IsPiece, ArePieces, IsDesignator, AreDesignators, spell_association, spell_associations, IsAssociated, AreAssociated, spell_specifying, spell_specifyings, spell_type, spell_declaring, spell_grouping, spell_deriving, spell_derivings, spell_bound, has_type, IsSpecifying, AreSpecifying, IsNaming, AreParameters, AreMore, spell_parameters, spell_row, IsDeclaring, IsGrouping, IsDerived, AreDerived, IsBound, typed_by, past, spell_tag, spell_member, spell_members, spell_field, spell_fields, spell_assertion, IsTag, IsMember, AreMembers, IsField, AreFields, IsAsserted, IsDeclarator, IsDirect, AreTexts}
+use Rattle.c_parser.specs.Kinds.{kind_at, level_at, is_prefix, is_size, casts_at, is_dot, is_member, specifies_at, named_by, grouped, behind_pointers, may_name, is_typedef, is_word, is_tagging, names_it, plain_behind}
 use Rattle.c_parser.specs.Levels.{behinds_level}
 use Rattle.c_parser.specs.Declarators.{spell_pointers}
-use Rattle.c_parser.proofs.Numbers.{Spans, spans_split}
+use Rattle.c_parser.proofs.Numbers.{Spans, spans_split, spans_forth}
 use Rattle.c_parser.proofs.NameLists.{names_held}
 use Rattle.c_parser.proofs.Types.{qualifiers_held, pointers_held}
-use Rattle.c_parser.specs.Reading.{HoldTexts, Holds, HoldsBehind, HoldBehinds, HoldsFront, HoldFronts, HoldsComma, HoldBraces, HoldsInitial, HoldsPiece, HoldPieces, HoldsDesignator, HoldDesignators, HoldsAssociation, HoldAssociations, HoldQualifiers, HoldSpecifying, HoldSpecifyings, HoldsNaming, HoldParameters, HoldRow, HoldsDeclaring, HoldsGrouping, HoldsDeriving, HoldDerivings, HoldsBound}
+use Rattle.c_parser.specs.Reading.{HoldTexts, Holds, HoldsBehind, HoldBehinds, HoldsFront, HoldFronts, HoldsComma, HoldBraces, HoldsInitial, HoldsPiece, HoldPieces, HoldsDesignator, HoldDesignators, HoldsAssociation, HoldAssociations, HoldQualifiers, HoldSpecifying, HoldSpecifyings, HoldsNaming, HoldParameters, HoldRow, HoldsDeclaring, HoldsGrouping, HoldsDeriving, HoldDerivings, HoldsBound, HoldsTag, HoldsMember, HoldMembers, HoldsField, HoldFields, HoldsAssertion, HoldsDeclarator, HoldsDirect}
 use Rattle.c_parser.specs.declared.kinds.Named.{Named}
 
 pub comma_held : (ks : List Kind) → (t : Option ℕ) → (a b : ℕ) → IsComma ks t → Spans (spell_comma t) a b → HoldsComma ks t a b
@@ -21,6 +21,18 @@ pub texts_hold : (ks : List Kind) → (n : ℕ) → (ns : List ℕ) → (a b : �
 texts_hold ks n [] a b e g s = (s, subst (λ x. kind_at ks x ≡ Text → ⊥) e g)
 texts_hold ks n (m ∷ ms) a b e g s =
     (s.0, ap (λ x. kind_at ks x) (sym s.0) ∙ g.0, texts_hold ks m ms (a + 1) b (ap (λ x. x + 1) s.0) g.1 s.1)
+
+-- some, as a string literal has them
+pub texts_held : (ks : List Kind) → (ns : List ℕ) → (a b : ℕ) → AreTexts ks ns → Spans ns a b → (a < b) × HoldTexts ks ns a b
+texts_held ks [] a b f s = absurd f
+texts_held ks (n ∷ ns) a b f s = (
+  omega (arith, spans_forth ns (a + 1) b s.1),
+  (s.0, ap (λ x. kind_at ks x) (sym s.0) ∙ f.0, texts_hold ks n ns (a + 1) b (ap (λ x. x + 1) s.0) f.1 s.1),
+)
+
+pub tag_held : (ks : List Kind) → (g : Option ℕ) → (a b : ℕ) → IsTag ks g → Spans (spell_tag g) a b → HoldsTag ks g a b
+tag_held ks None a b f s = s
+tag_held ks (Some n) a b f s = (s.0, ap (λ x. is_word (kind_at ks x)) (sym s.0) ∙ f, s.1)
 
 mutual
   pub held : (ks : List Kind) → (t : Tree) → (a b : ℕ) → IsFormed ks t → Spans (spell t) a b → Holds ks t a b
@@ -293,7 +305,14 @@ mutual
   held_specifying ks y (Word_of n) a b f s = (s.0, ap (λ x. specifies_at ks x) (sym s.0) ∙ f, s.1)
   held_specifying ks y (Typedef_of n) a b f s = (s.0, f.0, ap (λ x. is_typedef (kind_at ks x)) (sym s.0) ∙ f.1, s.1)
   held_specifying ks y (Tag_of k n) a b f s =
-      (s.0, ap (λ x. kind_at ks x) (sym s.0) ∙ f.0, s.1.0, f.1, s.1.1 ∙ ap (λ x. x + 1) (sym s.1.0))
+      let end = s.1.1 ∙ ap (λ x. x + 1) (sym s.1.0) in (
+        s.0,
+        ap (λ x. is_tagging (kind_at ks x)) (sym s.0) ∙ f.0,
+        s.1.0,
+        f.1,
+        end,
+        subst (λ x. kind_at ks x ≡ OpenBrace → ⊥) (sym end) f.2,
+      )
   held_specifying ks y (Atomic_of k o t c) a b f s =
       let r = spans_split (spell_type t) (c ∷ []) ((a + 1) + 1) b s.1.1 in (
         s.0,
@@ -305,6 +324,149 @@ mutual
             (sym s.1.0)
             (subst (λ x. HoldsNaming ks false t ((a + 1) + 1) x) (sym r.back.0) (held_naming ks false t ((a + 1) + 1) r.at f.2 r.front)),
         f.3,
+        r.back.1 ∙ ap (λ x. x + 1) (sym r.back.0),
+      )
+  held_specifying ks y (Aligned_as_of k o t c) a b f s =
+      let r = spans_split (spell_type t) (c ∷ []) ((a + 1) + 1) b s.1.1 in (
+        s.0,
+        ap (λ x. kind_at ks x) (sym s.0) ∙ f.0,
+        s.1.0,
+        f.1,
+        subst
+            (λ x. HoldsNaming ks false t (x + 1) c)
+            (sym s.1.0)
+            (subst (λ x. HoldsNaming ks false t ((a + 1) + 1) x) (sym r.back.0) (held_naming ks false t ((a + 1) + 1) r.at f.2 r.front)),
+        f.3,
+        r.back.1 ∙ ap (λ x. x + 1) (sym r.back.0),
+      )
+  held_specifying ks y (Aligned_of k o t c) a b f s =
+      let r = spans_split (spell t) (c ∷ []) ((a + 1) + 1) b s.1.1 in (
+        s.0,
+        ap (λ x. kind_at ks x) (sym s.0) ∙ f.0,
+        s.1.0,
+        f.1,
+        f.2,
+        subst
+            (λ x. Holds ks t (x + 1) c)
+            (sym s.1.0)
+            (subst (λ x. Holds ks t ((a + 1) + 1) x) (sym r.back.0) (held ks t ((a + 1) + 1) r.at f.3 r.front)),
+        f.4,
+        r.back.1 ∙ ap (λ x. x + 1) (sym r.back.0),
+      )
+  held_specifying ks y (Members_of k g o ms c) a b f s =
+      let q = spans_split (spell_tag g) (o ∷ (spell_members ms ++ c ∷ [])) (a + 1) b s.1 in
+      let r = spans_split (spell_members ms) (c ∷ []) (q.at + 1) b q.back.1 in (
+        s.0,
+        ap (λ x. kind_at ks x) (sym s.0) ∙ f.0,
+        subst (λ x. HoldsTag ks g (a + 1) x) (sym q.back.0) (tag_held ks g (a + 1) q.at f.1 q.front),
+        f.2,
+        f.3,
+        subst
+            (λ x. HoldMembers ks ms (x + 1) c)
+            (sym q.back.0)
+            (subst (λ x. HoldMembers ks ms (q.at + 1) x) (sym r.back.0) (held_members ks ms (q.at + 1) r.at f.4 r.front)),
+        f.5,
+        r.back.1 ∙ ap (λ x. x + 1) (sym r.back.0),
+      )
+  held_specifying ks y (Enumerators_of k g o e es t c) a b f s = f
+
+  pub held_member : (ks : List Kind) → (x : Member) → (a b : ℕ) → IsMember ks x → Spans (spell_member x) a b → HoldsMember ks x a b
+  held_member ks (Bare_of ss e) a b f s =
+      let r = spans_split (spell_specifyings ss) (e ∷ []) a b s in (
+        f.0,
+        subst (λ x. HoldSpecifyings ks false ss a x) (sym r.back.0) (held_specifyings ks false ss a r.at f.1 r.front),
+        f.2,
+        f.3,
+        r.back.1 ∙ ap (λ x. x + 1) (sym r.back.0),
+      )
+  held_member ks (Fields_of ss g gs e) a b f s =
+      let r = spans_split (spell_specifyings ss) (spell_field g ++ (spell_fields gs ++ e ∷ [])) a b s in
+      let q = spans_split (spell_field g) (spell_fields gs ++ e ∷ []) r.at b r.back in
+      let p = spans_split (spell_fields gs) (e ∷ []) q.at b q.back in (
+        r.at,
+        q.at,
+        f.0,
+        held_specifyings ks false ss a r.at f.1 r.front,
+        f.2,
+        held_field ks (not (typed_by ks false ss)) g r.at q.at f.3 q.front,
+        subst (λ x. HoldFields ks gs q.at x) (sym p.back.0) (held_fields ks gs q.at p.at f.4 p.front),
+        f.5,
+        p.back.1 ∙ ap (λ x. x + 1) (sym p.back.0),
+      )
+  held_member ks (Asserted_of x) a b f s = held_assertion ks x a b f s
+
+  pub held_members : (ks : List Kind) → (xs : Members) → (a b : ℕ) → AreMembers ks xs → Spans (spell_members xs) a b → HoldMembers ks xs a b
+  held_members ks No_members a b f s = s
+  held_members ks (Member_then x xs) a b f s =
+      let r = spans_split (spell_member x) (spell_members xs) a b s in
+      (r.at, held_member ks x a r.at f.0 r.front, held_members ks xs r.at b f.1 r.back)
+
+  pub held_field : (ks : List Kind) → (y : Bool) → (g : Field) → (a b : ℕ) → IsField ks y g → Spans (spell_field g) a b → HoldsField ks y g a b
+  held_field ks y (Declared_of d) a b f s = held_declarator ks y d a b f s
+  held_field ks y (Bits_of d c w) a b f s =
+      let r = spans_split (spell_declaring d) (c ∷ spell w) a b s in (
+        subst (λ x. HoldsDeclarator ks y d a x) (sym r.back.0) (held_declarator ks y d a r.at f.0 r.front),
+        f.1,
+        f.2,
+        subst (λ x. Holds ks w (x + 1) b) (sym r.back.0) (held ks w (r.at + 1) b f.3 r.back.1),
+      )
+  held_field ks y (Padding_of c w) a b f s = (s.0, ap (λ x. kind_at ks x) (sym s.0) ∙ f.0, f.1, held ks w (a + 1) b f.2 s.1)
+
+  pub held_fields : (ks : List Kind) → (gs : Fields) → (a b : ℕ) → AreFields ks gs → Spans (spell_fields gs) a b → HoldFields ks gs a b
+  held_fields ks No_fields a b f s = s
+  held_fields ks (Field_then o g gs) a b f s =
+      let r = spans_split (spell_field g) (spell_fields gs) (a + 1) b s.1 in (
+        r.at,
+        s.0,
+        ap (λ x. kind_at ks x) (sym s.0) ∙ f.0,
+        held_field ks false g (a + 1) r.at f.1 r.front,
+        held_fields ks gs r.at b f.2 r.back,
+      )
+
+  pub held_assertion : (ks : List Kind) → (x : Assertion) → (a b : ℕ) → IsAsserted ks x → Spans (spell_assertion x) a b → HoldsAssertion ks x a b
+  held_assertion ks (Assertion_of k o t c ns p e) a b f s =
+      let r = spans_split (spell t) (c ∷ (ns ++ (p ∷ e ∷ []))) ((a + 1) + 1) b s.1.1 in
+      let q = spans_split ns (p ∷ e ∷ []) (r.at + 1) b r.back.1 in
+      let text = texts_held ks ns (r.at + 1) q.at f.5 q.front in (
+        s.0,
+        ap (λ x. kind_at ks x) (sym s.0) ∙ f.0,
+        s.1.0,
+        f.1,
+        f.2,
+        subst
+            (λ x. Holds ks t (x + 1) c)
+            (sym s.1.0)
+            (subst (λ x. Holds ks t ((a + 1) + 1) x) (sym r.back.0) (held ks t ((a + 1) + 1) r.at f.3 r.front)),
+        f.4,
+        omega (arith, text.0, r.back.0, q.back.0),
+        subst (λ x. HoldTexts ks ns (x + 1) p) (sym r.back.0) (subst (λ x. HoldTexts ks ns (r.at + 1) x) (sym q.back.0) text.1),
+        f.6,
+        q.back.1.0 ∙ ap (λ x. x + 1) (sym q.back.0),
+        f.7,
+        q.back.1.1 ∙ ap (λ x. x + 1) (sym q.back.1.0),
+      )
+
+  pub held_declarator : (ks : List Kind) → (y : Bool) → (d : Declaring) → (a b : ℕ) → IsDeclarator ks y d → Spans (spell_declaring d) a b
+      → HoldsDeclarator ks y d a b
+  held_declarator ks y (Declaring_of ps g ds) a b f s =
+      let r = spans_split (spell_pointers ps) (spell_grouping g ++ spell_derivings ds) a b s in
+      let q = spans_split (spell_grouping g) (spell_derivings ds) r.at b r.back in (
+        r.at,
+        q.at,
+        pointers_held ks ps a r.at f.0 r.front,
+        held_direct ks (plain_behind y ps) g r.at q.at f.1 q.front,
+        held_derivings ks ds q.at b f.2 q.back,
+      )
+
+  pub held_direct : (ks : List Kind) → (y : Bool) → (g : Grouping) → (a b : ℕ) → IsDirect ks y g → Spans (spell_grouping g) a b → HoldsDirect ks y g a b
+  held_direct ks y No_group a b f s = f
+  held_direct ks y (Named_of n) a b f s = (s.0, ap (λ x. names_it y (kind_at ks x)) (sym s.0) ∙ f, s.1)
+  held_direct ks y (Group_of o d c) a b f s =
+      let r = spans_split (spell_declaring d) (c ∷ []) (a + 1) b s.1 in (
+        s.0,
+        ap (λ x. kind_at ks x) (sym s.0) ∙ f.0,
+        subst (λ x. HoldsDeclarator ks false d (a + 1) x) (sym r.back.0) (held_declarator ks false d (a + 1) r.at f.1 r.front),
+        f.2,
         r.back.1 ∙ ap (λ x. x + 1) (sym r.back.0),
       )
 

@@ -1,4 +1,5 @@
 mod Abstract
+mod DeclaratorReading
 mod FirstLemmas
 mod Formed
 mod Forth
@@ -14,6 +15,9 @@ mod Initials
 mod Joins
 mod KindLemmas
 mod Marks
+mod MemberLists
+mod MemberReading
+mod NamedReading
 mod NameLists
 mod Numbers
 mod OneReading

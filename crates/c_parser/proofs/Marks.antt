@@ -1,7 +1,7 @@
 -- Kinds told apart.
 use Rattle.std.proofs.Common.{◌≡◌, refl, ap, sym, ◌∙◌, subst, ℕ, ◌<◌, List, arith, Bool, true, false, true≢false}
 use Rattle.c_parser.specs.declared.kinds.Kind.{Kind}
-use Rattle.c_parser.specs.declared.kinds.Kind.TheVariants.{Identifier, TypeName, TypeWord, Qualifier, Tag, AlignOf, Constant, Text, OpenParen, CloseParen, OpenBracket, CloseBracket, Member, Step, Ampersand, Star, Sign, Complement, SizeOf, Quotient, Shift, Relation, Equality, Caret, Bar, And, Or, Question, Colon, Assignment, Comma, OpenBrace, CloseBrace, Dot, Equals, Generic, OffsetOf, Default, Atomic, Static, Storage, End, Ellipsis, Typedef, Semicolon}
+use Rattle.c_parser.specs.declared.kinds.Kind.TheVariants.{Identifier, TypeName, TypeWord, Qualifier, Tag, AlignOf, Constant, Text, OpenParen, CloseParen, OpenBracket, CloseBracket, Member, Step, Ampersand, Star, Sign, Complement, SizeOf, Quotient, Shift, Relation, Equality, Caret, Bar, And, Or, Question, Colon, Assignment, Comma, OpenBrace, CloseBrace, Dot, Equals, Generic, OffsetOf, Default, Atomic, Static, Storage, End, Ellipsis, Typedef, Semicolon, Enum, Align, Assert}
 use Rattle.c_parser.specs.Kinds.{kind_at, level_of, is_prefix, is_size, is_suffix, is_opening, starts_type, is_dot, is_equals, is_member, is_designating}
 use Rattle.c_parser.specs.Reading.{Stops}
 
@@ -43,6 +43,9 @@ code_of End = 33
 code_of Ellipsis = 34
 code_of Typedef = 36
 code_of Semicolon = 37
+code_of Enum = 38
+code_of Align = 39
+code_of Assert = 40
 code_of _ = 0
 
 -- no two kinds of these are the same
@@ -191,6 +194,8 @@ pub no_type : (k : Kind) → is_start k ≡ true → starts_type k ≡ false
 no_type TypeWord h = absurd (true≢false (sym h))
 no_type Qualifier h = absurd (true≢false (sym h))
 no_type Tag h = absurd (true≢false (sym h))
+no_type Enum h = absurd (true≢false (sym h))
+no_type Align h = absurd (true≢false (sym h))
 no_type (TypeName n) h = absurd (true≢false (sym h))
 no_type Atomic h = absurd (true≢false (sym h))
 no_type Storage h = absurd (true≢false (sym h))

@@ -13,7 +13,7 @@ use Rattle.c_parser.specs.TypeNames.{RowEnd, at_close, at_dots, FoundParameters,
 use Rattle.c_parser.proofs.Abstract.{OnlyParameters, FailsParameters}
 use Rattle.c_parser.proofs.Marks.{clash}
 use Rattle.c_parser.proofs.SpecifierLists.{FailsNaming}
-use Rattle.c_parser.proofs.TypeReading.{parameters_view, Parametered, none_told, some_told, Closing, fixed, variadic, no_parameter, names_told, row_moved, past_ends}
+use Rattle.c_parser.proofs.DeclaratorReading.{parameters_view, Parametered, Closing, no_parameter, row_moved, past_ends, none_told, some_told, fixed, variadic, names_told}
 use Rattle.c_parser.proofs.Types.{naming_starts}
 use Rattle.c_parser.proofs.Words.{test_inside}
 use Rattle.c_parser.specs.Grammar.{past, name_by}

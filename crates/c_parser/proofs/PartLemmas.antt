@@ -1,57 +1,27 @@
 -- What expressions and declarations give to statements.
 use Rattle.std.proofs.Common.{◌≡◌, refl, ap, sym, ◌∙◌, subst, ℕ, ◌+◌, ◌<◌, ◌≤◌, List, [], ◌∷◌, length, arith, Option, Some, None, Bool, true, false, not, ◌||◌, true≢false}
-use Rattle.tree_data.specs.Trees.{Tree, Declaring, Declaring_of, Grouping, No_group, Named_of, Group_of, Specifying, Word_of, Typedef_of, Tag_of, Atomic_of, Specifyings, No_specifiers, Specifier_then, Initial, Assertion, Assertion_of, Heading, Declares_of, Asserts_of}
+use Rattle.tree_data.specs.Trees.{Tree, Declaring, Declaring_of, Grouping, No_group, Named_of, Group_of, Specifying, Word_of, Typedef_of, Tag_of, Atomic_of, Specifyings, No_specifiers, Specifier_then, Initial, Assertion, Assertion_of, Heading, Declares_of, Asserts_of, Aligned_as_of, Aligned_of, Members_of, Enumerators_of}
 use Rattle.c_parser.specs.declared.kinds.Kind.{Kind}
-use Rattle.c_parser.specs.declared.kinds.Kind.TheVariants.{Identifier, TypeName, TypeWord, Qualifier, Tag, Atomic, Storage, Typedef, Static, Assert, Constant, Text, OpenParen, CloseParen, Step, Ampersand, Star, Sign, Complement, SizeOf, AlignOf, Generic, OffsetOf, Colon, Comma, Semicolon, OpenBrace, Equals}
+use Rattle.c_parser.specs.declared.kinds.Kind.TheVariants.{Identifier, TypeName, TypeWord, Qualifier, Tag, Atomic, Storage, Typedef, Static, Assert, Constant, Text, OpenParen, CloseParen, Step, Ampersand, Star, Sign, Complement, SizeOf, AlignOf, Generic, OffsetOf, Colon, Comma, Semicolon, OpenBrace, Equals, Enum, Align}
 use Rattle.c_parser.specs.Grammar.{AreSome, has_type, typed_by}
-use Rattle.c_parser.specs.Heads.{names_it, plain_behind, HoldsDeclarator, HoldsDirect, HoldsValue, HoldsOne, HoldOthers, HoldAll, Closes, Leading, leading_of, past, past_all, freely, HoldsAssertion, HoldsHead, past_head}
+use Rattle.c_parser.specs.Heads.{HoldsValue, HoldsOne, HoldOthers, HoldAll, Closes, Leading, leading_of, past, past_all, freely, HoldsHead, past_head}
 use Rattle.c_parser.specs.Kinds.{kind_at, is_word, is_equals, ends_type, ends_specifiers, starts_type}
 use Rattle.c_parser.specs.HeadsFound.{ends_one, ends_all}
 use Rattle.c_parser.specs.Parts.{PartsLaw, IsBlind, HoldsDeclaration, past_declaration, is_declaration, starts_expression, starts_declaration}
-use Rattle.c_parser.specs.Reading.{Holds, HoldTexts, HoldPointers, HoldDerivings, HoldSpecifying, HoldSpecifyings, HoldsInitial, Reads, Stops}
+use Rattle.c_parser.specs.Reading.{Holds, HoldsTag, HoldSpecifying, HoldSpecifyings, HoldsInitial, Reads, Stops}
 use Rattle.c_parser.specs.Words.{Words, shown, kind_in}
-use Rattle.c_parser.proofs.HeadDeclarators.{OnlyDeclarator, OnlyDirect, name_same, direct_same, direct_begins, declarator_starts, starts_declarator}
+use Rattle.c_parser.proofs.HeadDeclarators.{OnlyDeclarator}
+use Rattle.c_parser.proofs.NamedReading.{declarator_only, declarator_starts, starts_declarator}
 use Rattle.c_parser.proofs.HeadLists.{Piece, OnlyValue, OnlyOne, OnlyAll, value_none, value_same, one_same, ends_here, ends_last, ends_behind}
 use Rattle.c_parser.proofs.HeadWholes.{OnlyFront, OnlyDeclared, OnlyHead, OnlyAssertion, none_same, semicolon_same, brace_same, declares_same, asserts_same, specifiers_end, some_starts, closes_ends, asserts_first, was_assert, shown_assert}
 use Rattle.c_parser.proofs.HeadWords.{plain_at, past_kinds}
 use Rattle.c_parser.proofs.Marks.{is_start, stops_at}
-use Rattle.c_parser.proofs.SameParts.{Only, texts_only}
-use Rattle.c_parser.proofs.TypeReading.{everywhere, derivings_only, specifyings_only, no_star, no_qualifier}
-use Rattle.c_parser.proofs.Types.{pointers_only, starting}
+use Rattle.c_parser.proofs.SameParts.{Only}
+use Rattle.c_parser.proofs.MemberReading.{specifyings_only, assertion_only}
+use Rattle.c_parser.proofs.TypeReading.{everywhere}
+use Rattle.c_parser.proofs.Types.{starting}
 use Rattle.c_parser.proofs.Uniqueness.{reads_only, initial_only}
 use Rattle.c_parser.proofs.Views.{starts}
-
--- declarators
-declarator_pointers : (ks : List Kind) → (y : Bool) → (ps : List (ℕ × List ℕ)) → (g : Grouping) → (a m n : ℕ) → HoldPointers ks ps a m
-    → HoldsDirect ks (plain_behind y ps) g m n → (ps' : List (ℕ × List ℕ)) → (g' : Grouping) → (m' n' : ℕ) → HoldPointers ks ps' a m'
-    → HoldsDirect ks (plain_behind y ps') g' m' n' → (ps ≡ ps') × (m ≡ m')
-declarator_pointers ks y ps g a m n h i ps' g' m' n' h' i' =
-    let begun = direct_begins ks (plain_behind y ps) g m n i in
-    let begun' = direct_begins ks (plain_behind y ps') g' m' n' i' in
-    pointers_only ks ps a m h (no_star ks m begun) (no_qualifier ks m begun) ps' m' h' (no_star ks m' begun') (no_qualifier ks m' begun')
-
-mutual
-  declarator_only : (ks : List Kind) → (y : Bool) → (d : Declaring) → (a b : ℕ) → HoldsDeclarator ks y d a b → ends_type (kind_at ks b) ≡ true
-      → OnlyDeclarator ks y a d b
-  declarator_only ks y (Declaring_of ps g ds) a b h e (Declaring_of ps' g' ds') b' h' e' =
-      let one = declarator_pointers ks y ps g a h.0 h.1 h.2 h.3 ps' g' h'.0 h'.1 h'.2 h'.3 in
-      let moved : HoldsDirect ks (plain_behind y ps) g' h.0 h'.1 =
-      subst (λ x. HoldsDirect ks (plain_behind y x) g' h.0 h'.1) (sym one.0)
-      (subst (λ x. HoldsDirect ks (plain_behind y ps') g' x h'.1) (sym one.1) h'.3) in
-      let two = direct_only ks (plain_behind y ps) g h.0 h.1 h.3 g' h'.1 moved in
-      let three = derivings_only ks ds h.1 b (everywhere ks h.1) h.4 e ds' b' (subst (λ x. HoldDerivings ks ds' x b') (sym two.1) h'.4) e' in (
-        ap (λ x. Declaring_of x g ds) one.0 ∙ ap (λ x. Declaring_of ps' x ds) two.0 ∙ ap (λ x. Declaring_of ps' g' x) three.0,
-        three.1,
-      )
-
-  direct_only : (ks : List Kind) → (y : Bool) → (g : Grouping) → (a m : ℕ) → HoldsDirect ks y g a m → OnlyDirect ks y a g m
-  direct_only ks y No_group a m h g' m' h' = absurd h
-  direct_only ks y (Named_of n) a m h g' m' h' =
-      let same = name_same ks y a h.1 g' m' h' in
-      (ap Named_of h.0 ∙ same.0, h.2 ∙ same.1)
-  direct_only ks y (Group_of o d c) a m h g' m' h' =
-      let same = direct_same ks y a h.1 d c (declarator_only ks false d (a + 1) c h.2 (ap ends_type h.3)) g' m' h' in
-      (ap (λ x. Group_of x d c) h.0 ∙ same.0, h.4 ∙ same.1)
 
 -- with their initializers
 equals_here : (k : Kind) → is_equals k ≡ true → k ≡ Equals
@@ -77,7 +47,7 @@ value_only ks (Some i) a b h e i' b' h' e' =
 one_only : (w : Words) → (s : Leading) → (d : Declaring) → (i : Option Initial) → (a b : ℕ) → HoldsOne w s d i a b → ends_one (kind_at w.kinds b) ≡ true
     → OnlyOne w s a d i b
 one_only w s d i a b h e =
-    one_same w s a d h.0 (declarator_only (shown w) (not s.typed) d a h.0 h.1 (ends_here w s d i h.0 b h.2 e)) (past w s d) refl i b
+    one_same w s a d h.0 (declarator_only (shown w) (not s.typed) d a h.0 (everywhere (shown w) a) h.1 (ends_here w s d i h.0 b h.2 e)) (past w s d) refl i b
     (value_only (shown (past w s d)) i h.0 b h.2 (ends_behind w s d b e))
 
 comma_ends : (w : Words) → (a : ℕ) → kind_at w.kinds a ≡ Comma → ends_one (kind_at w.kinds a) ≡ true
@@ -149,24 +119,6 @@ front_only : (ks : List Kind) → (ss : Specifyings) → (a m : ℕ) → HoldSpe
 front_only ks ss a m h e ss' m' some h' e' = specifyings_only ks false ss a m (everywhere ks (a + 1)) h e ss' m' h' e'
 
 -- a static assertion
-assertion_only : (ks : List Kind) → (x : Assertion) → (a b : ℕ) → HoldsAssertion ks x a b → OnlyAssertion ks a x b
-assertion_only ks (Assertion_of k o t c ns p e) a b h (Assertion_of k' o' t' c' ns' p' e') b' h' =
-    let one : o ≡ o' = h.2 ∙ sym h'.2 in
-    let test =
-    reads_only ks 3 t (o + 1) c (omega arith) (h.4, h.5) (stops_at ks 3 c Comma h.6 (omega arith)) t' c'
-    (h'.4, subst (λ x. Holds ks t' (x + 1) c') (sym one) h'.5) (stops_at ks 3 c' Comma h'.6 (omega arith)) in
-    let text = texts_only ks ns (c + 1) p h.8 ns' p' (subst (λ x. HoldTexts ks ns' (x + 1) p') (sym test.1) h'.8) in
-    let last : e ≡ e' = h.10 ∙ ap (λ x. x + 1) text.1 ∙ sym h'.10 in (
-      ap (λ x. Assertion_of x o t c ns p e) (h.0 ∙ sym h'.0)
-          ∙ ap (λ x. Assertion_of k' x t c ns p e) one
-          ∙ ap (λ x. Assertion_of k' o' x c ns p e) test.0
-          ∙ ap (λ x. Assertion_of k' o' t' x ns p e) test.1
-          ∙ ap (λ x. Assertion_of k' o' t' c' x p e) text.0
-          ∙ ap (λ x. Assertion_of k' o' t' c' ns' x e) text.1
-          ∙ ap (λ x. Assertion_of k' o' t' c' ns' p' x) last,
-      h.12 ∙ ap (λ x. x + 1) last ∙ sym h'.12,
-    )
-
 type_no_assert : (ks : List Kind) → (a : ℕ) → starts_type (kind_at ks a) ≡ true → kind_at ks a ≡ Assert → ⊥
 type_no_assert ks a h k = true≢false (sym h ∙ ap starts_type k)
 
@@ -179,7 +131,7 @@ heads_only w (Declares_of ss ds body) a b h d' b' h' =
     (declared_only w (leading_of (shown w) ss) ds body h.0 h.1 h.4 h.5) d' b' h' in
     (same.0, h.6 ∙ same.1)
 heads_only w (Asserts_of x) a b h d' b' h' =
-    asserts_same w a (was_assert w a (asserts_first (shown w) x a b h)) x b (assertion_only (shown w) x a b h) d' b' h'
+    asserts_same w a (was_assert w a (asserts_first (shown w) x a b h)) x b (assertion_only (shown w) x a b (everywhere (shown w) a) h) d' b' h'
 
 -- what they begin with
 start_expression : (k : Kind) → is_start k ≡ true → starts_expression k ≡ true
@@ -202,6 +154,8 @@ type_declares : (k : Kind) → starts_type k ≡ true → starts_declaration k �
 type_declares TypeWord h = refl
 type_declares Qualifier h = refl
 type_declares Tag h = refl
+type_declares Enum h = refl
+type_declares Align h = refl
 type_declares (TypeName n) h = refl
 type_declares Atomic h = refl
 type_declares Storage h = refl
@@ -241,6 +195,14 @@ word_colon_not k h e = true≢false (sym h ∙ ap is_word e)
 paren_colon_not : (k : Kind) → k ≡ OpenParen → k ≡ Colon → ⊥
 paren_colon_not k e f = true≢false (sym (ap is_colon f) ∙ ap is_colon e)
 
+brace_colon_not : (k : Kind) → k ≡ OpenBrace → k ≡ Colon → ⊥
+brace_colon_not k e f = true≢false (sym (ap is_colon f) ∙ ap is_colon e)
+
+-- behind `struct`
+tag_colon_not : (w : Words) → (g : Option ℕ) → (a o : ℕ) → HoldsTag (shown w) g (a + 1) o → kind_in w o ≡ OpenBrace → kind_in w (a + 1) ≡ Colon → ⊥
+tag_colon_not w None a o h e k = brace_colon_not (kind_in w (a + 1)) (ap (kind_in w) (sym h) ∙ e) k
+tag_colon_not w (Some n) a o h e k = word_colon_not (kind_in w (a + 1)) h.1 k
+
 -- behind the first specifier, if it is one token
 second_on : (w : Words) → (y : Bool) → (s : Leading) → (ss : Specifyings) → (ds : List Piece) → (body : Bool) → (a p m n : ℕ) → p ≡ a + 1
     → HoldSpecifyings (shown w) y ss p m → HoldAll w s ds m n → Closes w.kinds ds body n → kind_in w (a + 1) ≡ Colon → ⊥
@@ -256,6 +218,12 @@ first_unlabelled w s (Tag_of i j) ss ds body a p m n f h g c k =
     word_colon_not (kind_in w (a + 1)) (ap (λ x. is_word (kind_in w x)) (sym f.2) ∙ f.3) k
 first_unlabelled w s (Atomic_of i o t j) ss ds body a p m n f h g c k =
     paren_colon_not (kind_in w (a + 1)) (ap (kind_in w) (sym f.2) ∙ f.3) k
+first_unlabelled w s (Aligned_as_of i o t j) ss ds body a p m n f h g c k =
+    paren_colon_not (kind_in w (a + 1)) (ap (kind_in w) (sym f.2) ∙ f.3) k
+first_unlabelled w s (Aligned_of i o t j) ss ds body a p m n f h g c k =
+    paren_colon_not (kind_in w (a + 1)) (ap (kind_in w) (sym f.2) ∙ f.3) k
+first_unlabelled w s (Members_of i x o ms j) ss ds body a p m n f h g c k = tag_colon_not w x a o f.2 f.3 k
+first_unlabelled w s (Enumerators_of i x o e es t j) ss ds body a p m n f h g c k = f
 
 head_unlabelled : (w : Words) → (d : Heading) → (a b : ℕ) → HoldsHead w d a b → kind_in w (a + 1) ≡ Colon → ⊥
 head_unlabelled w (Declares_of No_specifiers ds body) a b h k = h.2

@@ -1,19 +1,18 @@
 -- Expressions and declarations as parts of statements, as the parser finds them.
 use Rattle.std.proofs.Common.{◌≡◌, refl, ap, sym, ◌∙◌, subst, ℕ, ◌+◌, ◌<◌, ◌≤◌, List, [], ◌∷◌, length, arith, Option, Some, None, Bool, true, false, not, true≢false}
-use Rattle.tree_data.specs.Trees.{Tree, Declaring, Declaring_of, Grouping, No_group, Named_of, Group_of, Derivings, No_derivings, Deriving_then, Initial, Plain_of, Assertion_of, Heading, Declares_of, Asserts_of}
+use Rattle.tree_data.specs.Trees.{Tree, Initial, Plain_of, Assertion_of, Heading, Declares_of, Asserts_of}
 use Rattle.c_parser.specs.declared.answers.Stop.{Stop}
 use Rattle.c_parser.specs.declared.kinds.Kind.{Kind}
-use Rattle.c_parser.specs.Heads.{HoldsDeclarator, HoldsDirect, plain_behind, HoldsValue, HoldsOne, HoldOthers, HoldAll, Leading, leading_of, past, freely, HoldsHead}
+use Rattle.c_parser.specs.Heads.{HoldsValue, HoldsOne, HoldOthers, HoldAll, Leading, leading_of, past, freely, HoldsHead}
 use Rattle.c_parser.specs.HeadsFound.{FoundHead}
 use Rattle.c_parser.specs.Parts.{FoundExpression, FoundDeclaration, HoldsDeclaration, is_declaration}
-use Rattle.c_parser.specs.Reading.{Holds, HoldDerivings, HoldsInitial, Reads, Stops, Found, IsWant}
+use Rattle.c_parser.specs.Reading.{HoldsInitial, Reads, Stops, Found, IsWant}
 use Rattle.c_parser.specs.Words.{Words, shown}
-use Rattle.c_parser.proofs.Forth.{tree_forth, deriving_forth, piece_forth, specifyings_forth}
+use Rattle.c_parser.proofs.Forth.{tree_forth, declarator_forth, piece_forth, specifyings_forth}
 use Rattle.c_parser.proofs.HeadLists.{Piece}
 use Rattle.c_parser.proofs.HeadWholes.{OnlyHead, FailsHead}
 use Rattle.c_parser.proofs.HeadWords.{shown_length}
 use Rattle.c_parser.proofs.SameParts.{Only}
-use Rattle.c_parser.proofs.Types.{pointers_forth}
 
 pub expression_found : (w : Words) → (ks : List Kind) → ks ≡ shown w → (n a : ℕ) → (t : Tree) → (b : ℕ) → Found ks n a t b → FoundExpression w n a t b
 expression_found w ks e n a t b f =
@@ -27,28 +26,6 @@ expression_found w ks e n a t b f =
     }
 
 -- a head ends behind the place where it begins
-derivings_forth : (ks : List Kind) → (ds : Derivings) → (a b : ℕ) → HoldDerivings ks ds a b → a ≤ b
-derivings_forth ks No_derivings a b h = omega (arith, h)
-derivings_forth ks (Deriving_then d ds) a b h =
-    let one : a ≤ h.0 = deriving_forth ks d a h.0 h.1 in
-    let two : h.0 ≤ b = derivings_forth ks ds h.0 b h.2 in
-    omega (arith, one, two)
-
-mutual
-  declarator_forth : (ks : List Kind) → (y : Bool) → (d : Declaring) → (a b : ℕ) → HoldsDeclarator ks y d a b → a ≤ b
-  declarator_forth ks y (Declaring_of ps g ds) a b h =
-      let one : a ≤ h.0 = pointers_forth ks ps a h.0 h.2 in
-      let two : h.0 ≤ h.1 = direct_forth ks (plain_behind y ps) g h.0 h.1 h.3 in
-      let three : h.1 ≤ b = derivings_forth ks ds h.1 b h.4 in
-      omega (arith, one, two, three)
-
-  direct_forth : (ks : List Kind) → (y : Bool) → (g : Grouping) → (a m : ℕ) → HoldsDirect ks y g a m → a ≤ m
-  direct_forth ks y No_group a m h = absurd h
-  direct_forth ks y (Named_of n) a m h = omega (arith, h.2)
-  direct_forth ks y (Group_of o d c) a m h =
-      let one : a + 1 ≤ c = declarator_forth ks false d (a + 1) c h.2 in
-      omega (arith, one, h.4)
-
 value_forth : (ks : List Kind) → (i : Option Initial) → (a b : ℕ) → HoldsValue ks i a b → a ≤ b
 value_forth ks None a b h = omega (arith, h)
 value_forth ks (Some i) a b h =

@@ -1,16 +1,16 @@
 -- What holds spells the numbers between.
-use Rattle.std.proofs.Common.{refl, ap, ◌∙◌, subst, ℕ, ◌+◌, List, [], ◌∷◌, ◌++◌, ◌||◌, Bool, true, false, Option, Some, None}
-use Rattle.tree_data.specs.Trees.{Tree, Name_of, Constant_of, Text_of, Paren_of, Postfix_of, Unary_of, Binary_of, Conditional_of, Assign_of, Of_type, Compound_of, Behind, Operand_of, Index_of, Call_of, Call_with_of, Member_of, Step_of, Behinds, None_behind, Behind_then, Front, Operator_of, Cast_of, Choice_of, Left_of, Fronts, None_before, Front_then, Braces, Braces_of, Initial, Value_of, List_of, Piece, Plain_of, Designated_of, Pieces, No_pieces, Piece_then, Designator, Element_of, Field_of, Designators, No_designators, Designator_then, Generic_of, Offset_of, Association, Typed_of, Default_of, Associations, No_associations, Association_then, Specifying, Word_of, Typedef_of, Tag_of, Atomic_of, Specifyings, No_specifiers, Specifier_then, Naming, Type_of, Declaring, Declaring_of, No_parameters, Fixed_of, Variadic_of, Names_of, Parameters, Row, No_more, Parameter_then, Named_of, Grouping, No_group, Group_of, Deriving, Array_of, Function_of, Derivings, No_derivings, Deriving_then, Bound, Unsized_of, Any_size_of, Sized_of, Static_sized_of, Sized_static_of}
+use Rattle.std.proofs.Common.{refl, ap, ◌∙◌, subst, ℕ, ◌+◌, List, [], ◌∷◌, ◌++◌, ◌||◌, not, Bool, true, false, Option, Some, None}
+use Rattle.tree_data.specs.Trees.{Tree, Name_of, Constant_of, Text_of, Paren_of, Postfix_of, Unary_of, Binary_of, Conditional_of, Assign_of, Of_type, Compound_of, Behind, Operand_of, Index_of, Call_of, Call_with_of, Member_of, Step_of, Behinds, None_behind, Behind_then, Front, Operator_of, Cast_of, Choice_of, Left_of, Fronts, None_before, Front_then, Braces, Braces_of, Initial, Value_of, List_of, Piece, Plain_of, Designated_of, Pieces, No_pieces, Piece_then, Designator, Element_of, Field_of, Designators, No_designators, Designator_then, Generic_of, Offset_of, Association, Typed_of, Default_of, Associations, No_associations, Association_then, Specifying, Word_of, Typedef_of, Tag_of, Atomic_of, Specifyings, No_specifiers, Specifier_then, Naming, Type_of, Declaring, Declaring_of, No_parameters, Fixed_of, Variadic_of, Names_of, Parameters, Row, No_more, Parameter_then, Named_of, Grouping, No_group, Group_of, Deriving, Array_of, Function_of, Derivings, No_derivings, Deriving_then, Bound, Unsized_of, Any_size_of, Sized_of, Static_sized_of, Sized_static_of, Aligned_as_of, Aligned_of, Members_of, Enumerators_of, Member, Bare_of, Fields_of, Asserted_of, Members, No_members, Member_then, Field, Declared_of, Bits_of, Padding_of, Fields, No_fields, Field_then, Assertion, Assertion_of}
 use Rattle.c_parser.specs.declared.kinds.Kind.{Kind}
-use Rattle.c_parser.specs.Grammar.{spell, spell_behind, spell_behinds, spell_front, spell_fronts, spell_comma, spell_braces, spell_initial, spell_piece, spell_pieces, spell_designator, spell_designators, spell_association, spell_associations, spell_specifying, spell_specifyings, spell_type, spell_declaring, spell_grouping, spell_deriving, spell_derivings, spell_bound, has_type, spell_parameters, spell_row, typed_by, past}
+use Rattle.c_parser.specs.Grammar.{spell, spell_behind, spell_behinds, spell_front, spell_fronts, spell_comma, spell_braces, spell_initial, spell_piece, spell_pieces, spell_designator, spell_designators, spell_association, spell_associations, spell_specifying, spell_specifyings, spell_type, spell_declaring, spell_grouping, spell_deriving, spell_derivings, spell_bound, has_type, spell_parameters, spell_row, typed_by, past, spell_tag, spell_member, spell_members, spell_field, spell_fields, spell_assertion}
 use Rattle.c_parser.specs.Levels.{behinds_level}
 use Rattle.c_parser.specs.Declarators.{spell_pointers}
 use Rattle.c_parser.proofs.Numbers.{Spans, spans_join}
 use Rattle.c_parser.proofs.NameLists.{names_spanned}
 use Rattle.c_parser.proofs.Types.{qualifiers_spanned, pointers_spanned}
-use Rattle.c_parser.specs.Reading.{HoldTexts, Holds, HoldsBehind, HoldBehinds, HoldsFront, HoldFronts, HoldsComma, HoldBraces, HoldsInitial, HoldsPiece, HoldPieces, HoldsDesignator, HoldDesignators, HoldsAssociation, HoldAssociations, HoldSpecifying, HoldSpecifyings, HoldsNaming, HoldParameters, HoldRow, HoldsDeclaring, HoldsGrouping, HoldsDeriving, HoldDerivings, HoldsBound}
+use Rattle.c_parser.specs.Reading.{HoldTexts, Holds, HoldsBehind, HoldBehinds, HoldsFront, HoldFronts, HoldsComma, HoldBraces, HoldsInitial, HoldsPiece, HoldPieces, HoldsDesignator, HoldDesignators, HoldsAssociation, HoldAssociations, HoldSpecifying, HoldSpecifyings, HoldsNaming, HoldParameters, HoldRow, HoldsDeclaring, HoldsGrouping, HoldsDeriving, HoldDerivings, HoldsBound, HoldsTag, HoldsMember, HoldMembers, HoldsField, HoldFields, HoldsAssertion, HoldsDeclarator, HoldsDirect}
 use Rattle.c_parser.specs.declared.kinds.Named.{Named}
-use Rattle.c_parser.specs.Kinds.{named_by, grouped, behind_pointers}
+use Rattle.c_parser.specs.Kinds.{named_by, grouped, behind_pointers, plain_behind}
 
 pub comma_spanned : (ks : List Kind) → (t : Option ℕ) → (a b : ℕ) → HoldsComma ks t a b → Spans (spell_comma t) a b
 comma_spanned ks None a b h = h
@@ -19,6 +19,10 @@ comma_spanned ks (Some o) a b h = (h.0, h.2)
 pub texts_span : (ks : List Kind) → (ns : List ℕ) → (a b : ℕ) → HoldTexts ks ns a b → Spans ns a b
 texts_span ks [] a b h = h.0
 texts_span ks (n ∷ ns) a b h = (h.0, texts_span ks ns (a + 1) b h.2)
+
+pub tag_spanned : (ks : List Kind) → (g : Option ℕ) → (a b : ℕ) → HoldsTag ks g a b → Spans (spell_tag g) a b
+tag_spanned ks None a b h = h
+tag_spanned ks (Some n) a b h = (h.0, h.2)
 
 mutual
   pub spanned : (ks : List Kind) → (t : Tree) → (a b : ℕ) → Holds ks t a b → Spans (spell t) a b
@@ -274,6 +278,120 @@ mutual
           (spans_join (spell_type t) (c ∷ []) (o + 1) c b (spanned_naming ks false t (o + 1) c h.4) (refl, h.6)),
     ),
   )
+  spanned_specifying ks y (Aligned_as_of k o t c) a b h = (
+    h.0,
+    (
+      h.2,
+      subst
+          (λ x. Spans (spell_type t ++ c ∷ []) x b)
+          (ap (λ x. x + 1) h.2)
+          (spans_join (spell_type t) (c ∷ []) (o + 1) c b (spanned_naming ks false t (o + 1) c h.4) (refl, h.6)),
+    ),
+  )
+  spanned_specifying ks y (Aligned_of k o t c) a b h = (
+    h.0,
+    (
+      h.2,
+      subst
+          (λ x. Spans (spell t ++ c ∷ []) x b)
+          (ap (λ x. x + 1) h.2)
+          (spans_join (spell t) (c ∷ []) (o + 1) c b (spanned ks t (o + 1) c h.5) (refl, h.7)),
+    ),
+  )
+  spanned_specifying ks y (Members_of k g o ms c) a b h = (
+    h.0,
+    spans_join
+        (spell_tag g)
+        (o ∷ (spell_members ms ++ c ∷ []))
+        (a + 1)
+        o
+        b
+        (tag_spanned ks g (a + 1) o h.2)
+        (refl, spans_join (spell_members ms) (c ∷ []) (o + 1) c b (spanned_members ks ms (o + 1) c h.5) (refl, h.7)),
+  )
+  spanned_specifying ks y (Enumerators_of k g o e es t c) a b h = absurd h
+
+  pub spanned_member : (ks : List Kind) → (x : Member) → (a b : ℕ) → HoldsMember ks x a b → Spans (spell_member x) a b
+  spanned_member ks (Bare_of ss e) a b h =
+      spans_join (spell_specifyings ss) (e ∷ []) a e b (spanned_specifyings ks false ss a e h.1) (refl, h.4)
+  spanned_member ks (Fields_of ss f fs e) a b h =
+      spans_join
+      (spell_specifyings ss)
+      (spell_field f ++ (spell_fields fs ++ e ∷ []))
+      a
+      h.0
+      b
+      (spanned_specifyings ks false ss a h.0 h.3)
+      (spans_join
+      (spell_field f)
+      (spell_fields fs ++ e ∷ [])
+      h.0
+      h.1
+      b
+      (spanned_field ks (not (typed_by ks false ss)) f h.0 h.1 h.5)
+      (spans_join (spell_fields fs) (e ∷ []) h.1 e b (spanned_fields ks fs h.1 e h.6) (refl, h.8)))
+  spanned_member ks (Asserted_of x) a b h = spanned_assertion ks x a b h
+
+  pub spanned_members : (ks : List Kind) → (xs : Members) → (a b : ℕ) → HoldMembers ks xs a b → Spans (spell_members xs) a b
+  spanned_members ks No_members a b h = h
+  spanned_members ks (Member_then x xs) a b h =
+      spans_join (spell_member x) (spell_members xs) a h.0 b (spanned_member ks x a h.0 h.1) (spanned_members ks xs h.0 b h.2)
+
+  pub spanned_field : (ks : List Kind) → (y : Bool) → (f : Field) → (a b : ℕ) → HoldsField ks y f a b → Spans (spell_field f) a b
+  spanned_field ks y (Declared_of d) a b h = spanned_declarator ks y d a b h
+  spanned_field ks y (Bits_of d c w) a b h =
+      spans_join (spell_declaring d) (c ∷ spell w) a c b (spanned_declarator ks y d a c h.0) (refl, spanned ks w (c + 1) b h.3)
+  spanned_field ks y (Padding_of c w) a b h = (h.0, spanned ks w (a + 1) b h.3)
+
+  pub spanned_fields : (ks : List Kind) → (fs : Fields) → (a b : ℕ) → HoldFields ks fs a b → Spans (spell_fields fs) a b
+  spanned_fields ks No_fields a b h = h
+  spanned_fields ks (Field_then o f fs) a b h = (
+    h.1,
+    spans_join (spell_field f) (spell_fields fs) (a + 1) h.0 b (spanned_field ks false f (a + 1) h.0 h.3) (spanned_fields ks fs h.0 b h.4),
+  )
+
+  pub spanned_assertion : (ks : List Kind) → (x : Assertion) → (a b : ℕ) → HoldsAssertion ks x a b → Spans (spell_assertion x) a b
+  spanned_assertion ks (Assertion_of k o t c ns p e) a b h = (
+    h.0,
+    (
+      h.2,
+      subst
+          (λ x. Spans (spell t ++ (c ∷ (ns ++ (p ∷ e ∷ [])))) x b)
+          (ap (λ x. x + 1) h.2)
+          (spans_join
+          (spell t)
+          (c ∷ (ns ++ (p ∷ e ∷ [])))
+          (o + 1)
+          c
+          b
+          (spanned ks t (o + 1) c h.5)
+          (refl, spans_join ns (p ∷ e ∷ []) (c + 1) p b (texts_span ks ns (c + 1) p h.8) (refl, (h.10, h.12 ∙ ap (λ x. x + 1) h.10)))),
+    ),
+  )
+
+  pub spanned_declarator : (ks : List Kind) → (y : Bool) → (d : Declaring) → (a b : ℕ) → HoldsDeclarator ks y d a b → Spans (spell_declaring d) a b
+  spanned_declarator ks y (Declaring_of ps g ds) a b h =
+      spans_join
+      (spell_pointers ps)
+      (spell_grouping g ++ spell_derivings ds)
+      a
+      h.0
+      b
+      (pointers_spanned ks ps a h.0 h.2)
+      (spans_join
+      (spell_grouping g)
+      (spell_derivings ds)
+      h.0
+      h.1
+      b
+      (spanned_direct ks (plain_behind y ps) g h.0 h.1 h.3)
+      (spanned_derivings ks ds h.1 b h.4))
+
+  pub spanned_direct : (ks : List Kind) → (y : Bool) → (g : Grouping) → (a b : ℕ) → HoldsDirect ks y g a b → Spans (spell_grouping g) a b
+  spanned_direct ks y No_group a b h = absurd h
+  spanned_direct ks y (Named_of n) a b h = (h.0, h.2)
+  spanned_direct ks y (Group_of o d c) a b h =
+      (h.0, spans_join (spell_declaring d) (c ∷ []) (a + 1) c b (spanned_declarator ks false d (a + 1) c h.2) (refl, h.4))
 
   pub spanned_specifyings : (ks : List Kind) → (y : Bool) → (ss : Specifyings) → (a b : ℕ) → HoldSpecifyings ks y ss a b
       → Spans (spell_specifyings ss) a b

@@ -1,6 +1,6 @@
 -- Parts of the names of types that hold no expression: qualifiers and pointers; and with what a name begins.
 use Rattle.std.proofs.Common.{◌≡◌, refl, ap, sym, ◌∙◌, subst, ℕ, ◌+◌, ◌<◌, ◌≤◌, List, [], ◌∷◌, ◌++◌, arith, Bool, true, false, length, append_assoc, append-nil}
-use Rattle.tree_data.specs.Trees.{Specifying, Word_of, Typedef_of, Tag_of, Atomic_of, No_specifiers, Specifier_then, Naming, Type_of}
+use Rattle.tree_data.specs.Trees.{Specifying, Word_of, Typedef_of, Tag_of, Atomic_of, No_specifiers, Specifier_then, Naming, Type_of, Aligned_as_of, Aligned_of, Members_of, Enumerators_of}
 use Rattle.c_parser.specs.declared.kinds.Kind.{Kind}
 use Rattle.c_parser.specs.declared.kinds.Kind.TheVariants.{Star}
 use Rattle.c_parser.specs.Declarators.{spell_pointers, AreQualifiers, ArePointers}
@@ -8,7 +8,7 @@ use Rattle.c_parser.specs.Kinds.{kind_at, starts_type, qualifies_at}
 use Rattle.c_parser.specs.Reading.{HoldSpecifying, HoldQualifiers, HoldPointers, HoldsNaming, HoldsType}
 use Rattle.c_parser.specs.TypeNames.{FoundQualifiers, FoundPointers}
 use Rattle.c_parser.proofs.Numbers.{Spans, spans_join, spans_split, spans_forth}
-use Rattle.c_parser.proofs.Words.{specifies_starts, qualifies_not, typedef_starts}
+use Rattle.c_parser.proofs.Words.{specifies_starts, qualifies_not, typedef_starts, tagging_starts}
 
 pub qualifiers_formed : (ks : List Kind) → (ns : List ℕ) → (a b : ℕ) → HoldQualifiers ks ns a b → AreQualifiers ks ns
 qualifiers_formed ks [] a b h = tt
@@ -63,8 +63,12 @@ qualifiers_forth ks ns a b h = spans_forth ns a b (qualifiers_spanned ks ns a b 
 pub starting : (ks : List Kind) → (y : Bool) → (s : Specifying) → (a b : ℕ) → HoldSpecifying ks y s a b → starts_type (kind_at ks a) ≡ true
 starting ks y (Word_of n) a b h = specifies_starts ks a h.1
 starting ks y (Typedef_of n) a b h = typedef_starts (kind_at ks a) h.2
-starting ks y (Tag_of k n) a b h = ap starts_type h.1
+starting ks y (Tag_of k n) a b h = tagging_starts (kind_at ks a) h.1
 starting ks y (Atomic_of k o t c) a b h = ap starts_type h.1
+starting ks y (Aligned_as_of k o t c) a b h = ap starts_type h.1
+starting ks y (Aligned_of k o t c) a b h = ap starts_type h.1
+starting ks y (Members_of k g o ms c) a b h = ap starts_type h.1
+starting ks y (Enumerators_of k g o e es t c) a b h = absurd h
 
 pub naming_starts : (ks : List Kind) → (y : Bool) → (t : Naming) → (a b : ℕ) → HoldsNaming ks y t a b → starts_type (kind_at ks a) ≡ true
 naming_starts ks y (Type_of No_specifiers d) a b h = absurd h.1

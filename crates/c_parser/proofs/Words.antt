@@ -1,9 +1,10 @@
 -- Words among specifiers and qualifiers, told apart by their tokens.
 use Rattle.std.proofs.Common.{◌≡◌, refl, ap, sym, ◌∙◌, ℕ, zero, suc, ◌+◌, ◌<◌, List, [], ◌∷◌, length, arith, ◌⊎◌, inl, inr, Bool, true, false, true≢false, ◌&&◌, ◌||◌, not, map}
 use Rattle.c_parser.specs.declared.kinds.Kind.{Kind}
-use Rattle.c_parser.specs.declared.kinds.Kind.TheVariants.{Identifier, TypeWord, Qualifier, Storage, Static, OpenParen, Atomic, End, TypeName, Typedef}
-use Rattle.c_parser.specs.Kinds.{kind_at, is_specifying, is_qualifier, is_atomic, is_opening, starts_type, atomic_at, specifies_at, qualifies_at, atomic_opens, is_identifier, is_storage, stored_amiss, is_word, names_at, may_name, named_by, grouped, behind_pointers, ends_specifiers, opens_parameters, is_typedef}
+use Rattle.c_parser.specs.declared.kinds.Kind.TheVariants.{Identifier, TypeWord, Qualifier, Storage, Static, OpenParen, OpenBrace, Atomic, End, TypeName, Typedef, Tag, Enum, Align}
+use Rattle.c_parser.specs.Kinds.{kind_at, is_specifying, is_qualifier, is_atomic, is_opening, starts_type, atomic_at, specifies_at, qualifies_at, atomic_opens, is_identifier, stored_amiss, admits, is_word, names_at, may_name, named_by, grouped, behind_pointers, ends_specifiers, opens_parameters, is_typedef, is_tagging, is_tag, is_brace, braces_at, members_open}
 use Rattle.c_parser.specs.declared.kinds.Named.{Named}
+use Rattle.c_parser.specs.declared.kinds.Site.{Site}
 use Rattle.c_parser.specs.declared.kinds.Named.TheVariants.{Never, Plainly, Freely}
 
 pub either : (p q : Bool) → (p || q) ≡ true → (p ≡ true) ⊎ (q ≡ true)
@@ -210,10 +211,22 @@ test_inside f n [] a h = absurd (true≢false (sym h ∙ n))
 test_inside f n (k ∷ ks) zero h = omega arith
 test_inside f n (k ∷ ks) (suc a) h = omega (arith, test_inside f n ks a h)
 
--- a storage class where none may stand
-pub amiss_storage : (ks : List Kind) → (a : ℕ) → (n : Bool) → stored_amiss ks a n ≡ true → is_storage (kind_at ks a) ≡ true
+-- what may not stand among specifiers
+not_false : (p : Bool) → not p ≡ false → p ≡ true
+not_false true h = refl
+not_false false h = absurd (true≢false h)
+
+not_true : (p : Bool) → not p ≡ true → p ≡ false
+not_true true h = absurd (true≢false (sym h))
+not_true false h = refl
+
+pub amiss_refused : (ks : List Kind) → (a : ℕ) → (n : Site) → stored_amiss ks a n ≡ true → admits n (kind_at ks a) ≡ false
 unfolding stored_amiss
-amiss_storage ks a n h = right_of (not n) (is_storage (kind_at ks a)) h
+amiss_refused ks a n h = not_true (admits n (kind_at ks a)) h
+
+pub amiss_admitted : (ks : List Kind) → (a : ℕ) → (n : Site) → stored_amiss ks a n ≡ false → admits n (kind_at ks a) ≡ true
+unfolding stored_amiss
+amiss_admitted ks a n h = not_false (admits n (kind_at ks a)) h
 
 pub not_named : (n : Bool) → not n ≡ true → n ≡ true → ⊥
 not_named true h e = true≢false (sym h)
@@ -224,17 +237,135 @@ named_or p true h e = refl
 named_or true false h e = sym h
 named_or false false h e = e
 
-pub amiss_unnamed : (ks : List Kind) → (a : ℕ) → (n : Bool) → stored_amiss ks a n ≡ true → n ≡ true → ⊥
-unfolding stored_amiss
-amiss_unnamed ks a n h e = not_named n (left_of (not n) (is_storage (kind_at ks a)) h) e
+-- `struct` or `union` with members
+tag_is : (k : Kind) → is_tag k ≡ true → k ≡ Tag
+tag_is Tag h = refl
+tag_is _ h = absurd (true≢false (sym h))
 
-allowed_by : (n s : Bool) → (not n && s) ≡ false → s ≡ true → n ≡ true
-allowed_by true s h e = refl
-allowed_by false s h e = absurd (true≢false (sym e ∙ h))
+pub brace_is : (k : Kind) → is_brace k ≡ true → k ≡ OpenBrace
+brace_is OpenBrace h = refl
+brace_is _ h = absurd (true≢false (sym h))
 
-pub storage_allowed : (ks : List Kind) → (a : ℕ) → (n : Bool) → stored_amiss ks a n ≡ false → is_storage (kind_at ks a) ≡ true → n ≡ true
-unfolding stored_amiss
-storage_allowed ks a n h e = allowed_by n (is_storage (kind_at ks a)) h e
+pub is_a_brace : (k : Kind) → k ≡ OpenBrace → is_brace k ≡ true
+is_a_brace k e = ap is_brace e
+
+pub members_kind : (ks : List Kind) → (a : ℕ) → members_open ks a ≡ true → kind_at ks a ≡ Tag
+unfolding members_open
+members_kind ks a h = tag_is (kind_at ks a) (left_of (is_tag (kind_at ks a)) (braces_at ks (a + 1)) h)
+
+pub members_braces : (ks : List Kind) → (a : ℕ) → members_open ks a ≡ true → braces_at ks (a + 1) ≡ true
+unfolding members_open
+members_braces ks a h = right_of (is_tag (kind_at ks a)) (braces_at ks (a + 1)) h
+
+pub members_both : (ks : List Kind) → (a : ℕ) → kind_at ks a ≡ Tag → braces_at ks (a + 1) ≡ true → members_open ks a ≡ true
+unfolding members_open
+members_both ks a k h = both_true (is_tag (kind_at ks a)) (braces_at ks (a + 1)) (ap is_tag k) h
+
+pub brace_first : (ks : List Kind) → (a : ℕ) → kind_at ks a ≡ OpenBrace → braces_at ks a ≡ true
+unfolding braces_at
+brace_first ks a k =
+    or_left (is_brace (kind_at ks a)) (is_word (kind_at ks a) && is_brace (kind_at ks (a + 1))) (ap is_brace k)
+
+pub brace_second : (ks : List Kind) → (a : ℕ) → is_word (kind_at ks a) ≡ true → kind_at ks (a + 1) ≡ OpenBrace → braces_at ks a ≡ true
+unfolding braces_at
+brace_second ks a w k =
+    or_right
+    (is_brace (kind_at ks a))
+    (is_word (kind_at ks a) && is_brace (kind_at ks (a + 1)))
+    (both_true (is_word (kind_at ks a)) (is_brace (kind_at ks (a + 1))) w (ap is_brace k))
+
+word_brace_not : (k : Kind) → is_word k ≡ true → is_brace k ≡ true → ⊥
+word_brace_not Identifier h e = true≢false (sym e)
+word_brace_not (TypeName n) h e = true≢false (sym e)
+word_brace_not _ h e = true≢false (sym h)
+
+-- behind a tag
+pub tag_opens : (ks : List Kind) → (a : ℕ) → braces_at ks a ≡ true → is_word (kind_at ks a) ≡ true → kind_at ks (a + 1) ≡ OpenBrace
+unfolding braces_at
+tag_opens ks a h w =
+    elim (either (is_brace (kind_at ks a)) (is_word (kind_at ks a) && is_brace (kind_at ks (a + 1))) h) [
+      | inl p ↦ absurd (word_brace_not (kind_at ks a) w p)
+      | inr q ↦ brace_is (kind_at ks (a + 1)) (right_of (is_word (kind_at ks a)) (is_brace (kind_at ks (a + 1))) q)
+    ]
+
+-- without one
+pub opens_here : (ks : List Kind) → (a : ℕ) → braces_at ks a ≡ true → is_word (kind_at ks a) ≡ false → kind_at ks a ≡ OpenBrace
+unfolding braces_at
+opens_here ks a h w =
+    elim (either (is_brace (kind_at ks a)) (is_word (kind_at ks a) && is_brace (kind_at ks (a + 1))) h) [
+      | inl p ↦ brace_is (kind_at ks a) p
+      | inr q ↦ absurd (true≢false (sym (left_of (is_word (kind_at ks a)) (is_brace (kind_at ks (a + 1))) q) ∙ w))
+    ]
+
+pub members_inside : (ks : List Kind) → (a : ℕ) → members_open ks a ≡ true → a < length ks
+members_inside ks a h = test_inside is_tag refl ks a (ap is_tag (members_kind ks a h))
+
+-- a specifier by its first token
+abbrev pub class_of : Kind → Bool → ℕ
+class_of (TypeName n) o = 1
+class_of Tag o = 2
+class_of Enum o = 2
+class_of Atomic true = 3
+class_of Align o = 4
+class_of _ o = 0
+
+word_class : (k : Kind) → (o : Bool) → is_specifying k ≡ true → class_of k o ≡ 0
+word_class TypeWord o h = refl
+word_class Qualifier o h = refl
+word_class Storage o h = refl
+word_class Static o h = refl
+word_class Typedef o h = refl
+word_class _ o h = absurd (true≢false (sym h))
+
+not_opening : (k : Kind) → (k ≡ OpenParen → ⊥) → is_opening k ≡ false
+not_opening OpenParen n = absurd (n refl)
+not_opening _ n = refl
+
+class_by : (ks : List Kind) → (a : ℕ) → Specifies ks a → class_of (kind_at ks a) (is_opening (kind_at ks (a + 1))) ≡ 0
+class_by ks a (by_word p) = word_class (kind_at ks a) (is_opening (kind_at ks (a + 1))) p
+class_by ks a (by_atomic e n) =
+    ap (λ k. class_of k (is_opening (kind_at ks (a + 1)))) e ∙ ap (class_of Atomic) (not_opening (kind_at ks (a + 1)) n)
+
+pub specifies_class : (ks : List Kind) → (a : ℕ) → specifies_at ks a ≡ true → class_of (kind_at ks a) (is_opening (kind_at ks (a + 1))) ≡ 0
+specifies_class ks a h = class_by ks a (specifies_view ks a h)
+
+pub typedef_class : (k : Kind) → (o : Bool) → is_typedef k ≡ true → class_of k o ≡ 1
+typedef_class (TypeName n) o h = refl
+typedef_class _ o h = absurd (true≢false (sym h))
+
+pub tagging_class : (k : Kind) → (o : Bool) → is_tagging k ≡ true → class_of k o ≡ 2
+tagging_class Tag o h = refl
+tagging_class Enum o h = refl
+tagging_class _ o h = absurd (true≢false (sym h))
+
+-- what `struct`, `union` and `enum` are not
+pub tagging_starts : (k : Kind) → is_tagging k ≡ true → starts_type k ≡ true
+tagging_starts Tag h = refl
+tagging_starts Enum h = refl
+tagging_starts _ h = absurd (true≢false (sym h))
+
+pub tagging_untyped : (k : Kind) → is_tagging k ≡ true → is_typedef k ≡ false
+tagging_untyped Tag h = refl
+tagging_untyped Enum h = refl
+tagging_untyped _ h = absurd (true≢false (sym h))
+
+pub tagging_unspecified : (k : Kind) → is_tagging k ≡ true → (is_specifying k ≡ false) × (is_atomic k ≡ false)
+tagging_unspecified Tag h = (refl, refl)
+tagging_unspecified Enum h = (refl, refl)
+tagging_unspecified _ h = absurd (true≢false (sym h))
+
+opening_not : (p q : Bool) → p ≡ false → (p && q) ≡ false
+opening_not true q h = absurd (true≢false h)
+opening_not false q h = refl
+
+pub tagging_opens_not : (ks : List Kind) → (a : ℕ) → is_tagging (kind_at ks a) ≡ true → atomic_opens ks a ≡ false
+unfolding atomic_opens
+tagging_opens_not ks a h = opening_not (is_atomic (kind_at ks a)) (is_opening (kind_at ks (a + 1))) (tagging_unspecified (kind_at ks a) h).1
+
+pub tagging_by : (k : Kind) → (k ≡ Tag → ⊥) → (k ≡ Enum → ⊥) → is_tagging k ≡ true → ⊥
+tagging_by Tag n m h = n refl
+tagging_by Enum n m h = m refl
+tagging_by _ n m h = true≢false (sym h)
 
 -- a typedef name
 pub typedef_starts : (k : Kind) → is_typedef k ≡ true → starts_type k ≡ true
@@ -244,10 +375,6 @@ typedef_starts _ h = absurd (true≢false (sym h))
 pub typedef_by : (k : Kind) → ((n : ℕ) → k ≡ TypeName n → ⊥) → is_typedef k ≡ true → ⊥
 typedef_by (TypeName n) u h = u n refl
 typedef_by _ u h = true≢false (sym h)
-
-pub typedef_stores_not : (k : Kind) → is_typedef k ≡ true → is_storage k ≡ false
-typedef_stores_not (TypeName n) h = refl
-typedef_stores_not _ h = absurd (true≢false (sym h))
 
 pub typedef_not : {A : Type 0} → (k x : Kind) → is_typedef k ≡ true → k ≡ x → is_typedef x ≡ false → A
 typedef_not k x h e n = absurd (true≢false (sym h ∙ ap is_typedef e ∙ n))

@@ -1,14 +1,16 @@
--- The grammar of expressions (ISO C11 6.5) and of initializers (6.7.9): what a tree spells, and which trees are proper. A
--- case a production; productions that go on to the left or to the right by themselves are lists, of one part at least.
-use Rattle.std.specs.Prelude.{◌≡◌, Bool, false, ℕ, zero, suc, ◌+◌, ◌≤◌, ◌||◌, List, [], ◌∷◌, ◌++◌, length, Option, Some, None, true}
-use Rattle.tree_data.specs.Trees.{Tree, Name_of, Constant_of, Text_of, Paren_of, Postfix_of, Unary_of, Binary_of, Conditional_of, Assign_of, Of_type, Compound_of, Behind, Operand_of, Index_of, Call_of, Call_with_of, Member_of, Step_of, Behinds, None_behind, Behind_then, Front, Operator_of, Cast_of, Choice_of, Left_of, Fronts, None_before, Front_then, Braces, Braces_of, Initial, Value_of, List_of, Piece, Plain_of, Designated_of, Pieces, No_pieces, Piece_then, Designator, Element_of, Field_of, Designators, No_designators, Designator_then, Generic_of, Offset_of, Association, Typed_of, Default_of, Associations, No_associations, Association_then, Specifying, Word_of, Typedef_of, Tag_of, Atomic_of, Specifyings, No_specifiers, Specifier_then, Naming, Type_of, Declaring, Declaring_of, No_parameters, Fixed_of, Variadic_of, Names_of, Parameters, Row, No_more, Parameter_then, Named_of, Grouping, No_group, Group_of, Deriving, Array_of, Function_of, Derivings, No_derivings, Deriving_then, Bound, Unsized_of, Any_size_of, Sized_of, Static_sized_of, Sized_static_of}
+-- The grammar of expressions (ISO C11 6.5), initializers (6.7.9), specifiers (6.7.1 to 6.7.5), declarators (6.7.6, 6.7.7) and static
+-- assertions (6.7.10): what a tree spells, and which trees are proper. A case a production; productions that go on to the left or to the right by themselves are lists, of one part at least.
+use Rattle.std.specs.Prelude.{◌≡◌, Bool, false, ℕ, zero, suc, ◌+◌, ◌≤◌, ◌||◌, ◌&&◌, not, List, [], ◌∷◌, ◌++◌, length, Option, Some, None, true}
+use Rattle.tree_data.specs.Trees.{Tree, Name_of, Constant_of, Text_of, Paren_of, Postfix_of, Unary_of, Binary_of, Conditional_of, Assign_of, Of_type, Compound_of, Behind, Operand_of, Index_of, Call_of, Call_with_of, Member_of, Step_of, Behinds, None_behind, Behind_then, Front, Operator_of, Cast_of, Choice_of, Left_of, Fronts, None_before, Front_then, Braces, Braces_of, Initial, Value_of, List_of, Piece, Plain_of, Designated_of, Pieces, No_pieces, Piece_then, Designator, Element_of, Field_of, Designators, No_designators, Designator_then, Generic_of, Offset_of, Association, Typed_of, Default_of, Associations, No_associations, Association_then, Specifying, Word_of, Typedef_of, Tag_of, Atomic_of, Specifyings, No_specifiers, Specifier_then, Naming, Type_of, Declaring, Declaring_of, No_parameters, Fixed_of, Variadic_of, Names_of, Parameters, Row, No_more, Parameter_then, Named_of, Grouping, No_group, Group_of, Deriving, Array_of, Function_of, Derivings, No_derivings, Deriving_then, Bound, Unsized_of, Any_size_of, Sized_of, Static_sized_of, Sized_static_of, Aligned_as_of, Aligned_of, Members_of, Enumerators_of, Member, Bare_of, Fields_of, Asserted_of, Members, No_members, Member_then, Field, Declared_of, Bits_of, Padding_of, Fields, No_fields, Field_then, Enumerator, Counted_of, Given_of, Enumerators, No_enumerators, Enumerator_then, Assertion, Assertion_of}
 use Rattle.c_parser.specs.declared.answers.ParseError.{ParseError}
 use Rattle.c_parser.specs.declared.answers.ParseError.TheVariants.{Syntax, TooDeep, NoMemory}
 use Rattle.c_parser.specs.declared.kinds.Kind.{Kind}
 use Rattle.c_parser.specs.declared.kinds.Named.{Named}
-use Rattle.c_parser.specs.declared.kinds.Kind.TheVariants.{Identifier, Constant, Text, OpenParen, CloseParen, OpenBracket, CloseBracket, OpenBrace, CloseBrace, Step, Question, Colon, Comma, Generic, OffsetOf, Default, Ellipsis, Tag, Star, Atomic, Static}
+use Rattle.c_parser.specs.declared.kinds.Site.{Site}
+use Rattle.c_parser.specs.declared.kinds.Site.TheVariants.{OfMember}
+use Rattle.c_parser.specs.declared.kinds.Kind.TheVariants.{Identifier, Constant, Text, OpenParen, CloseParen, OpenBracket, CloseBracket, OpenBrace, CloseBrace, Step, Question, Colon, Comma, Generic, OffsetOf, Default, Ellipsis, Tag, Star, Atomic, Static, Align, Assert, Semicolon}
 use Rattle.c_parser.specs.Brackets.{too_deep}
-use Rattle.c_parser.specs.Kinds.{kind_at, level_at, is_prefix, casts_at, is_size, is_word, is_equals, is_dot, is_member, is_type_word, is_storage, specifies_at, may_name, named_by, grouped, behind_pointers, is_typedef, hide}
+use Rattle.c_parser.specs.Kinds.{kind_at, level_at, is_prefix, casts_at, is_size, is_word, is_equals, is_dot, is_member, is_type_word, specifies_at, may_name, named_by, grouped, behind_pointers, is_typedef, hide, is_tagging, admits, site_of, names_it, plain_behind}
 use Rattle.c_parser.specs.Declarators.{spell_pointers, spell_names, AreQualifiers, AreThere, ArePointers, AreNames, IsWritten, MayDerive, name_of}
 use Rattle.c_parser.specs.Levels.{expression, assignment_expression, conditional_expression, logical_OR_expression, unary_expression, postfix_expression, primary_expression, IsBinary, behinds_level, rank}
 
@@ -16,6 +18,11 @@ use Rattle.c_parser.specs.Levels.{expression, assignment_expression, conditional
 abbrev pub spell_comma : Option ℕ → List ℕ
 spell_comma None = []
 spell_comma (Some o) = o ∷ []
+
+-- of a tag that may be left out
+abbrev pub spell_tag : Option ℕ → List ℕ
+spell_tag None = []
+spell_tag (Some n) = n ∷ []
 
 -- the numbers of a tree's tokens, in order
 abbrev mutual
@@ -92,6 +99,40 @@ abbrev mutual
   spell_specifying (Typedef_of n) = n ∷ []
   spell_specifying (Tag_of k n) = k ∷ n ∷ []
   spell_specifying (Atomic_of k o t c) = k ∷ o ∷ (spell_type t ++ c ∷ [])
+  spell_specifying (Aligned_as_of k o t c) = k ∷ o ∷ (spell_type t ++ c ∷ [])
+  spell_specifying (Aligned_of k o t c) = k ∷ o ∷ (spell t ++ c ∷ [])
+  spell_specifying (Members_of k g o ms c) = k ∷ (spell_tag g ++ (o ∷ (spell_members ms ++ c ∷ [])))
+  spell_specifying (Enumerators_of k g o e es t c) =
+      k ∷ (spell_tag g ++ (o ∷ (spell_enumerator e ++ (spell_enumerators es ++ (spell_comma t ++ c ∷ [])))))
+
+  pub spell_member : Member → List ℕ
+  spell_member (Bare_of ss e) = spell_specifyings ss ++ e ∷ []
+  spell_member (Fields_of ss f fs e) = spell_specifyings ss ++ (spell_field f ++ (spell_fields fs ++ e ∷ []))
+  spell_member (Asserted_of x) = spell_assertion x
+
+  pub spell_members : Members → List ℕ
+  spell_members No_members = []
+  spell_members (Member_then m ms) = spell_member m ++ spell_members ms
+
+  pub spell_field : Field → List ℕ
+  spell_field (Declared_of d) = spell_declaring d
+  spell_field (Bits_of d c w) = spell_declaring d ++ (c ∷ spell w)
+  spell_field (Padding_of c w) = c ∷ spell w
+
+  pub spell_fields : Fields → List ℕ
+  spell_fields No_fields = []
+  spell_fields (Field_then o f fs) = o ∷ (spell_field f ++ spell_fields fs)
+
+  pub spell_enumerator : Enumerator → List ℕ
+  spell_enumerator (Counted_of n) = n ∷ []
+  spell_enumerator (Given_of n q t) = n ∷ q ∷ spell t
+
+  pub spell_enumerators : Enumerators → List ℕ
+  spell_enumerators No_enumerators = []
+  spell_enumerators (Enumerator_then o e es) = o ∷ (spell_enumerator e ++ spell_enumerators es)
+
+  pub spell_assertion : Assertion → List ℕ
+  spell_assertion (Assertion_of k o t m ns c e) = k ∷ o ∷ (spell t ++ (m ∷ (ns ++ (c ∷ e ∷ []))))
 
   pub spell_specifyings : Specifyings → List ℕ
   spell_specifyings No_specifiers = []
@@ -182,21 +223,30 @@ has_type kinds (Word_of n) = is_type_word (kind_at kinds n)
 has_type kinds (Typedef_of n) = true
 has_type kinds (Tag_of k n) = true
 has_type kinds (Atomic_of k o t c) = true
+has_type kinds (Aligned_as_of k o t c) = false
+has_type kinds (Aligned_of k o t c) = false
+has_type kinds (Members_of k g o ms c) = true
+has_type kinds (Enumerators_of k g o e es t c) = true
 
--- a storage class or a function specifier is among these
-abbrev pub stores_one : List Kind → Specifying → Bool
-stores_one kinds (Word_of n) = is_storage (kind_at kinds n)
-stores_one kinds (Typedef_of n) = false
-stores_one kinds (Tag_of k n) = false
-stores_one kinds (Atomic_of k o t c) = false
+-- the token with which a specifier begins
+abbrev pub first_in : Specifying → ℕ
+first_in (Word_of n) = n
+first_in (Typedef_of n) = n
+first_in (Tag_of k n) = k
+first_in (Atomic_of k o t c) = k
+first_in (Aligned_as_of k o t c) = k
+first_in (Aligned_of k o t c) = k
+first_in (Members_of k g o ms c) = k
+first_in (Enumerators_of k g o e es t c) = k
 
-abbrev pub stores : List Kind → Specifyings → Bool
-stores kinds No_specifiers = false
-stores kinds (Specifier_then s ss) = stores_one kinds s || stores kinds ss
+-- each of these may stand here: storage classes, function specifiers and alignments stand where a declaration has them, as a parameter does
+-- (6.7.6.3), alignments among a member's too, and none of them in a type's name (6.7.7)
+abbrev pub all_admitted : List Kind → Site → Specifyings → Bool
+all_admitted kinds site No_specifiers = true
+all_admitted kinds site (Specifier_then s ss) = admits site (kind_at kinds (first_in s)) && all_admitted kinds site ss
 
--- they stand where a declaration has them, as a parameter does (6.7.6.3), and in no type's name (6.7.7)
-abbrev pub MayStand : List Kind → Bool → Specifyings → Type 0
-MayStand kinds named ss = stores kinds ss ≡ true → named ≡ true
+abbrev pub MayStand : List Kind → Site → Specifyings → Type 0
+MayStand kinds site ss = all_admitted kinds site ss ≡ true
 
 -- a type specifier stood before, or is among these
 abbrev pub typed_by : List Kind → Bool → Specifyings → Bool
@@ -214,6 +264,15 @@ past kinds t = hide kinds (name_by t)
 abbrev pub AreSome : Specifyings → Type 0
 AreSome No_specifiers = ⊥
 AreSome (Specifier_then s ss) = Unit {0}
+
+abbrev pub HasMembers : Members → Type 0
+HasMembers No_members = ⊥
+HasMembers (Member_then m ms) = Unit {0}
+
+-- a tag may be any identifier (6.2.3)
+abbrev pub IsTag : List Kind → Option ℕ → Type 0
+IsTag kinds None = Unit {0}
+IsTag kinds (Some n) = is_word (kind_at kinds n) ≡ true
 
 -- each part of the tree is what the tree's production has there; `l ≤ rank kinds t` says that t is of the nonterminal l
 abbrev mutual
@@ -414,14 +473,91 @@ abbrev mutual
   AreAssociated kinds (Association_then o x xs) =
       (kind_at kinds o ≡ Comma) × IsAssociated kinds x × AreAssociated kinds xs
 
-  -- 6.7 storage-class-specifier | type-specifier | type-qualifier | function-specifier; an identifier is a typedef name where no type specifier stands before it
+  -- 6.7 storage-class-specifier | type-specifier | type-qualifier | function-specifier | alignment-specifier; an identifier is a typedef name
+  -- where no type specifier stands before it
   pub IsSpecifying : List Kind → Bool → Specifying → Type 0
   IsSpecifying kinds typed (Word_of n) = specifies_at kinds n ≡ true
   IsSpecifying kinds typed (Typedef_of n) = (typed ≡ false) × (is_typedef (kind_at kinds n) ≡ true)
-  IsSpecifying kinds typed (Tag_of k n) = (kind_at kinds k ≡ Tag) × (is_word (kind_at kinds n) ≡ true)
+  -- 6.7.2.1 struct-or-union identifier, 6.7.2.2 enum identifier, where no `{` makes the front of a list in braces of it
+  IsSpecifying kinds typed (Tag_of k n) =
+      (is_tagging (kind_at kinds k) ≡ true) × (is_word (kind_at kinds n) ≡ true) × (kind_at kinds (n + 1) ≡ OpenBrace → ⊥)
   -- 6.7.2.4 atomic-type-specifier : _Atomic ( type-name )
   IsSpecifying kinds typed (Atomic_of k o t c) =
       (kind_at kinds k ≡ Atomic) × (kind_at kinds o ≡ OpenParen) × IsNaming kinds false t × (kind_at kinds c ≡ CloseParen)
+  -- 6.7.5 alignment-specifier : _Alignas ( type-name ) | _Alignas ( constant-expression )
+  IsSpecifying kinds typed (Aligned_as_of k o t c) =
+      (kind_at kinds k ≡ Align) × (kind_at kinds o ≡ OpenParen) × IsNaming kinds false t × (kind_at kinds c ≡ CloseParen)
+  IsSpecifying kinds typed (Aligned_of k o t c) =
+      (kind_at kinds k ≡ Align)
+      × (kind_at kinds o ≡ OpenParen)
+      × (conditional_expression ≤ rank kinds t) × IsFormed kinds t
+      × (kind_at kinds c ≡ CloseParen)
+  -- 6.7.2.1 struct-or-union-specifier : struct-or-union identifier opt { struct-declaration-list }
+  IsSpecifying kinds typed (Members_of k g o ms c) =
+      (kind_at kinds k ≡ Tag)
+      × IsTag kinds g
+      × (kind_at kinds o ≡ OpenBrace)
+      × HasMembers ms × AreMembers kinds ms
+      × (kind_at kinds c ≡ CloseBrace)
+  -- 6.7.2.2 enum-specifier : enum identifier opt { enumerator-list }, which isn't read so far
+  IsSpecifying kinds typed (Enumerators_of k g o e es t c) = ⊥
+
+  -- 6.7.2.1 struct-declaration : specifier-qualifier-list struct-declarator-list opt ; | static_assert-declaration; alignments may stand
+  -- among its specifiers
+  pub IsMember : List Kind → Member → Type 0
+  IsMember kinds (Bare_of ss e) =
+      AreSome ss × AreSpecifying kinds false ss × MayStand kinds OfMember ss × (kind_at kinds e ≡ Semicolon)
+  IsMember kinds (Fields_of ss f fs e) =
+      AreSome ss
+      × AreSpecifying kinds false ss
+      × MayStand kinds OfMember ss
+      × IsField kinds (not (typed_by kinds false ss)) f
+      × AreFields kinds fs
+      × (kind_at kinds e ≡ Semicolon)
+  IsMember kinds (Asserted_of x) = IsAsserted kinds x
+
+  -- struct-declaration-list : struct-declaration | struct-declaration-list struct-declaration
+  pub AreMembers : List Kind → Members → Type 0
+  AreMembers kinds No_members = Unit {0}
+  AreMembers kinds (Member_then m ms) = IsMember kinds m × AreMembers kinds ms
+
+  -- struct-declarator : declarator | declarator opt : constant-expression; a member's name hides no typedef name (6.2.3)
+  pub IsField : List Kind → Bool → Field → Type 0
+  IsField kinds plain (Declared_of d) = IsDeclarator kinds plain d
+  IsField kinds plain (Bits_of d c w) =
+      IsDeclarator kinds plain d
+      × (kind_at kinds c ≡ Colon)
+      × (conditional_expression ≤ rank kinds w) × IsFormed kinds w
+  IsField kinds plain (Padding_of c w) =
+      (kind_at kinds c ≡ Colon) × (conditional_expression ≤ rank kinds w) × IsFormed kinds w
+
+  -- struct-declarator-list : struct-declarator | struct-declarator-list , struct-declarator
+  pub AreFields : List Kind → Fields → Type 0
+  AreFields kinds No_fields = Unit {0}
+  AreFields kinds (Field_then o f fs) = (kind_at kinds o ≡ Comma) × IsField kinds false f × AreFields kinds fs
+
+  -- 6.7.10 static_assert-declaration : _Static_assert ( constant-expression , string-literal ) ;
+  pub IsAsserted : List Kind → Assertion → Type 0
+  IsAsserted kinds (Assertion_of k o t m ns c e) =
+      (kind_at kinds k ≡ Assert)
+      × (kind_at kinds o ≡ OpenParen)
+      × (conditional_expression ≤ rank kinds t) × IsFormed kinds t
+      × (kind_at kinds m ≡ Comma)
+      × AreTexts kinds ns
+      × (kind_at kinds c ≡ CloseParen)
+      × (kind_at kinds e ≡ Semicolon)
+
+  -- 6.7.6 declarator : pointer opt direct-declarator, in which a name stands; `plain` says that a typedef name isn't the name here
+  pub IsDeclarator : List Kind → Bool → Declaring → Type 0
+  IsDeclarator kinds plain (Declaring_of ps g ds) =
+      ArePointers kinds ps × IsDirect kinds (plain_behind plain ps) g × AreDerived kinds ds
+
+  -- direct-declarator : identifier | ( declarator )
+  pub IsDirect : List Kind → Bool → Grouping → Type 0
+  IsDirect kinds plain No_group = ⊥
+  IsDirect kinds plain (Named_of n) = names_it plain (kind_at kinds n) ≡ true
+  IsDirect kinds plain (Group_of o d c) =
+      (kind_at kinds o ≡ OpenParen) × IsDeclarator kinds false d × (kind_at kinds c ≡ CloseParen)
 
   pub AreSpecifying : List Kind → Bool → Specifyings → Type 0
   AreSpecifying kinds typed No_specifiers = Unit {0}
@@ -429,14 +565,14 @@ abbrev mutual
       IsSpecifying kinds typed s × AreSpecifying kinds (has_type kinds s || typed) ss
 
   -- 6.7.7 type-name : specifier-qualifier-list abstract-declarator opt
-  -- 6.7.6 parameter-declaration : declaration-specifiers declarator | declaration-specifiers abstract-declarator opt, so far without
-  -- `_Alignas`; `named` says whether a name may be declared
+  -- 6.7.6 parameter-declaration : declaration-specifiers declarator | declaration-specifiers abstract-declarator opt; `named` says
+  -- whether a name may be declared
   pub IsNaming : List Kind → Bool → Naming → Type 0
   IsNaming kinds named (Type_of ss d) =
       AreSome ss
       × AreSpecifying kinds false ss
       × IsDeclaring kinds (named_by named (typed_by kinds false ss)) d
-      × MayStand kinds named ss
+      × MayStand kinds (site_of named) ss
 
   -- 6.7.7 abstract-declarator : pointer | pointer opt direct-abstract-declarator, each part left out or there
   pub IsDeclaring : List Kind → Named → Declaring → Type 0

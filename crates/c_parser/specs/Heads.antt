@@ -1,37 +1,14 @@
 -- The grammar of heads (ISO C11 6.7, 6.7.6, 6.7.10, 6.9): declarations up to their `;`, functions up to the `{` of their bodies, and static
 -- assertions. A tree stands from one place to another, as in `Reading`.
 use Rattle.std.specs.Prelude.{◌≡◌, ℕ, ◌+◌, ◌<◌, ◌≤◌, List, [], ◌∷◌, Option, Some, None, is_none, Bool, true, false, not, ◌||◌}
-use Rattle.tree_data.specs.Trees.{Declaring, Declaring_of, Grouping, No_group, Named_of, Group_of, Specifying, Word_of, Typedef_of, Tag_of, Atomic_of, Specifyings, No_specifiers, Specifier_then, Initial, Assertion, Assertion_of, Heading, Declares_of, Asserts_of}
+use Rattle.tree_data.specs.Trees.{Declaring, Specifying, Word_of, Typedef_of, Tag_of, Atomic_of, Aligned_as_of, Aligned_of, Members_of, Enumerators_of, Specifyings, No_specifiers, Specifier_then, Initial, Heading, Declares_of, Asserts_of}
 use Rattle.c_parser.specs.declared.kinds.Kind.{Kind}
-use Rattle.c_parser.specs.declared.kinds.Kind.TheVariants.{OpenParen, CloseParen, Comma, Semicolon, OpenBrace, Assert}
+use Rattle.c_parser.specs.declared.kinds.Kind.TheVariants.{Comma, Semicolon, OpenBrace}
 use Rattle.c_parser.specs.Declarators.{name_of}
 use Rattle.c_parser.specs.Grammar.{AreSome, typed_by}
-use Rattle.c_parser.specs.Kinds.{kind_at, is_typedef_word, is_word, is_identifier, is_equals}
-use Rattle.c_parser.specs.Levels.{rank}
-use Rattle.c_parser.specs.Reading.{Holds, HoldTexts, HoldPointers, HoldDerivings, HoldSpecifyings, HoldsInitial}
+use Rattle.c_parser.specs.Kinds.{kind_at, is_typedef_word, is_equals}
+use Rattle.c_parser.specs.Reading.{HoldsDeclarator, HoldsAssertion, HoldSpecifyings, HoldsInitial}
 use Rattle.c_parser.specs.Words.{Words, shown, declared}
-
--- directly behind specifiers without a type specifier a typedef name would be one of them (6.7.2); behind `*`, `(` and `,` it is the name
-abbrev pub names_it : Bool → Kind → Bool
-names_it true k = is_identifier k
-names_it false k = is_word k
-
-abbrev pub plain_behind : Bool → List (ℕ × List ℕ) → Bool
-plain_behind plain [] = plain
-plain_behind plain (p ∷ ps) = false
-
--- 6.7.6 declarator : pointer opt direct-declarator
--- 6.7.6 direct-declarator : identifier | ( declarator ), with arrays and functions behind it
-abbrev mutual
-  pub HoldsDeclarator : List Kind → Bool → Declaring → ℕ → ℕ → Type 0
-  HoldsDeclarator ks plain (Declaring_of ps g ds) a b =
-      (m : ℕ) × (n : ℕ) × HoldPointers ks ps a m × HoldsDirect ks (plain_behind plain ps) g m n × HoldDerivings ks ds n b
-
-  pub HoldsDirect : List Kind → Bool → Grouping → ℕ → ℕ → Type 0
-  HoldsDirect ks plain No_group a b = ⊥
-  HoldsDirect ks plain (Named_of n) a b = (n ≡ a) × (names_it plain (kind_at ks a) ≡ true) × (b ≡ a + 1)
-  HoldsDirect ks plain (Group_of o d c) a b =
-      (o ≡ a) × (kind_at ks a ≡ OpenParen) × HoldsDeclarator ks false d (a + 1) c × (kind_at ks c ≡ CloseParen) × (b ≡ c + 1)
 
 -- `typedef` is among the specifiers (6.7.1)
 abbrev pub defines_one : List Kind → Specifying → Bool
@@ -39,6 +16,10 @@ defines_one ks (Word_of n) = is_typedef_word (kind_at ks n)
 defines_one ks (Typedef_of n) = false
 defines_one ks (Tag_of k n) = false
 defines_one ks (Atomic_of k o t c) = false
+defines_one ks (Aligned_as_of k o t c) = false
+defines_one ks (Aligned_of k o t c) = false
+defines_one ks (Members_of k g o ms c) = false
+defines_one ks (Enumerators_of k g o e es t c) = false
 
 abbrev pub defines : List Kind → Specifyings → Bool
 defines ks No_specifiers = false
@@ -101,14 +82,6 @@ Closes ks ds true n = (kind_at ks n ≡ OpenBrace) × (is_alone ds ≡ true)
 
 abbrev pub leading_of : List Kind → Specifyings → Leading
 leading_of ks ss = record { typed = typed_by ks false ss; typedef = defines ks ss }
-
--- 6.7.10 static_assert-declaration : _Static_assert ( constant-expression , string-literal ) ;
-abbrev pub HoldsAssertion : List Kind → Assertion → ℕ → ℕ → Type 0
-HoldsAssertion ks (Assertion_of k o t c ns p e) a b =
-    (k ≡ a) × (kind_at ks a ≡ Assert) × (o ≡ a + 1) × (kind_at ks o ≡ OpenParen)
-    × (3 ≤ rank ks t) × Holds ks t (o + 1) c × (kind_at ks c ≡ Comma)
-    × (c + 1 < p) × HoldTexts ks ns (c + 1) p × (kind_at ks p ≡ CloseParen)
-    × (e ≡ p + 1) × (kind_at ks e ≡ Semicolon) × (b ≡ e + 1)
 
 -- 6.7 declaration : declaration-specifiers init-declarator-list opt ; | static_assert-declaration
 -- 6.9.1 function-definition : declaration-specifiers declarator compound-statement, up to the `{` of its body

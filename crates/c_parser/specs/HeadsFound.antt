@@ -7,8 +7,8 @@ use Rattle.c_parser.specs.declared.kinds.Kind.{Kind}
 use Rattle.c_parser.specs.declared.kinds.Kind.TheVariants.{Comma, Semicolon, OpenBrace}
 use Rattle.c_parser.specs.Brackets.{too_deep}
 use Rattle.c_parser.specs.Grammar.{AreSome}
-use Rattle.c_parser.specs.Reading.{HoldSpecifyings}
-use Rattle.c_parser.specs.Heads.{HoldsDeclarator, HoldsDirect, Leading, HoldsValue, HoldsOne, HoldAll, HoldsAssertion, HoldsHead, Closes}
+use Rattle.c_parser.specs.Reading.{HoldSpecifyings, HoldsDeclarator, HoldsDirect, HoldsAssertion}
+use Rattle.c_parser.specs.Heads.{Leading, HoldsValue, HoldsOne, HoldAll, HoldsHead, Closes}
 use Rattle.c_parser.specs.Words.{Words}
 
 pub record FoundDeclarator (ks : List Kind) (plain : Bool) (a : ℕ) (d : Declaring) (b : ℕ) : Type 0 where

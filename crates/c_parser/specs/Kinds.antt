@@ -3,7 +3,9 @@ use Rattle.std.specs.Prelude.{ℕ, ◌+◌, ◌-◌, ◌<◌, ◌&&◌, ◌||◌
 use Rattle.c_parser.specs.declared.kinds.Kind.{Kind}
 use Rattle.c_parser.specs.declared.kinds.Named.{Named}
 use Rattle.c_parser.specs.declared.kinds.Named.TheVariants.{Never, Plainly, Freely}
-use Rattle.c_parser.specs.declared.kinds.Kind.TheVariants.{Equals, Dot, Identifier, TypeName, OpenParen, CloseParen, OpenBracket, CloseBracket, Member, Step, SizeOf, AlignOf, TypeWord, Qualifier, Tag, Complement, Question, Assignment, Comma, Or, And, Bar, Caret, Ampersand, Equality, Relation, Shift, Sign, Star, Quotient, Colon, Atomic, Storage, Static, End, Typedef, Semicolon, OpenBrace}
+use Rattle.c_parser.specs.declared.kinds.Site.{Site}
+use Rattle.c_parser.specs.declared.kinds.Site.TheVariants.{OfName, OfMember, OfDeclaration}
+use Rattle.c_parser.specs.declared.kinds.Kind.TheVariants.{Equals, Dot, Identifier, TypeName, OpenParen, CloseParen, OpenBracket, CloseBracket, Member, Step, SizeOf, AlignOf, TypeWord, Qualifier, Tag, Complement, Question, Assignment, Comma, Or, And, Bar, Caret, Ampersand, Equality, Relation, Shift, Sign, Star, Quotient, Colon, Atomic, Storage, Static, End, Typedef, Semicolon, OpenBrace, Enum, Align}
 
 -- the level of precedence at which an expression goes on with such a token behind it, 0 where it doesn't: 1 for `,`,
 -- 2 for assignment, 3 for `?`, from `||` at 4 to `*` at 13, 16 for postfix operators
@@ -122,6 +124,8 @@ abbrev pub starts_type : Kind → Bool
 starts_type TypeWord = true
 starts_type Qualifier = true
 starts_type Tag = true
+starts_type Enum = true
+starts_type Align = true
 starts_type (TypeName n) = true
 starts_type Atomic = true
 starts_type Storage = true
@@ -204,6 +208,8 @@ opens_parameters CloseParen = true
 opens_parameters TypeWord = true
 opens_parameters Qualifier = true
 opens_parameters Tag = true
+opens_parameters Enum = true
+opens_parameters Align = true
 opens_parameters (TypeName n) = true
 opens_parameters Atomic = true
 opens_parameters Storage = true
@@ -268,9 +274,57 @@ abbrev pub hide : List Kind → Option ℕ → List Kind
 hide kinds None = kinds
 hide kinds (Some n) = hide_kind kinds (kind_at kinds n)
 
--- a storage class or a function specifier stands here, among the specifiers of a type's name, which has none (6.7.2.1, 6.7.7)
-unfoldable pub stored_amiss : List Kind → ℕ → Bool → Bool
-stored_amiss kinds at named = not named && is_storage (kind_at kinds at)
+-- `_Alignas`, which begins an alignment specifier (6.7.5)
+abbrev pub is_align : Kind → Bool
+is_align Align = true
+is_align _ = false
+
+-- what begins with such a token may stand among specifiers: storage classes and function specifiers in a declaration (6.7) and not among
+-- members (6.7.2.1), alignments in these two and not in a type's name (6.7.7)
+abbrev pub admits : Site → Kind → Bool
+admits OfDeclaration k = true
+admits OfMember k = not (is_storage k)
+admits OfName k = not (is_storage k) && not (is_align k)
+
+abbrev pub site_of : Bool → Site
+site_of false = OfName
+site_of true = OfDeclaration
+
+-- what stands here may not stand among specifiers
+unfoldable pub stored_amiss : List Kind → ℕ → Site → Bool
+stored_amiss kinds at site = not (admits site (kind_at kinds at))
+
+-- `struct`, `union` and `enum`, behind which a tag may stand (6.7.2.3)
+abbrev pub is_tagging : Kind → Bool
+is_tagging Tag = true
+is_tagging Enum = true
+is_tagging _ = false
+
+abbrev pub is_tag : Kind → Bool
+is_tag Tag = true
+is_tag _ = false
+
+abbrev pub is_brace : Kind → Bool
+is_brace OpenBrace = true
+is_brace _ = false
+
+-- the `{` of a structure's or union's members behind its keyword, or behind its tag
+unfoldable pub braces_at : List Kind → ℕ → Bool
+braces_at kinds at = is_brace (kind_at kinds at) || (is_word (kind_at kinds at) && is_brace (kind_at kinds (at + 1)))
+
+-- `struct` or `union` with members begins here (6.7.2.1)
+unfoldable pub members_open : List Kind → ℕ → Bool
+members_open kinds at = is_tag (kind_at kinds at) && braces_at kinds (at + 1)
+
+-- the name of a declarator that has one: directly behind specifiers without a type specifier a typedef name would be one of these (6.7.2);
+-- behind `*`, `(` and `,` it is the name
+abbrev pub names_it : Bool → Kind → Bool
+names_it true k = is_identifier k
+names_it false k = is_word k
+
+abbrev pub plain_behind : {A : Type 0} → Bool → List A → Bool
+plain_behind plain [] = plain
+plain_behind plain (p ∷ ps) = false
 
 -- what an array or a function begins with in a declarator (6.7.6)
 abbrev pub is_deriving : Kind → Bool

@@ -7,6 +7,7 @@ pub mod HeadsFound
 pub mod Joining
 pub mod Kinds
 pub mod Levels
+pub mod MembersFound
 pub mod Parts
 pub mod Reading
 pub mod Scopes

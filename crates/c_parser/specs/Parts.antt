@@ -2,7 +2,7 @@
 use Rattle.std.specs.Prelude.{◌≡◌, ℕ, ◌+◌, ◌<◌, ◌≤◌, List, length, Bool, true, false, not, ◌||◌}
 use Rattle.tree_data.specs.Trees.{Tree, Heading, Declares_of, Asserts_of}
 use Rattle.c_parser.specs.declared.kinds.Kind.{Kind}
-use Rattle.c_parser.specs.declared.kinds.Kind.TheVariants.{Identifier, TypeName, TypeWord, Qualifier, Tag, Atomic, Storage, Typedef, Static, Assert, Constant, Text, OpenParen, Step, Ampersand, Star, Sign, Complement, SizeOf, AlignOf, Generic, OffsetOf, Colon}
+use Rattle.c_parser.specs.declared.kinds.Kind.TheVariants.{Identifier, TypeName, TypeWord, Qualifier, Tag, Atomic, Storage, Typedef, Static, Assert, Constant, Text, OpenParen, Step, Ampersand, Star, Sign, Complement, SizeOf, AlignOf, Generic, OffsetOf, Colon, Enum, Align}
 use Rattle.c_parser.specs.Heads.{HoldsHead, past_head}
 use Rattle.c_parser.specs.Reading.{Reads, Stops}
 use Rattle.c_parser.specs.Words.{Words, shown, kind_in}
@@ -29,6 +29,8 @@ abbrev pub starts_declaration : Kind → Bool
 starts_declaration TypeWord = true
 starts_declaration Qualifier = true
 starts_declaration Tag = true
+starts_declaration Enum = true
+starts_declaration Align = true
 starts_declaration (TypeName n) = true
 starts_declaration Atomic = true
 starts_declaration Storage = true

@@ -1,18 +1,19 @@
 -- A proper tree by the place at which its tokens begin and the place behind them, which is what the parser reads.
-use Rattle.std.specs.Prelude.{◌≡◌, ℕ, ◌+◌, ◌<◌, ◌≤◌, ◌||◌, Bool, List, [], ◌∷◌, length, Option, None, Result, Ok, Err, Some, true, false}
-use Rattle.tree_data.specs.Trees.{Tree, Name_of, Constant_of, Text_of, Paren_of, Postfix_of, Unary_of, Binary_of, Conditional_of, Assign_of, Of_type, Compound_of, Behind, Operand_of, Index_of, Call_of, Call_with_of, Member_of, Step_of, Behinds, None_behind, Behind_then, Front, Operator_of, Cast_of, Choice_of, Left_of, Fronts, None_before, Front_then, Braces, Braces_of, Initial, Value_of, List_of, Piece, Plain_of, Designated_of, Pieces, No_pieces, Piece_then, Designator, Element_of, Field_of, Designators, No_designators, Designator_then, Generic_of, Offset_of, Association, Typed_of, Default_of, Associations, No_associations, Association_then, Specifying, Word_of, Typedef_of, Tag_of, Atomic_of, Specifyings, No_specifiers, Specifier_then, Naming, Type_of, Declaring, Declaring_of, No_parameters, Fixed_of, Variadic_of, Names_of, Parameters, Row, No_more, Parameter_then, Named_of, Grouping, No_group, Group_of, Deriving, Array_of, Function_of, Derivings, No_derivings, Deriving_then, Bound, Unsized_of, Any_size_of, Sized_of, Static_sized_of, Sized_static_of}
+use Rattle.std.specs.Prelude.{◌≡◌, ℕ, ◌+◌, ◌<◌, ◌≤◌, ◌||◌, Bool, not, List, [], ◌∷◌, length, Option, None, Result, Ok, Err, Some, true, false}
+use Rattle.tree_data.specs.Trees.{Tree, Name_of, Constant_of, Text_of, Paren_of, Postfix_of, Unary_of, Binary_of, Conditional_of, Assign_of, Of_type, Compound_of, Behind, Operand_of, Index_of, Call_of, Call_with_of, Member_of, Step_of, Behinds, None_behind, Behind_then, Front, Operator_of, Cast_of, Choice_of, Left_of, Fronts, None_before, Front_then, Braces, Braces_of, Initial, Value_of, List_of, Piece, Plain_of, Designated_of, Pieces, No_pieces, Piece_then, Designator, Element_of, Field_of, Designators, No_designators, Designator_then, Generic_of, Offset_of, Association, Typed_of, Default_of, Associations, No_associations, Association_then, Specifying, Word_of, Typedef_of, Tag_of, Atomic_of, Specifyings, No_specifiers, Specifier_then, Naming, Type_of, Declaring, Declaring_of, No_parameters, Fixed_of, Variadic_of, Names_of, Parameters, Row, No_more, Parameter_then, Named_of, Grouping, No_group, Group_of, Deriving, Array_of, Function_of, Derivings, No_derivings, Deriving_then, Bound, Unsized_of, Any_size_of, Sized_of, Static_sized_of, Sized_static_of, Aligned_as_of, Aligned_of, Members_of, Enumerators_of, Member, Bare_of, Fields_of, Asserted_of, Members, No_members, Member_then, Field, Declared_of, Bits_of, Padding_of, Fields, No_fields, Field_then, Enumerator, Counted_of, Given_of, Enumerators, No_enumerators, Enumerator_then, Assertion, Assertion_of}
 use Rattle.c_parser.specs.declared.answers.ParseError.{ParseError}
 use Rattle.c_parser.specs.declared.answers.ParseError.TheVariants as told
 use Rattle.c_parser.specs.declared.answers.Stop.{Stop}
 use Rattle.c_parser.specs.declared.answers.Stop.TheVariants.{Syntax, NoMemory}
 use Rattle.c_parser.specs.declared.kinds.Kind.{Kind}
-use Rattle.c_parser.specs.declared.kinds.Kind.TheVariants.{Identifier, Constant, Text, OpenParen, CloseParen, OpenBracket, CloseBracket, OpenBrace, CloseBrace, Step, Question, Colon, Comma, Generic, OffsetOf, Default, Ellipsis, Tag, Star, Atomic, Static}
+use Rattle.c_parser.specs.declared.kinds.Kind.TheVariants.{Identifier, Constant, Text, OpenParen, CloseParen, OpenBracket, CloseBracket, OpenBrace, CloseBrace, Step, Question, Colon, Comma, Generic, OffsetOf, Default, Ellipsis, Tag, Star, Atomic, Static, Align, Assert, Semicolon}
 use Rattle.c_parser.specs.Brackets.{too_deep}
-use Rattle.c_parser.specs.Grammar.{IsMore, IsAny, IsBefore, AreSteps, goes_on, has_type, AreSome, MayStand, typed_by, past}
-use Rattle.c_parser.specs.Kinds.{kind_at, level_at, is_prefix, casts_at, is_size, is_word, is_equals, is_dot, is_member, specifies_at, qualifies_at, may_name, named_by, grouped, behind_pointers, is_typedef}
+use Rattle.c_parser.specs.Grammar.{IsMore, IsAny, IsBefore, AreSteps, goes_on, has_type, AreSome, MayStand, typed_by, past, HasMembers}
+use Rattle.c_parser.specs.Kinds.{kind_at, level_at, is_prefix, casts_at, is_size, is_word, is_equals, is_dot, is_member, specifies_at, qualifies_at, may_name, named_by, grouped, behind_pointers, is_typedef, is_tagging, site_of, names_it, plain_behind}
 use Rattle.c_parser.specs.Declarators.{AreThere, IsWritten, MayDerive}
 use Rattle.c_parser.specs.Levels.{IsBinary, behinds_level, rank}
 use Rattle.c_parser.specs.declared.kinds.Named.{Named}
+use Rattle.c_parser.specs.declared.kinds.Site.TheVariants.{OfMember}
 
 abbrev pub HoldTexts : List Kind → List ℕ → ℕ → ℕ → Type 0
 HoldTexts ks [] a b = (b ≡ a) × (kind_at ks a ≡ Text → ⊥)
@@ -36,6 +37,11 @@ abbrev pub HoldPointers : List Kind → List (ℕ × List ℕ) → ℕ → ℕ �
 HoldPointers ks [] a b = b ≡ a
 HoldPointers ks (p ∷ ps) a b =
     (m : ℕ) × (p.0 ≡ a) × (kind_at ks a ≡ Star) × HoldQualifiers ks p.1 (a + 1) m × HoldPointers ks ps m b
+
+-- a tag that may be left out
+abbrev pub HoldsTag : List Kind → Option ℕ → ℕ → ℕ → Type 0
+HoldsTag ks None a b = b ≡ a
+HoldsTag ks (Some n) a b = (n ≡ a) × (is_word (kind_at ks a) ≡ true) × (b ≡ a + 1)
 
 abbrev mutual
   pub Holds : List Kind → Tree → ℕ → ℕ → Type 0
@@ -174,10 +180,62 @@ abbrev mutual
   HoldSpecifying ks typed (Word_of n) a b = (n ≡ a) × (specifies_at ks a ≡ true) × (b ≡ a + 1)
   HoldSpecifying ks typed (Typedef_of n) a b = (n ≡ a) × (typed ≡ false) × (is_typedef (kind_at ks a) ≡ true) × (b ≡ a + 1)
   HoldSpecifying ks typed (Tag_of k n) a b =
-      (k ≡ a) × (kind_at ks a ≡ Tag) × (n ≡ a + 1) × (is_word (kind_at ks n) ≡ true) × (b ≡ n + 1)
+      (k ≡ a) × (is_tagging (kind_at ks a) ≡ true) × (n ≡ a + 1) × (is_word (kind_at ks n) ≡ true) × (b ≡ n + 1)
+      × (kind_at ks b ≡ OpenBrace → ⊥)
   HoldSpecifying ks typed (Atomic_of k o t c) a b =
       (k ≡ a) × (kind_at ks a ≡ Atomic) × (o ≡ a + 1) × (kind_at ks o ≡ OpenParen)
       × HoldsNaming ks false t (o + 1) c × (kind_at ks c ≡ CloseParen) × (b ≡ c + 1)
+  HoldSpecifying ks typed (Aligned_as_of k o t c) a b =
+      (k ≡ a) × (kind_at ks a ≡ Align) × (o ≡ a + 1) × (kind_at ks o ≡ OpenParen)
+      × HoldsNaming ks false t (o + 1) c × (kind_at ks c ≡ CloseParen) × (b ≡ c + 1)
+  HoldSpecifying ks typed (Aligned_of k o t c) a b =
+      (k ≡ a) × (kind_at ks a ≡ Align) × (o ≡ a + 1) × (kind_at ks o ≡ OpenParen)
+      × (3 ≤ rank ks t) × Holds ks t (o + 1) c × (kind_at ks c ≡ CloseParen) × (b ≡ c + 1)
+  HoldSpecifying ks typed (Members_of k g o ms c) a b =
+      (k ≡ a) × (kind_at ks a ≡ Tag) × HoldsTag ks g (a + 1) o × (kind_at ks o ≡ OpenBrace)
+      × HasMembers ms × HoldMembers ks ms (o + 1) c × (kind_at ks c ≡ CloseBrace) × (b ≡ c + 1)
+  HoldSpecifying ks typed (Enumerators_of k g o e es t c) a b = ⊥
+
+  pub HoldsMember : List Kind → Member → ℕ → ℕ → Type 0
+  HoldsMember ks (Bare_of ss e) a b =
+      AreSome ss × HoldSpecifyings ks false ss a e × MayStand ks OfMember ss × (kind_at ks e ≡ Semicolon) × (b ≡ e + 1)
+  HoldsMember ks (Fields_of ss f fs e) a b =
+      (m : ℕ) × (n : ℕ) × AreSome ss × HoldSpecifyings ks false ss a m × MayStand ks OfMember ss
+      × HoldsField ks (not (typed_by ks false ss)) f m n × HoldFields ks fs n e
+      × (kind_at ks e ≡ Semicolon) × (b ≡ e + 1)
+  HoldsMember ks (Asserted_of x) a b = HoldsAssertion ks x a b
+
+  pub HoldMembers : List Kind → Members → ℕ → ℕ → Type 0
+  HoldMembers ks No_members a b = b ≡ a
+  HoldMembers ks (Member_then x xs) a b = (m : ℕ) × HoldsMember ks x a m × HoldMembers ks xs m b
+
+  pub HoldsField : List Kind → Bool → Field → ℕ → ℕ → Type 0
+  HoldsField ks plain (Declared_of d) a b = HoldsDeclarator ks plain d a b
+  HoldsField ks plain (Bits_of d c w) a b =
+      HoldsDeclarator ks plain d a c × (kind_at ks c ≡ Colon) × (3 ≤ rank ks w) × Holds ks w (c + 1) b
+  HoldsField ks plain (Padding_of c w) a b = (c ≡ a) × (kind_at ks a ≡ Colon) × (3 ≤ rank ks w) × Holds ks w (a + 1) b
+
+  pub HoldFields : List Kind → Fields → ℕ → ℕ → Type 0
+  HoldFields ks No_fields a b = b ≡ a
+  HoldFields ks (Field_then o f fs) a b =
+      (m : ℕ) × (o ≡ a) × (kind_at ks a ≡ Comma) × HoldsField ks false f (a + 1) m × HoldFields ks fs m b
+
+  pub HoldsAssertion : List Kind → Assertion → ℕ → ℕ → Type 0
+  HoldsAssertion ks (Assertion_of k o t c ns p e) a b =
+      (k ≡ a) × (kind_at ks a ≡ Assert) × (o ≡ a + 1) × (kind_at ks o ≡ OpenParen)
+      × (3 ≤ rank ks t) × Holds ks t (o + 1) c × (kind_at ks c ≡ Comma)
+      × (c + 1 < p) × HoldTexts ks ns (c + 1) p × (kind_at ks p ≡ CloseParen)
+      × (e ≡ p + 1) × (kind_at ks e ≡ Semicolon) × (b ≡ e + 1)
+
+  pub HoldsDeclarator : List Kind → Bool → Declaring → ℕ → ℕ → Type 0
+  HoldsDeclarator ks plain (Declaring_of ps g ds) a b =
+      (m : ℕ) × (n : ℕ) × HoldPointers ks ps a m × HoldsDirect ks (plain_behind plain ps) g m n × HoldDerivings ks ds n b
+
+  pub HoldsDirect : List Kind → Bool → Grouping → ℕ → ℕ → Type 0
+  HoldsDirect ks plain No_group a b = ⊥
+  HoldsDirect ks plain (Named_of n) a b = (n ≡ a) × (names_it plain (kind_at ks a) ≡ true) × (b ≡ a + 1)
+  HoldsDirect ks plain (Group_of o d c) a b =
+      (o ≡ a) × (kind_at ks a ≡ OpenParen) × HoldsDeclarator ks false d (a + 1) c × (kind_at ks c ≡ CloseParen) × (b ≡ c + 1)
 
   pub HoldSpecifyings : List Kind → Bool → Specifyings → ℕ → ℕ → Type 0
   HoldSpecifyings ks typed No_specifiers a b = b ≡ a
@@ -187,7 +245,7 @@ abbrev mutual
   pub HoldsNaming : List Kind → Bool → Naming → ℕ → ℕ → Type 0
   HoldsNaming ks named (Type_of ss d) a b =
       (m : ℕ) × AreSome ss × HoldSpecifyings ks false ss a m × HoldsDeclaring ks (named_by named (typed_by ks false ss)) d m b
-      × MayStand ks named ss
+      × MayStand ks (site_of named) ss
 
   pub HoldsDeclaring : List Kind → Named → Declaring → ℕ → ℕ → Type 0
   HoldsDeclaring ks named (Declaring_of ps g ds) a b =

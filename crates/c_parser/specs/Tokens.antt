@@ -5,7 +5,7 @@ use Rattle.tok_data.specs.declared.tokens.PpKind.{PpKind}
 use Rattle.tok_data.specs.declared.tokens.PpKind.TheVariants as pp
 use Rattle.tok_data.specs.Keywords.{is_keyword}
 use Rattle.c_parser.specs.declared.kinds.Kind.{Kind}
-use Rattle.c_parser.specs.declared.kinds.Kind.TheVariants.{Identifier, TypeName, TypeWord, Qualifier, Tag, SizeOf, AlignOf, Constant, Text, OpenParen, CloseParen, OpenBracket, CloseBracket, OpenBrace, CloseBrace, Member, Step, Ampersand, Star, Sign, Complement, Quotient, Shift, Relation, Equality, Caret, Bar, And, Or, Question, Colon, Assignment, Equals, Dot, Comma, Generic, OffsetOf, Default, Ellipsis, Atomic, Static, Storage, Other, Typedef, Semicolon, Assert, If, Else, Switch, Case, While, Do, For, Goto, Continue, Break, Return}
+use Rattle.c_parser.specs.declared.kinds.Kind.TheVariants.{Identifier, TypeName, TypeWord, Qualifier, Tag, SizeOf, AlignOf, Constant, Text, OpenParen, CloseParen, OpenBracket, CloseBracket, OpenBrace, CloseBrace, Member, Step, Ampersand, Star, Sign, Complement, Quotient, Shift, Relation, Equality, Caret, Bar, And, Or, Question, Colon, Assignment, Equals, Dot, Comma, Generic, OffsetOf, Default, Ellipsis, Atomic, Static, Storage, Other, Typedef, Semicolon, Assert, If, Else, Switch, Case, While, Do, For, Goto, Continue, Break, Return, Enum, Align}
 
 -- punctuators, digraphs as what they stand for
 unfoldable pub marks : List (List ℕ × Kind)
@@ -38,13 +38,13 @@ words =
     ∷ (codes "int", TypeWord) ∷ (codes "long", TypeWord) ∷ (codes "float", TypeWord) ∷ (codes "double", TypeWord)
     ∷ (codes "signed", TypeWord) ∷ (codes "unsigned", TypeWord) ∷ (codes "_Bool", TypeWord)
     ∷ (codes "_Complex", TypeWord) ∷ (codes "_Imaginary", TypeWord) ∷ (codes "struct", Tag) ∷ (codes "union", Tag)
-    ∷ (codes "enum", Tag) ∷ (codes "_Generic", Generic) ∷ (codes "__offsetof", OffsetOf)
+    ∷ (codes "enum", Enum) ∷ (codes "_Generic", Generic) ∷ (codes "__offsetof", OffsetOf)
     ∷ (codes "default", Default) ∷ (codes "_Atomic", Atomic) ∷ (codes "static", Static)
     ∷ (codes "typedef", Typedef) ∷ (codes "extern", Storage) ∷ (codes "_Thread_local", Storage) ∷ (codes "auto", Storage)
     ∷ (codes "register", Storage) ∷ (codes "inline", Storage) ∷ (codes "_Noreturn", Storage)
     ∷ (codes "_Static_assert", Assert)
     ∷ (codes "if", If) ∷ (codes "else", Else) ∷ (codes "switch", Switch) ∷ (codes "case", Case) ∷ (codes "while", While) ∷ (codes "do", Do)
-    ∷ (codes "for", For) ∷ (codes "goto", Goto) ∷ (codes "continue", Continue) ∷ (codes "break", Break) ∷ (codes "return", Return) ∷ []
+    ∷ (codes "for", For) ∷ (codes "goto", Goto) ∷ (codes "continue", Continue) ∷ (codes "break", Break) ∷ (codes "return", Return) ∷ (codes "_Alignas", Align) ∷ []
 
 unfoldable pub keyword_of : List ℕ → Kind
 keyword_of = lookup words

@@ -11,6 +11,7 @@ use Rattle.c_parser.specs.Grammar.{has_type, MayStand}
 use Rattle.c_parser.specs.Kinds.{kind_at, ends_specifiers, qualifies_at}
 use Rattle.c_parser.specs.Reading.{HoldQualifiers, HoldPointers, HoldNames, HoldSpecifying, HoldSpecifyings, HoldsDeclaring, HoldsGrouping, HoldsDeriving, HoldDerivings, HoldsBound, HoldParameters, HoldRow, IsWant}
 use Rattle.c_parser.specs.declared.kinds.Named.{Named}
+use Rattle.c_parser.specs.declared.kinds.Site.{Site}
 
 -- no specifier or qualifier stands here
 abbrev pub NoMore : List Kind → Bool → ℕ → Type 0
@@ -33,9 +34,9 @@ FailsSpecifying kinds typed at e =
     (ends_specifiers (kind_at kinds at) typed ≡ false)
     × ((s : Specifying) → (b : ℕ) → HoldSpecifying kinds typed s at b → IsWant e)
 
-pub record FoundSpecifiers (kinds : List Kind) (named : Bool) (a : ℕ) (ss : Specifyings) (b : ℕ) : Type 0 where
+pub record FoundSpecifiers (kinds : List Kind) (site : Site) (a : ℕ) (ss : Specifyings) (b : ℕ) : Type 0 where
   pub reads : HoldSpecifyings kinds false ss a b
-  pub fits : MayStand kinds named ss
+  pub fits : MayStand kinds site ss
   pub forth : a ≤ b
   pub inside : b ≤ length kinds
 

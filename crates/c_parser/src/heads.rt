@@ -1,115 +1,34 @@
 // Heads of declarations and functions, and static assertions (ISO C11 6.7, 6.7.6, 6.7.10, 6.9). Leading each declarator its name is
 // declared, also for the tokens of the same head (6.2.1).
 ghost use Rattle.std.specs.Prelude.{◌≡◌, Bool, true, false, not, ℕ, ◌+◌, ◌<◌, ◌≤◌, List, [], ◌∷◌, length, Option, Some, None, option_map, IfOk, IfErr};
-ghost use Rattle.tree_data.specs.Heads.{assertion_of, declared_one, declared_of, heading_of};
-ghost use Rattle.tree_data.specs.Seen.{declarator_of, group_of, initial_of, specifier_of, specifiers_of, specs_of, pointers_of};
-ghost use Rattle.tree_data.specs.Trees.{Declaring, Grouping, Initial, Specifyings, No_specifiers, specifyings, Heading, Declares_of};
+ghost use Rattle.tree_data.specs.Heads.{declared_one, declared_of, heading_of};
+ghost use Rattle.tree_data.specs.Seen.{assertion_of, declarator_of, initial_of, specifier_of, specifiers_of, specs_of};
+ghost use Rattle.tree_data.specs.Trees.{Declaring, Initial, Specifyings, No_specifiers, specifyings, Heading, Declares_of};
 ghost use Rattle.tree_data.specs.Trees as tree;
 ghost use Rattle.c_parser.specs.declared.kinds.Kind.TheVariants.{Assert};
-ghost use Rattle.c_parser.specs.Declarators.{name_of, name_in};
+ghost use Rattle.c_parser.specs.Declarators.{name_of};
 ghost use Rattle.c_parser.specs.Heads as head;
-ghost use Rattle.c_parser.specs.Heads.{HoldsDeclarator, HoldsDirect, HoldsValue, HoldsOne, HoldAll, HoldsAssertion, HoldsHead, Closes};
-ghost use Rattle.c_parser.specs.HeadsFound.{FoundDeclarator, FoundDirect, FoundValue, FoundOne, FoundAll, FoundFront, FoundDeclared, FoundAssertion, FoundHead, ends_one, ends_all};
+ghost use Rattle.c_parser.specs.Heads.{HoldsValue, HoldsOne, HoldAll, HoldsHead, Closes};
+ghost use Rattle.c_parser.specs.HeadsFound.{FoundDeclarator, FoundValue, FoundOne, FoundAll, FoundFront, FoundDeclared, FoundAssertion, FoundHead, ends_one, ends_all};
 ghost use Rattle.c_parser.specs.Grammar.{AreSome, typed_by};
 ghost use Rattle.c_parser.specs.Kinds as spec;
-ghost use Rattle.c_parser.specs.Reading.{HoldSpecifyings, MustGive};
+ghost use Rattle.c_parser.specs.Reading.{HoldSpecifyings, HoldsDeclarator, HoldsAssertion, MustGive};
 ghost use Rattle.c_parser.specs.Words.{shown};
 
 use crate::answers::Stop;
-use crate::declarators::{derivings, pointers};
-use crate::expressions::{CONDITIONAL, level, pieces};
 use crate::initializers::init;
-use crate::kinds::{Kind, kind_at};
+use crate::kinds::{Kind, Site, kind_at};
+use crate::members::{assertion, declared};
 use crate::scope::{Kinds, Scope};
 use crate::type_names::specifiers;
 use std::alloc::Global;
-use tree_data::{Assertion, Declarator, Group, Head, Init, Pointer, Specifier, Specs};
+use tree_data::{Assertion, Declarator, Head, Init, Specifier, Specs};
 
 // What the declarators of a declaration stand behind: whether a type specifier is there, and whether `typedef` is.
 #[derive(Clone, Copy, Drop)]
 pub(crate) struct Leading {
     typed: bool,
     typedef: bool,
-}
-
-// Whether a declarator's name stands here; behind specifiers without a type specifier it is no typedef name.
-fn names_it(kinds: &Kinds<'_>, at: u32, plain: bool) -> bool
-    ensures { result ≡ head.names_it plain (spec.kind_at kinds.now at) }
-{
-    if plain {
-        return kind_at(kinds, at).is_identifier();
-    }
-    kind_at(kinds, at).is_word()
-}
-
-// Whether it still is so behind these pointers.
-fn plain_behind(plain: bool, pointers: &[Pointer]) -> bool
-    ensures { result ≡ head.plain_behind plain (pointers_of pointers.now) }
-{
-    let Some(_) = pointers.first() else {
-        return plain;
-    };
-    false
-}
-
-// The name of a declarator, or a declarator in parentheses, and the name that stands in it.
-#[cycle(heads)]
-fn direct(alloc: Global, kinds: &Kinds<'_>, at: u32, plain: bool) -> Result<(Group, u32, u32), Stop>
-    requires size { length kinds.now ≤ 2000000 }
-    requires inside { at ≤ length kinds.now }
-    ensures found { IfOk result (λ r. FoundDirect kinds.now plain at (group_of r.0) r.2) }
-    ensures told { IfOk result (λ r. name_in (group_of r.0) ≡ Some r.1) }
-    ensures only { (g : Grouping) → (m : ℕ) → HoldsDirect kinds.now plain g at m
-        → MustGive result (λ r. (group_of r.0 ≡ g) × (r.2 ≡ m)) }
-{
-    if names_it(kinds, at, plain) {
-        return Ok((Group::named(at), at, at + 1));
-    }
-    let Kind::OpenParen = kind_at(kinds, at) else {
-        return Err(Stop::Syntax(at));
-    };
-    let (inner, name, closing) = match declared(alloc, kinds, at + 1, false) {
-        Ok(found) => found,
-        Err(stop) => return Err(stop),
-    };
-    let Kind::CloseParen = kind_at(kinds, closing) else {
-        return Err(Stop::Syntax(closing));
-    };
-    match Group::of(alloc, at, inner, closing) {
-        Ok(group) => Ok((group, name, closing + 1)),
-        Err(_) => Err(Stop::NoMemory),
-    }
-}
-
-// A declarator with a name, and the name.
-#[cycle(heads)]
-fn declared(
-    alloc: Global,
-    kinds: &Kinds<'_>,
-    at: u32,
-    plain: bool,
-) -> Result<(Declarator, u32, u32), Stop>
-    requires size { length kinds.now ≤ 2000000 }
-    requires inside { at ≤ length kinds.now }
-    ensures found { IfOk result (λ r. FoundDeclarator kinds.now plain at (declarator_of r.0) r.2) }
-    ensures told { IfOk result (λ r. name_of (declarator_of r.0) ≡ Some r.1) }
-    ensures only { (d : Declaring) → (end : ℕ) → HoldsDeclarator kinds.now plain d at end
-        → spec.ends_type (spec.kind_at kinds.now end) ≡ true
-        → MustGive result (λ r. (declarator_of r.0 ≡ d) × (r.2 ≡ end)) }
-{
-    let (pointers, place) = match pointers(alloc, kinds, at) {
-        Ok(found) => found,
-        Err(stop) => return Err(stop),
-    };
-    let which = plain_behind(plain, pointers.as_slice());
-    let (group, name, next) = match direct(alloc, kinds, place, which) {
-        Ok(found) => found,
-        Err(stop) => return Err(stop),
-    };
-    match derivings(alloc, kinds, next, true) {
-        Ok((derivings, end)) => Ok((Declarator::new(pointers, group, derivings), name, end)),
-        Err(stop) => Err(stop),
-    }
 }
 
 // A declarator of a declaration, under the identifiers in force.
@@ -266,7 +185,7 @@ fn front_in(alloc: Global, scope: &Scope<'_>, at: u32) -> Result<(Specs, Leading
     let Ok(kinds) = scope.kinds() else {
         return Err(Stop::NoMemory);
     };
-    let (specifiers, typed, behind) = match specifiers(alloc, &kinds, at, true) {
+    let (specifiers, typed, behind) = match specifiers(alloc, &kinds, at, Site::OfDeclaration) {
         Ok(found) => found,
         Err(stop) => return Err(stop),
     };
@@ -343,8 +262,8 @@ fn declaration<'a>(alloc: Global, scope: Scope<'a>, at: u32) -> Result<(Head, Sc
     }
 }
 
-// A static assertion.
-fn assertion(alloc: Global, scope: &Scope<'_>, at: u32) -> Result<(Assertion, u32), Stop>
+// A static assertion, under the identifiers in force.
+fn assertion_in(alloc: Global, scope: &Scope<'_>, at: u32) -> Result<(Assertion, u32), Stop>
     requires size { length scope.now.kinds ≤ 2000000 }
     requires inside { at < length scope.now.kinds }
     requires kind { spec.kind_at scope.now.kinds at ≡ Assert }
@@ -355,33 +274,10 @@ fn assertion(alloc: Global, scope: &Scope<'_>, at: u32) -> Result<(Assertion, u3
     let Ok(kinds) = scope.kinds() else {
         return Err(Stop::NoMemory);
     };
-    let Kind::OpenParen = kind_at(&kinds, at + 1) else {
-        return Err(Stop::Syntax(at + 1));
-    };
-    let (condition, comma) = match level(alloc, &kinds, CONDITIONAL, at + 2) {
-        Ok(found) => found,
-        Err(stop) => return Err(stop),
-    };
-    let Kind::Comma = kind_at(&kinds, comma) else {
-        return Err(Stop::Syntax(comma));
-    };
-    let (text, closing) = match pieces(alloc, &kinds, comma + 1) {
-        Ok(found) => found,
-        Err(stop) => return Err(stop),
-    };
-    if closing <= comma + 1 {
-        return Err(Stop::Syntax(closing));
+    match assertion(alloc, &kinds, at) {
+        Ok(found) => Ok(found),
+        Err(stop) => Err(stop),
     }
-    let Kind::CloseParen = kind_at(&kinds, closing) else {
-        return Err(Stop::Syntax(closing));
-    };
-    let Kind::Semicolon = kind_at(&kinds, closing + 1) else {
-        return Err(Stop::Syntax(closing + 1));
-    };
-    Ok((
-        Assertion::new(at, at + 1, condition, comma, text, closing, closing + 1),
-        closing + 2,
-    ))
 }
 
 // A head, and the identifiers behind it.
@@ -400,7 +296,7 @@ pub(crate) fn head<'a>(
     let Kind::Assert = scope.at(at) else {
         return declaration(alloc, scope, at);
     };
-    match assertion(alloc, &scope, at) {
+    match assertion_in(alloc, &scope, at) {
         Ok((assertion, end)) => {
             let head = Head::asserted(Specs::new(Vec::new(alloc)), Vec::new(alloc), assertion);
             Ok((head, scope, end))

@@ -21,8 +21,11 @@ pub enum Kind {
     Storage,
     Typedef,
     Static,
-    /// `struct`, `union` and `enum`.
+    /// `struct` and `union`.
     Tag,
+    Enum,
+    /// `_Alignas`.
+    Align,
     Constant,
     Text,
     OpenParen,
@@ -154,6 +157,8 @@ impl Kind {
             Kind::TypeWord
                 | Kind::Qualifier
                 | Kind::Tag
+                | Kind::Enum
+                | Kind::Align
                 | Kind::TypeName(_)
                 | Kind::Atomic
                 | Kind::Storage
@@ -167,6 +172,25 @@ impl Kind {
         ensures { result ≡ spec.is_storage self }
     {
         matches!(self, Kind::Storage | Kind::Typedef | Kind::Static)
+    }
+
+    pub fn is_align(self) -> bool
+        ensures { result ≡ spec.is_align self }
+    {
+        matches!(self, Kind::Align)
+    }
+
+    // Whether it is `struct` or `union`.
+    pub fn is_tag(self) -> bool
+        ensures { result ≡ spec.is_tag self }
+    {
+        matches!(self, Kind::Tag)
+    }
+
+    pub fn is_brace(self) -> bool
+        ensures { result ≡ spec.is_brace self }
+    {
+        matches!(self, Kind::OpenBrace)
     }
 
     // Whether it is the storage class `typedef` (6.7.1).
@@ -237,6 +261,8 @@ impl Kind {
                 | Kind::TypeWord
                 | Kind::Qualifier
                 | Kind::Tag
+                | Kind::Enum
+                | Kind::Align
                 | Kind::TypeName(_)
                 | Kind::Atomic
                 | Kind::Storage
@@ -267,6 +293,8 @@ impl Kind {
             Kind::TypeWord
                 | Kind::Qualifier
                 | Kind::Tag
+                | Kind::Enum
+                | Kind::Align
                 | Kind::TypeName(_)
                 | Kind::Atomic
                 | Kind::Storage
@@ -414,12 +442,62 @@ pub(crate) fn names_at(kinds: &Kinds<'_>, at: u32, named: Named) -> bool
     }
 }
 
-// Whether a storage class or a function specifier stands here, among specifiers of which it is none (6.7.2.1).
-#[tactic(auto, unfolding(crate::specs::Kinds::stored_amiss))]
-pub(crate) fn stored_amiss(kinds: &Kinds<'_>, at: u32, named: bool) -> bool
-    ensures { result ≡ spec.stored_amiss kinds.now at named }
+/// What specifiers stand in front of: a type's name (6.7.7), members (6.7.2.1), or what a declaration or a parameter declares (6.7, 6.7.6).
+#[derive(Clone, Copy, Debug, PartialEq, Eq, Hash, Drop)]
+pub enum Site {
+    OfName,
+    OfMember,
+    OfDeclaration,
+}
+
+impl Site {
+    // Whether what begins with such a token may stand among these specifiers.
+    pub fn admits(self, kind: Kind) -> bool
+        ensures { result ≡ spec.admits self kind }
+    {
+        match self {
+            Site::OfName => !kind.is_storage() && !kind.is_align(),
+            Site::OfMember => !kind.is_storage(),
+            Site::OfDeclaration => true,
+        }
+    }
+}
+
+// Those of a parameter, or of a type's name.
+pub(crate) fn site_of(parameter: bool) -> Site
+    ensures { result ≡ spec.site_of parameter }
 {
-    !named && kind_at(kinds, at).is_storage()
+    if parameter {
+        return Site::OfDeclaration;
+    }
+    Site::OfName
+}
+
+// Whether what stands here may not stand among these specifiers.
+#[tactic(auto, unfolding(crate::specs::Kinds::stored_amiss))]
+pub(crate) fn stored_amiss(kinds: &Kinds<'_>, at: u32, site: Site) -> bool
+    ensures { result ≡ spec.stored_amiss kinds.now at site }
+{
+    !site.admits(kind_at(kinds, at))
+}
+
+// Whether the `{` of members stands here, or behind a tag here.
+#[tactic(auto, unfolding(crate::specs::Kinds::braces_at))]
+fn braces_at(kinds: &Kinds<'_>, at: u32) -> bool
+    requires { at ≤ 2000002 }
+    ensures { result ≡ spec.braces_at kinds.now at }
+{
+    kind_at(kinds, at).is_brace()
+        || (kind_at(kinds, at).is_word() && kind_at(kinds, at + 1).is_brace())
+}
+
+// Whether a structure or union with members begins at this token (6.7.2.1).
+#[tactic(auto, unfolding(crate::specs::Kinds::members_open))]
+pub(crate) fn members_open(kinds: &Kinds<'_>, at: u32) -> bool
+    requires { at ≤ 2000001 }
+    ensures { result ≡ spec.members_open kinds.now at }
+{
+    kind_at(kinds, at).is_tag() && braces_at(kinds, at + 1)
 }
 
 // Whether no operator stands in front of this token that takes a unary-expression.

@@ -10,6 +10,7 @@ mod heads;
 mod initializers;
 mod joining;
 mod kinds;
+mod members;
 mod names;
 mod parts;
 mod scope;

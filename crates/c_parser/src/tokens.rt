@@ -65,7 +65,7 @@ static MARKS: [(&str, Kind); 50] = [
     (";", Kind::Semicolon),
 ];
 
-static WORDS: [(&str, Kind); 44] = [
+static WORDS: [(&str, Kind); 45] = [
     ("sizeof", Kind::SizeOf),
     ("_Alignof", Kind::AlignOf),
     ("const", Kind::Qualifier),
@@ -85,7 +85,7 @@ static WORDS: [(&str, Kind); 44] = [
     ("_Imaginary", Kind::TypeWord),
     ("struct", Kind::Tag),
     ("union", Kind::Tag),
-    ("enum", Kind::Tag),
+    ("enum", Kind::Enum),
     ("_Generic", Kind::Generic),
     ("__offsetof", Kind::OffsetOf),
     ("default", Kind::Default),
@@ -110,6 +110,7 @@ static WORDS: [(&str, Kind); 44] = [
     ("continue", Kind::Continue),
     ("break", Kind::Break),
     ("return", Kind::Return),
+    ("_Alignas", Kind::Align),
 ];
 
 fn look_up(text: &str, table: &[(&str, Kind)]) -> Option<Kind>

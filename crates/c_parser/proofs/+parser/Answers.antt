@@ -1,14 +1,19 @@
 use Rattle.c_parser.proofs.ParameterLists.{parameter_row_found, parameter_row_same, parameter_row_fails, parameter_row_push, none_same, first_missing, rest_missing, fixed_same, variadic_same, fixed_found, variadic_found, row_found_under, row_only_under, row_fails_under, rowing_start_with}
 use Rattle.c_parser.proofs.Abstract.{no_group, group_fails, group_left_open, group_found, group_same, static_fails, static_found, static_same, unsized_found, unsized_same, last_static_fails, last_static_found, last_static_same, sized_fails, sized_found, sized_same, any_found, any_same, array_fails, array_left_open, array_found, found_deriving_only, nothing_derives, derivings_found, derivings_same, derivings_fail, derivings_unnamed, derivings_push, group_missing, derivings_missing, declaring_found, declaring_same, name_found, name_same, function_found, function_fails, function_left_open}
-use Rattle.c_parser.proofs.SpecifierLists.{atomic_found, atomic_specified, atomic_fails, specifiers_end, specifiers_only, specifiers_fail, specifiers_refused, specifiers_push, specifiers_missing, none_specifying, some_specifying, declarator_missing, naming_found, name_only, specifiers_told}
-use Rattle.c_parser.proofs.Words.{left_of, right_of, not_named, named_or, opens_inside, opens_next, name_stands, name_stands_not, behind_mapped}
-use Rattle.c_parser.specs.TypeNames.{FoundGrouping, FoundBound, FoundDeriving, FoundDeclaring, FoundParameters}
-use Rattle.tree_data.specs.Trees.{Atomic_of, Type_of, needs_name}
-use Rattle.tree_data.specs.Seen.{declarator_of, deriving_of, pointing}
+use Rattle.c_parser.proofs.HeadDeclarators as named
+use Rattle.c_parser.proofs.HeadWholes as asserts
+use Rattle.c_parser.proofs.MemberLists.{OnlyField, padding_found, padding_same, padding_fails, no_declarator, declared_found, declared_same, bits_found, bits_same, width_fails, fielding_start_with, fielding_end, fielding_only, fielding_fails, fielding_push, first_fails, rest_fails, list_unended, list_found, specs_fail, no_specs, bare_found, list_missing, fields_found, asserted_found, asserted_fails, membering_start_with, membering_fails, members_end, membering_push}
+use Rattle.c_parser.specs.HeadsFound.{FoundDirect, FoundDeclarator, FoundAssertion}
+use Rattle.c_parser.specs.MembersFound.{FoundField, FoundMember}
+use Rattle.c_parser.proofs.SpecifierLists.{OnlySpecifiers, FailsSpecifiers, align_unopened, aligned_as_fails, aligned_as_found, aligned_fails, aligned_left_open, aligned_found, structure_found, structure_fails, atomic_found, atomic_specified, atomic_fails, specifiers_end, specifiers_only, specifiers_fail, specifiers_refused, specifiers_push, specifiers_missing, none_specifying, some_specifying, declarator_missing, naming_found, name_only, specifiers_told}
+use Rattle.c_parser.proofs.Words.{members_inside, members_kind, members_braces, left_of, right_of, not_named, named_or, opens_inside, opens_next, name_stands, name_stands_not, behind_mapped}
+use Rattle.c_parser.specs.TypeNames.{FoundSpecifiers, FoundGrouping, FoundBound, FoundDeriving, FoundDeclaring, FoundParameters}
+use Rattle.tree_data.specs.Trees.{Atomic_of, Type_of, Bare_of, Fields_of, No_fields, No_specifiers, fields, specifyings, needs_name}
+use Rattle.tree_data.specs.Seen.{declarator_of, deriving_of, field_of, fields_of, pointers_of, pointing, specifiers_of}
 use Rattle.c_parser.specs.declared.before.Begun.TheVariants.{Literal}
 use Rattle.std.proofs.Common.{ap, sym, ◌∙◌, subst, arith, ◌+◌, ◌≤◌, ◌<◌, ◌≡◌, refl, length, ◌==◌, not, is_some}
 use Rattle.c_parser.specs.Beginnings.{start_of}
-use Rattle.c_parser.specs.Kinds.{level_of, is_word, is_designating, is_prefix, is_deriving, opens_parameters, named_by, behind_pointers, hide}
+use Rattle.c_parser.specs.Kinds.{level_of, is_word, is_designating, is_prefix, is_deriving, opens_parameters, named_by, behind_pointers, plain_behind, starts_type, hide}
 use Rattle.c_parser.specs.Reading.{Reads, Found, FoundBehind, FoundBraces, FoundInitial, FoundDesignator, FoundAssociation, FoundFront, FoundNaming}
 use Rattle.c_parser.proofs.Fronts.{value_fails, no_place, places_end, test_fails, middle_fails, no_colon, tests_end, unary_fails, operand_of_fails, unary_found}
 use Rattle.c_parser.proofs.Marks.{is_step, member_none}
@@ -947,7 +952,17 @@ type_names::specifiers-specifiers-preserved t c =
     c.in-Ok.ensures.items
 
 pub type_names::specified-returns-in-Err : goal.type_names::specified-returns-in-Err
-type_names::specified-returns-in-Err t c = record { found = tt; told = tt; only = specifiers_missing _ _ _ _ c.in-Err.ensures.only }
+type_names::specified-returns-in-Err t c = record {
+  found = tt;
+  told = tt;
+  only =
+      specifiers_missing
+      _
+      _
+      _
+      _
+      (subst (λ x. FailsSpecifiers c.args.kinds.now x c.args.at c.in-Err.stop) c.site_of.ensures c.in-Err.ensures.only);
+}
 
 pub type_names::specified-returns-then-is_empty : goal.type_names::specified-returns-then-is_empty
 type_names::specified-returns-then-is_empty t c = record {
@@ -961,7 +976,7 @@ type_names::specified-returns-then-is_empty t c = record {
       _
       c.in-Ok.found.0.items
       (ap (λ xs. length xs == 0) (sym c.as_slice.ensures.value) ∙ sym c.if-is_empty.ensures)
-      c.in-Ok.ensures.only;
+      (subst (λ x. OnlySpecifiers c.args.kinds.now x c.args.at (specifyings (specifiers_of c.in-Ok.found.0.items) No_specifiers) c.in-Ok.found.2) c.site_of.ensures c.in-Ok.ensures.only);
 }
 
 pub type_names::specified-returns-in-Ok-declarator : goal.type_names::specified-returns-in-Ok-declarator
@@ -984,13 +999,13 @@ type_names::specified-returns-in-Ok-declarator t c =
           (some_specifying
           c.in-Ok.found.0.items
           (ap (λ xs. length xs == 0) (sym c.as_slice.ensures.value) ∙ sym c.if-is_empty.ensures))
-          c.in-Ok.ensures.found
+          (subst (λ x. FoundSpecifiers c.args.kinds.now x c.args.at (specifyings (specifiers_of c.in-Ok.found.0.items) No_specifiers) c.in-Ok.found.2) c.site_of.ensures c.in-Ok.ensures.found)
           _
           by
           c.in-Ok-declarator.ensures.found);
       told = c.in-Ok-declarator.ensures.told ∙ ap name_by (sym is);
       only = λ u end h e.
-          let same = name_only _ _ _ _ _ _ _ c.in-Ok.ensures.only _ by c.in-Ok-declarator.ensures.only u end h e in
+          let same = name_only _ _ _ _ _ _ _ (subst (λ x. OnlySpecifiers c.args.kinds.now x c.args.at (specifyings (specifiers_of c.in-Ok.found.0.items) No_specifiers) c.in-Ok.found.2) c.site_of.ensures c.in-Ok.ensures.only) _ by c.in-Ok-declarator.ensures.only u end h e in
           (is ∙ same.0, same.1);
     }
 
@@ -1005,7 +1020,7 @@ type_names::specified-returns-in-Err-declarator t c = record {
       _
       _
       _
-      c.in-Ok.ensures.only
+      (subst (λ x. OnlySpecifiers c.args.kinds.now x c.args.at (specifyings (specifiers_of c.in-Ok.found.0.items) No_specifiers) c.in-Ok.found.2) c.site_of.ensures c.in-Ok.ensures.only)
       _
       (c.named_by.ensures ∙ ap (named_by c.args.named) c.in-Ok.ensures.told)
       _
@@ -1656,3 +1671,646 @@ declarators::function-returns t c =
     (sym c.in-CloseParen.ensures.kind)
     c.in-CloseParen.ensures.inside) in
     record { found = made; only = found_deriving_only _ _ _ _ made }
+
+pub members::direct-returns-then-names_it : goal.members::direct-returns-then-names_it
+members::direct-returns-then-names_it t c =
+    let word = sym c.names_it.ensures ∙ c.if-names_it.true in
+    let only = named.name_same _ c.args.plain _ word in
+    record {
+      found =
+          subst
+          (λ x. FoundDirect c.args.kinds.now c.args.plain c.args.at x (c.args.at + 1))
+          (sym c.named.ensures)
+          (named.name_found _ _ _ word);
+      told = ap name_in c.named.ensures;
+      only = λ g m h. let same = only g m h in (c.named.ensures ∙ same.0, same.1);
+    }
+
+pub members::direct-returns-in_default : goal.members::direct-returns-in_default
+members::direct-returns-in_default t c = record {
+  found = tt;
+  told = tt;
+  only =
+      named.nothing_direct
+      _
+      _
+      _
+      (sym c.names_it.ensures ∙ c.if-names_it.false)
+      (λ k. c.in_default.not-OpenParen (c.kind_at.ensures.kind ∙ k))
+      c.args.at;
+}
+
+pub members::direct-returns-in-Err : goal.members::direct-returns-in-Err
+members::direct-returns-in-Err t c = record {
+  found = tt;
+  told = tt;
+  only = named.direct_fails _ _ _ (sym c.in-OpenParen.ensures.kind) _ c.in-Err.ensures.only;
+}
+
+pub members::direct-returns-in_default-kind_at : goal.members::direct-returns-in_default-kind_at
+members::direct-returns-in_default-kind_at t c = record {
+  found = tt;
+  told = tt;
+  only =
+      named.direct_left_open
+      _
+      _
+      _
+      (sym c.in-OpenParen.ensures.kind)
+      _
+      _
+      c.in-Ok.ensures.only
+      (λ k. c.in_default-kind_at.not-CloseParen (c.kind_at-2.ensures.kind ∙ k))
+      c.args.at;
+}
+
+pub members::direct-returns-in-Ok-of : goal.members::direct-returns-in-Ok-of
+members::direct-returns-in-Ok-of t c =
+    let here = sym c.in-OpenParen.ensures.kind in
+    let only = named.direct_same _ c.args.plain _ here _ _ c.in-Ok.ensures.only in
+    record {
+      found =
+          subst
+          (λ x. FoundDirect c.args.kinds.now c.args.plain c.args.at x (c.in-Ok.found.2 + 1))
+          (sym c.in-Ok-of.ensures)
+          (named.direct_found _ _ _ here _ _ c.in-Ok.ensures.found (sym c.in-CloseParen.ensures.kind) c.in-CloseParen.ensures.inside);
+      told = ap name_in c.in-Ok-of.ensures ∙ c.in-Ok.ensures.told;
+      only = λ g m h. let same = only g m h in (c.in-Ok-of.ensures ∙ same.0, same.1);
+    }
+
+pub members::declared-returns-in-Err-direct : goal.members::declared-returns-in-Err-direct
+members::declared-returns-in-Err-direct t c = record {
+  found = tt;
+  told = tt;
+  only =
+      named.direct_missing
+      _
+      _
+      _
+      _
+      _
+      c.in-Ok.ensures.found
+      _
+      (c.plain_behind-which.ensures ∙ ap (λ ps. plain_behind c.args.plain (pointers_of ps)) c.as_slice.ensures.value)
+      _
+      c.in-Err-direct.ensures.only;
+}
+
+pub members::declared-returns-in-Err-derivings : goal.members::declared-returns-in-Err-derivings
+members::declared-returns-in-Err-derivings t c = record {
+  found = tt;
+  told = tt;
+  only =
+      named.derived_missing
+      _
+      _
+      _
+      _
+      _
+      c.in-Ok.ensures.found
+      _
+      _
+      _
+      (c.plain_behind-which.ensures ∙ ap (λ ps. plain_behind c.args.plain (pointers_of ps)) c.as_slice.ensures.value)
+      c.in-Ok-direct.ensures.only
+      _
+      c.in-Err-derivings.ensures.only;
+}
+
+pub members::declared-returns-in-Ok-derivings : goal.members::declared-returns-in-Ok-derivings
+members::declared-returns-in-Ok-derivings t c =
+    let by = c.plain_behind-which.ensures ∙ ap (λ ps. plain_behind c.args.plain (pointers_of ps)) c.as_slice.ensures.value in
+    let only =
+    named.declarator_same
+    _
+    c.args.plain
+    _
+    _
+    _
+    c.in-Ok.ensures.found
+    _
+    _
+    _
+    by
+    c.in-Ok-direct.ensures.only
+    _
+    _
+    c.in-Ok-derivings.ensures.only in
+    record {
+      found =
+          subst
+          (λ x. FoundDeclarator c.args.kinds.now c.args.plain c.args.at x c.in-Ok-derivings.end)
+          (sym c.new.ensures)
+          (named.declarator_found
+          _
+          _
+          _
+          _
+          _
+          c.in-Ok.ensures.found
+          _
+          _
+          _
+          by
+          c.in-Ok-direct.ensures.found
+          _
+          _
+          c.in-Ok-derivings.ensures.found);
+      told = ap name_of c.new.ensures ∙ c.in-Ok-direct.ensures.told;
+      only = λ d end h e. let same = only d end h e in (c.new.ensures ∙ same.0, same.1);
+    }
+
+pub members::assertion-returns-in_default-clause-only : goal.members::assertion-returns-in_default-clause-only
+members::assertion-returns-in_default-clause-only t c = asserts.unopened _ _ (λ k. c.in_default.not-OpenParen (c.kind_at.ensures.kind ∙ k)) 0
+
+pub members::assertion-returns-in-Err-clause-only : goal.members::assertion-returns-in-Err-clause-only
+members::assertion-returns-in-Err-clause-only t c = asserts.condition_fails _ _ _ c.in-Err.ensures.only
+
+pub members::assertion-returns-in_default-kind_at-clause-only : goal.members::assertion-returns-in_default-kind_at-clause-only
+members::assertion-returns-in_default-kind_at-clause-only t c =
+    asserts.no_comma _ _ _ _ c.in-Ok.ensures.only (λ k. c.in_default-kind_at.not-Comma (c.kind_at-2.ensures.kind ∙ k)) 0
+
+pub members::assertion-returns-then-closing-comma-clause-only : goal.members::assertion-returns-then-closing-comma-clause-only
+members::assertion-returns-then-closing-comma-clause-only t c =
+    asserts.no_text _ _ _ _ c.in-Ok.ensures.only _ _ c.in-Ok-pieces.ensures.found (omega (arith, c.if-closing-comma.true)) 0
+
+pub members::assertion-returns-in_default-kind_at-2-clause-only : goal.members::assertion-returns-in_default-kind_at-2-clause-only
+members::assertion-returns-in_default-kind_at-2-clause-only t c =
+    asserts.unclosed
+    _
+    _
+    _
+    _
+    c.in-Ok.ensures.only
+    _
+    _
+    c.in-Ok-pieces.ensures.found
+    (λ k. c.in_default-kind_at-2.not-CloseParen (c.kind_at-3.ensures.kind ∙ k))
+    0
+
+pub members::assertion-returns-in_default-kind_at-3-clause-only : goal.members::assertion-returns-in_default-kind_at-3-clause-only
+members::assertion-returns-in_default-kind_at-3-clause-only t c =
+    asserts.unended
+    _
+    _
+    _
+    _
+    c.in-Ok.ensures.only
+    _
+    _
+    c.in-Ok-pieces.ensures.found
+    (λ k. c.in_default-kind_at-3.not-Semicolon (c.kind_at-4.ensures.kind ∙ k))
+    0
+
+pub members::assertion-returns : goal.members::assertion-returns
+members::assertion-returns t c =
+    let only = asserts.assertion_same _ c.args.at _ _ c.in-Ok.ensures.only _ _ c.in-Ok-pieces.ensures.found in
+    record {
+      found =
+          subst
+          (λ y. FoundAssertion c.args.kinds.now c.args.at y (c.in-Ok-pieces.found.1 + 2))
+          (sym c.new.ensures)
+          (asserts.assertion_found
+          _
+          _
+          c.requires.kind
+          (sym c.in-OpenParen.ensures.kind)
+          _
+          _
+          c.in-Ok.ensures.found
+          (sym c.in-Comma.ensures.kind)
+          _
+          _
+          c.in-Ok-pieces.ensures.found
+          (omega (arith, c.if-closing-comma.false))
+          (sym c.in-CloseParen.ensures.kind)
+          (sym c.in-Semicolon.ensures.kind)
+          c.in-Semicolon.ensures.inside);
+      only = subst (λ y. asserts.OnlyAssertion c.args.kinds.now c.args.at y (c.in-Ok-pieces.found.1 + 2)) (sym c.new.ensures) only;
+    }
+
+pub members::padding-returns-in-Ok : goal.members::padding-returns-in-Ok
+members::padding-returns-in-Ok t c = record {
+  found =
+      subst
+      (λ x. FoundField c.args.kinds.now c.args.plain c.args.at x c.in-Ok.end)
+      (sym c.padding.ensures)
+      (padding_found _ _ _ c.requires.kind _ _ c.in-Ok.ensures.found);
+  only =
+      subst
+      (λ x. OnlyField c.args.kinds.now c.args.plain c.args.at x c.in-Ok.end)
+      (sym c.padding.ensures)
+      (padding_same _ _ _ c.requires.kind _ _ c.in-Ok.ensures.only);
+}
+
+pub members::padding-returns-in-Err : goal.members::padding-returns-in-Err
+members::padding-returns-in-Err t c = record { found = tt; only = padding_fails _ _ _ c.requires.kind _ c.in-Err.ensures.only }
+
+pub members::field-padding-requires : goal.members::field-padding-requires
+members::field-padding-requires t c =
+    (omega (arith, c.decreases), (c.requires.size, (c.in-Colon.ensures.inside, sym c.in-Colon.ensures.kind)))
+
+pub members::field-returns-in-Err : goal.members::field-returns-in-Err
+members::field-returns-in-Err t c = record {
+  found = tt;
+  only = no_declarator _ _ _ (λ k. c.in_default.not-Colon (c.kind_at.ensures.kind ∙ k)) _ c.in-Err.ensures.only;
+}
+
+pub members::field-returns-in_default-kind_at : goal.members::field-returns-in_default-kind_at
+members::field-returns-in_default-kind_at t c = record {
+  found =
+      subst
+      (λ x. FoundField c.args.kinds.now c.args.plain c.args.at x c.in-Ok.found.2)
+      (sym c.declared-in_default-kind_at.ensures)
+      (declared_found _ _ _ _ _ c.in-Ok.ensures.found);
+  only =
+      subst
+      (λ x. OnlyField c.args.kinds.now c.args.plain c.args.at x c.in-Ok.found.2)
+      (sym c.declared-in_default-kind_at.ensures)
+      (declared_same
+      _
+      _
+      _
+      (λ k. c.in_default.not-Colon (c.kind_at.ensures.kind ∙ k))
+      _
+      _
+      c.in-Ok.ensures.only
+      (λ k. c.in_default-kind_at.not-Colon (c.kind_at-2.ensures.kind ∙ k)));
+}
+
+pub members::field-returns-in-Ok-level : goal.members::field-returns-in-Ok-level
+members::field-returns-in-Ok-level t c =
+    let here = sym c.in-Colon-kind_at.ensures.kind in
+    record {
+      found =
+          subst
+          (λ x. FoundField c.args.kinds.now c.args.plain c.args.at x c.in-Ok-level.end)
+          (sym c.bits.ensures)
+          (bits_found _ _ _ _ _ c.in-Ok.ensures.found here _ _ c.in-Ok-level.ensures.found);
+      only =
+          subst
+          (λ x. OnlyField c.args.kinds.now c.args.plain c.args.at x c.in-Ok-level.end)
+          (sym c.bits.ensures)
+          (bits_same
+          _
+          _
+          _
+          (λ k. c.in_default.not-Colon (c.kind_at.ensures.kind ∙ k))
+          _
+          _
+          c.in-Ok.ensures.only
+          here
+          _
+          _
+          c.in-Ok-level.ensures.only);
+    }
+
+pub members::field-returns-in-Err-level : goal.members::field-returns-in-Err-level
+members::field-returns-in-Err-level t c = record {
+  found = tt;
+  only =
+      width_fails
+      _
+      _
+      _
+      (λ k. c.in_default.not-Colon (c.kind_at.ensures.kind ∙ k))
+      _
+      _
+      c.in-Ok.ensures.only
+      (sym c.in-Colon-kind_at.ensures.kind)
+      _
+      c.in-Err-level.ensures.only;
+}
+
+pub members::more_fields-fields-init : goal.members::more_fields-fields-init
+members::more_fields-fields-init t c = fielding_start_with _ _ _ c.new-more.ensures.items c.requires.inside
+
+pub members::more_fields-returns-in_default : goal.members::more_fields-returns-in_default
+members::more_fields-returns-in_default t c = record {
+  found = fielding_end _ _ _ _ c.fields.invariant (λ k. c.in_default.not-Comma (c.kind_at.ensures.kind ∙ k));
+  only = fielding_only _ _ _ _ c.fields.invariant (λ k. c.in_default.not-Comma (c.kind_at.ensures.kind ∙ k));
+}
+
+pub members::more_fields-returns-in-Err : goal.members::more_fields-returns-in-Err
+members::more_fields-returns-in-Err t c =
+    record { found = tt; only = fielding_fails _ _ _ _ c.fields.invariant (sym c.in-Comma.ensures.kind) _ c.in-Err.ensures.only }
+
+pub members::more_fields-fields-preserved : goal.members::more_fields-fields-preserved
+members::more_fields-fields-preserved t c =
+    fielding_push
+    _
+    _
+    _
+    _
+    _
+    c.fields.invariant
+    (sym c.in-Comma.ensures.kind)
+    _
+    _
+    c.in-Ok.ensures.found
+    c.in-Ok.ensures.only
+    c.in-Ok-push.ensures.items
+
+pub members::fields-returns-in-Err : goal.members::fields-returns-in-Err
+members::fields-returns-in-Err t c = record { found = tt; fails = first_fails _ _ _ _ c.in-Err.ensures.only }
+
+pub members::fields-returns-in-Err-more_fields : goal.members::fields-returns-in-Err-more_fields
+members::fields-returns-in-Err-more_fields t c =
+    record { found = tt; fails = rest_fails _ _ _ _ _ c.in-Ok.ensures.only _ c.in-Err-more_fields.ensures.only }
+
+pub members::fields-returns-in_default : goal.members::fields-returns-in_default
+members::fields-returns-in_default t c = record {
+  found = tt;
+  fails =
+      list_unended
+      _
+      _
+      _
+      _
+      _
+      c.in-Ok.ensures.only
+      _
+      _
+      c.in-Ok-more_fields.ensures.only
+      (λ k. c.in_default.not-Semicolon (c.kind_at.ensures.kind ∙ k))
+      c.args.at;
+}
+
+pub members::fields-returns : goal.members::fields-returns
+members::fields-returns t c = record {
+  found =
+      list_found
+      _
+      _
+      _
+      _
+      _
+      c.in-Ok.ensures.found
+      _
+      _
+      c.in-Ok-more_fields.ensures.found
+      (sym c.in-Semicolon.ensures.kind)
+      c.in-Semicolon.ensures.inside;
+  fails = tt;
+}
+
+pub members::specified_member-returns-in-Err : goal.members::specified_member-returns-in-Err
+members::specified_member-returns-in-Err t c = record { found = tt; fails = specs_fail _ _ c.requires.other _ c.in-Err.ensures.only }
+
+pub members::specified_member-returns-then-is_empty : goal.members::specified_member-returns-then-is_empty
+members::specified_member-returns-then-is_empty t c = record {
+  found = tt;
+  fails =
+      no_specs
+      _
+      _
+      c.requires.other
+      _
+      c.in-Ok.found.0.items
+      (ap (λ xs. length xs == 0) (sym c.as_slice.ensures.value) ∙ sym c.if-is_empty.ensures)
+      c.in-Ok.ensures.only
+      c.args.at;
+}
+
+pub members::specified_member-returns-in-Semicolon : goal.members::specified_member-returns-in-Semicolon
+members::specified_member-returns-in-Semicolon t c = record {
+  found =
+      subst
+      (λ x. FoundMember c.args.kinds.now c.args.at x (c.in-Ok.found.2 + 1))
+      (sym (c.bare.ensures ∙ ap (λ x. Bare_of x c.in-Ok.found.2) c.new.ensures))
+      (bare_found
+      _
+      _
+      c.in-Ok.found.0.items
+      (ap (λ xs. length xs == 0) (sym c.as_slice.ensures.value) ∙ sym c.if-is_empty.ensures)
+      _
+      c.in-Ok.ensures.found
+      (sym c.in-Semicolon.ensures.kind)
+      c.in-Semicolon.ensures.inside);
+  fails = tt;
+}
+
+pub members::specified_member-returns-in-Err-fields : goal.members::specified_member-returns-in-Err-fields
+members::specified_member-returns-in-Err-fields t c = record {
+  found = tt;
+  fails =
+      list_missing
+      _
+      _
+      c.requires.other
+      _
+      _
+      c.in-Ok.ensures.only
+      (λ k. c.in_default.not-Semicolon (c.kind_at.ensures.kind ∙ k))
+      _
+      (ap not c.in-Ok.ensures.told)
+      _
+      c.in-Err-fields.ensures.fails;
+}
+
+pub members::specified_member-returns-in-Ok-fields : goal.members::specified_member-returns-in-Ok-fields
+members::specified_member-returns-in-Ok-fields t c =
+    let f = field_of c.in-Ok-fields.first in
+    let fs = fields (fields_of c.in-Ok-fields.more.items) No_fields in
+    record {
+      found =
+          subst
+          (λ x. FoundMember c.args.kinds.now c.args.at x (c.in-Ok-fields.end + 1))
+          (sym (c.fields-in-Ok-fields.ensures ∙ ap (λ x. Fields_of x f fs c.in-Ok-fields.end) c.new-in-Ok-fields.ensures))
+          (fields_found
+          _
+          _
+          c.in-Ok.found.0.items
+          (ap (λ xs. length xs == 0) (sym c.as_slice.ensures.value) ∙ sym c.if-is_empty.ensures)
+          _
+          c.in-Ok.ensures.found
+          _
+          (ap not c.in-Ok.ensures.told)
+          _
+          _
+          _
+          c.in-Ok-fields.ensures.found);
+      fails = tt;
+    }
+
+pub members::member-returns-in-Ok : goal.members::member-returns-in-Ok
+members::member-returns-in-Ok t c = record {
+  found =
+      subst
+      (λ x. FoundMember c.args.kinds.now c.args.at x c.in-Ok.end)
+      (sym c.asserted.ensures)
+      (asserted_found _ _ _ _ c.in-Ok.ensures.found);
+  fails = tt;
+}
+
+pub members::member-returns-in-Err : goal.members::member-returns-in-Err
+members::member-returns-in-Err t c =
+    record { found = tt; fails = asserted_fails _ _ (sym c.in-Assert.ensures.kind) _ c.in-Err.ensures.only }
+
+pub members::members-members-init : goal.members::members-members-init
+members::members-members-init t c = membering_start_with _ _ _ c.new-members.ensures.items c.requires.inside
+
+pub members::members-returns-in-Err : goal.members::members-returns-in-Err
+members::members-returns-in-Err t c = record { found = tt; fails = membering_fails _ _ _ _ c.members.invariant _ c.in-Err.ensures.fails }
+
+pub members::members-returns-in-CloseBrace : goal.members::members-returns-in-CloseBrace
+members::members-returns-in-CloseBrace t c = record {
+  found =
+      members_end
+      _
+      _
+      _
+      _
+      _
+      c.members.invariant
+      _
+      _
+      c.in-Ok.ensures.found
+      (sym c.in-CloseBrace.ensures.kind)
+      c.in-CloseBrace.ensures.inside
+      c.in-Ok-push.ensures.items;
+  fails = tt;
+}
+
+pub members::members-members-preserved : goal.members::members-members-preserved
+members::members-members-preserved t c =
+    membering_push
+    _
+    _
+    _
+    _
+    _
+    c.members.invariant
+    _
+    _
+    c.in-Ok.ensures.found
+    (λ k. c.in_default-kind_at.not-CloseBrace (c.kind_at.ensures.kind ∙ k))
+    c.in-Ok-push.ensures.items
+
+pub type_names::aligned_as-typed-requires : goal.type_names::aligned_as-typed-requires
+type_names::aligned_as-typed-requires t c =
+    (omega (arith, c.decreases, c.requires.inside), (c.requires.size, (c.requires.inside, c.requires.opens)))
+
+pub type_names::aligned_as-returns-in-Err : goal.type_names::aligned_as-returns-in-Err
+type_names::aligned_as-returns-in-Err t c =
+    record { found = tt; fails = aligned_as_fails _ _ _ c.requires.kind c.requires.named _ c.in-Err.ensures.only }
+
+pub type_names::aligned_as-returns-in-Ok-aligned_as : goal.type_names::aligned_as-returns-in-Ok-aligned_as
+type_names::aligned_as-returns-in-Ok-aligned_as t c =
+    record { found = aligned_as_found _ _ _ _ _ _ c.requires.kind c.in-Ok-aligned_as.ensures c.in-Ok.ensures.found; fails = tt }
+
+pub type_names::alignment-aligned_as-requires : goal.type_names::alignment-aligned_as-requires
+type_names::alignment-aligned_as-requires t c = (
+  omega (arith, c.decreases),
+  (
+    c.requires.size,
+    (
+      c.in-OpenParen.ensures.inside,
+      (
+        c.requires.kind,
+        (sym c.in-OpenParen.ensures.kind, ap starts_type (sym c.kind_at-2.ensures.kind) ∙ sym c.starts_type.ensures ∙ c.if-starts_type.true),
+      ),
+    ),
+  ),
+)
+
+pub type_names::alignment-returns-in_default : goal.type_names::alignment-returns-in_default
+type_names::alignment-returns-in_default t c = record {
+  found = tt;
+  fails = align_unopened _ _ _ c.requires.kind (λ k. c.in_default.not-OpenParen (c.kind_at.ensures.kind ∙ k)) c.args.at;
+}
+
+pub type_names::alignment-returns-in-Err : goal.type_names::alignment-returns-in-Err
+type_names::alignment-returns-in-Err t c = record {
+  found = tt;
+  fails =
+      aligned_fails
+      _
+      _
+      _
+      c.requires.kind
+      (ap starts_type (sym c.kind_at-2.ensures.kind) ∙ sym c.starts_type.ensures ∙ c.if-starts_type.false)
+      _
+      c.in-Err.ensures.only;
+}
+
+pub type_names::alignment-returns-in_default-kind_at : goal.type_names::alignment-returns-in_default-kind_at
+type_names::alignment-returns-in_default-kind_at t c = record {
+  found = tt;
+  fails =
+      aligned_left_open
+      _
+      _
+      _
+      c.requires.kind
+      (ap starts_type (sym c.kind_at-2.ensures.kind) ∙ sym c.starts_type.ensures ∙ c.if-starts_type.false)
+      _
+      _
+      c.in-Ok.ensures.only
+      (λ k. c.in_default-kind_at.not-CloseParen (c.kind_at-3.ensures.kind ∙ k))
+      c.args.at;
+}
+
+pub type_names::alignment-returns-in-Ok-aligned : goal.type_names::alignment-returns-in-Ok-aligned
+type_names::alignment-returns-in-Ok-aligned t c = record {
+  found =
+      aligned_found
+      _
+      _
+      _
+      _
+      _
+      _
+      c.requires.kind
+      (sym c.in-OpenParen.ensures.kind)
+      c.in-Ok-aligned.ensures
+      c.in-Ok.ensures.found
+      (sym c.in-CloseParen.ensures.kind)
+      c.in-CloseParen.ensures.inside;
+  fails = tt;
+}
+
+pub type_names::structure-tag_before-tag-requires-clause-braces : goal.type_names::structure-tag_before-tag-requires-clause-braces
+type_names::structure-tag_before-tag-requires-clause-braces t c = members_braces _ _ c.requires.opens
+
+pub type_names::structure-members-requires : goal.type_names::structure-members-requires
+type_names::structure-members-requires t c =
+    (omega (arith, c.decreases, c.tag_before-tag.ensures.forth, c.tag_before-tag.ensures.inside), (c.requires.size, omega (arith, c.tag_before-tag.ensures.inside)))
+
+pub type_names::structure-returns-in-Ok : goal.type_names::structure-returns-in-Ok
+type_names::structure-returns-in-Ok t c = record {
+  found =
+      structure_found
+      _
+      _
+      _
+      _
+      _
+      _
+      _
+      _
+      (members_kind _ _ c.requires.opens)
+      c.members-in-Ok.ensures
+      c.tag_before-tag.ensures
+      c.in-Ok.ensures.found;
+  fails = tt;
+}
+
+pub type_names::structure-returns-in-Err : goal.type_names::structure-returns-in-Err
+type_names::structure-returns-in-Err t c =
+    record { found = tt; fails = structure_fails _ _ _ c.requires.opens _ _ c.tag_before-tag.ensures _ c.in-Err.ensures.fails }
+
+pub type_names::specifier-alignment-requires : goal.type_names::specifier-alignment-requires
+type_names::specifier-alignment-requires t c =
+    (omega (arith, c.decreases), (c.requires.size, (c.in-Align.ensures.inside, sym c.in-Align.ensures.kind)))
+
+pub type_names::specifier-structure-requires : goal.type_names::specifier-structure-requires
+type_names::specifier-structure-requires t c =
+    let opens = sym c.members_open.ensures ∙ c.if-members_open.true in
+    (omega (arith, c.decreases), (c.requires.size, (members_inside _ _ opens, opens)))
+
+pub type_names::specifier-short_specifier-requires-clause-bare : goal.type_names::specifier-short_specifier-requires-clause-bare
+type_names::specifier-short_specifier-requires-clause-bare t c = sym c.members_open.ensures ∙ c.if-members_open.false
+
+pub type_names::specifier-short_specifier-requires-clause-unaligned : goal.type_names::specifier-short_specifier-requires-clause-unaligned
+type_names::specifier-short_specifier-requires-clause-unaligned t c = λ k. c.in_default.not-Align (c.kind_at.ensures.kind ∙ k)

@@ -1,5 +1,5 @@
 use Rattle.std.proofs.Common.{◌+◌, ◌-◌, ◌*◌, length}
-use Rattle.tree_data.specs.Seen.{tree_of, operands_of, suffixes_of, choices_of, lefts_of, pieces_of, designators_of, associations_of, prefixes_of, specifiers_of, derivings_of, parameter_row_of}
+use Rattle.tree_data.specs.Seen.{tree_of, operands_of, suffixes_of, choices_of, lefts_of, pieces_of, designators_of, associations_of, prefixes_of, specifiers_of, derivings_of, parameter_row_of, fields_of, members_of}
 use Rattle.c_parser.specs.Beginnings.{start_of}
 use Rattle.c_parser.proofs.Fronts.{Fore}
 use Rattle.c_parser.proofs.Generics.{Choices, Steps}
@@ -9,6 +9,7 @@ use Rattle.c_parser.proofs.Parsing.{Loop}
 use Rattle.c_parser.specs.Kinds.{level_at}
 use Rattle.c_parser.proofs.Abstract.{Derived}
 use Rattle.c_parser.proofs.ParameterLists.{Rowing}
+use Rattle.c_parser.proofs.MemberLists.{Fielding, Membering}
 use Rattle.c_parser.proofs.SpecifierLists.{Specifiers}
 use Rattle.c_parser.proofs.+parser.Given as goal
 
@@ -178,7 +179,7 @@ abbrev pub decreases-before::prefixes-prefixes : goal.decreases-before::prefixes
 decreases-before::prefixes-prefixes l = length l.kinds - l.end
 
 abbrev pub invariant-type_names::specifiers-specifiers : goal.invariant-type_names::specifiers-specifiers
-invariant-type_names::specifiers-specifiers l = Specifiers l.kinds l.fn.named l.fn.at (specifiers_of l.specifiers.items) l.end l.typed
+invariant-type_names::specifiers-specifiers l = Specifiers l.kinds l.fn.site l.fn.at (specifiers_of l.specifiers.items) l.end l.typed
 
 abbrev pub decreases-type_names::specifiers-specifiers : goal.decreases-type_names::specifiers-specifiers
 decreases-type_names::specifiers-specifiers l = length l.kinds - l.end
@@ -245,3 +246,54 @@ decreases-declarators::parameters l = 64 * (length l.kinds.now - l.at) + 47
 
 abbrev pub decreases-declarators::function : goal.decreases-declarators::function
 decreases-declarators::function l = 64 * (length l.kinds.now - l.at) + 37
+
+abbrev pub decreases-type_names::alignment : goal.decreases-type_names::alignment
+decreases-type_names::alignment l = 64 * (length l.kinds.now - l.at) + 41
+
+abbrev pub decreases-type_names::aligned_as : goal.decreases-type_names::aligned_as
+decreases-type_names::aligned_as l = 64 * (length l.kinds.now - l.at) + 40
+
+abbrev pub decreases-type_names::structure : goal.decreases-type_names::structure
+decreases-type_names::structure l = 64 * (length l.kinds.now - l.at) + 41
+
+abbrev pub decreases-members::direct : goal.decreases-members::direct
+decreases-members::direct l = 64 * (length l.kinds.now - l.at) + 38
+
+abbrev pub decreases-members::declared : goal.decreases-members::declared
+decreases-members::declared l = 64 * (length l.kinds.now - l.at) + 40
+
+abbrev pub decreases-members::assertion : goal.decreases-members::assertion
+decreases-members::assertion l = 64 * (length l.kinds.now - l.at) + 43
+
+abbrev pub decreases-members::padding : goal.decreases-members::padding
+decreases-members::padding l = 64 * (length l.kinds.now - l.at) + 40
+
+abbrev pub decreases-members::field : goal.decreases-members::field
+decreases-members::field l = 64 * (length l.kinds.now - l.at) + 41
+
+abbrev pub decreases-members::more_fields : goal.decreases-members::more_fields
+decreases-members::more_fields l = 64 * (length l.kinds.now - l.at) + 42
+
+abbrev pub invariant-members::more_fields-fields : goal.invariant-members::more_fields-fields
+invariant-members::more_fields-fields l = Fielding l.kinds l.fn.at (fields_of l.more.items) l.end
+
+abbrev pub decreases-members::more_fields-fields : goal.decreases-members::more_fields-fields
+decreases-members::more_fields-fields l = length l.kinds - l.end
+
+abbrev pub decreases-members::fields : goal.decreases-members::fields
+decreases-members::fields l = 64 * (length l.kinds.now - l.at) + 43
+
+abbrev pub decreases-members::specified_member : goal.decreases-members::specified_member
+decreases-members::specified_member l = 64 * (length l.kinds.now - l.at) + 44
+
+abbrev pub decreases-members::member : goal.decreases-members::member
+decreases-members::member l = 64 * (length l.kinds.now - l.at) + 45
+
+abbrev pub decreases-members::members : goal.decreases-members::members
+decreases-members::members l = 64 * (length l.kinds.now - l.at) + 46
+
+abbrev pub invariant-members::members-members : goal.invariant-members::members-members
+invariant-members::members-members l = Membering l.kinds l.fn.at (members_of l.members.items) l.end
+
+abbrev pub decreases-members::members-members : goal.decreases-members::members-members
+decreases-members::members-members l = length l.kinds - l.end

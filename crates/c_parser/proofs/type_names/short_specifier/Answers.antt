@@ -1,21 +1,18 @@
 use Rattle.std.proofs.Common.{ap, sym, ◌∙◌, refl, ◌||◌}
-use Rattle.c_parser.specs.Kinds.{is_type_word, is_word, is_typedef}
-use Rattle.c_parser.proofs.SpecifierLists.{word_found, typedef_hides, untagged, no_kind}
+use Rattle.c_parser.specs.Kinds.{is_type_word, is_typedef, is_tagging}
+use Rattle.c_parser.proofs.SpecifierLists.{word_found, typedef_hides, no_kind}
 use Rattle.c_parser.proofs.Words.{word_specifies, lone_specifies, typedef_by}
 use Rattle.c_parser.proofs.type_names.short_specifier.Goals as goal
 
 pub returns-then-typed : goal.returns-then-typed
-returns-then-typed c = typedef_hides _ _ _ c.requires.short (ap is_typedef (sym c.in-TypeName.ensures.kind)) c.if-typed.true
+returns-then-typed c =
+    typedef_hides _ _ _ c.requires.short c.requires.bare c.requires.unaligned (ap is_typedef (sym c.in-TypeName.ensures.kind)) c.if-typed.true
 
-pub returns-then-not-is_word : goal.returns-then-not-is_word
-returns-then-not-is_word c =
-    untagged
-    _
-    _
-    _
-    c.requires.short
-    (sym c.in-Tag.ensures.kind)
-    (ap is_word (sym c.kind_at-in-Tag.ensures.kind) ∙ sym c.is_word.ensures ∙ c.if-not-is_word.true)
+pub tagged-requires-clause-kind : goal.tagged-requires-clause-kind
+tagged-requires-clause-kind c = ap is_tagging (sym c.in-Tag.ensures.kind)
+
+pub tagged-requires-in-Enum-clause-kind : goal.tagged-requires-in-Enum-clause-kind
+tagged-requires-in-Enum-clause-kind c = ap is_tagging (sym c.in-Enum.ensures.kind)
 
 pub returns-in-TypeWord : goal.returns-in-TypeWord
 returns-in-TypeWord c =
@@ -109,6 +106,8 @@ returns-in_default c =
     _
     _
     c.requires.short
+    c.requires.bare
+    c.requires.unaligned
     c.kind_at.ensures.kind
     c.in_default.not-TypeWord
     c.in_default.not-Qualifier
@@ -118,3 +117,4 @@ returns-in_default c =
     c.in_default.not-Atomic
     (typedef_by _ c.in_default.not-TypeName)
     c.in_default.not-Tag
+    c.in_default.not-Enum
