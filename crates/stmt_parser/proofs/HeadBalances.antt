@@ -1,32 +1,23 @@
 -- Heads are quiet, and the parts of statements are balanced.
-use Rattle.std.proofs.Common.{◌≡◌, refl, ap, sym, ◌∙◌, subst, ℕ, ◌+◌, ◌≤◌, arith, Bool, true, false, true≢false, not, ◌&&◌, ◌||◌, List, [], ◌∷◌, Option, None, Some, is_none}
-use Rattle.tree_data.specs.Trees.{Declaring, Declaring_of, Grouping, No_group, Named_of, Group_of, Initial, Specifying, Word_of, Typedef_of, Tag_of, Atomic_of, Specifyings, No_specifiers, Specifier_then, Assertion, Assertion_of, Heading, Declares_of, Asserts_of}
+use Rattle.std.proofs.Common.{◌≡◌, refl, ap, sym, ◌∙◌, subst, ℕ, ◌+◌, ◌-◌, ◌≤◌, arith, Bool, true, false, true≢false, not, ◌&&◌, ◌||◌, List, [], ◌∷◌, Option, None, Some, is_none}
+use Rattle.tree_data.specs.Trees.{Declaring, Initial, Specifying, Word_of, Typedef_of, Tag_of, Atomic_of, Aligned_as_of, Aligned_of, Members_of, Enumerators_of, Specifyings, No_specifiers, Specifier_then, Assertion, Assertion_of, Heading, Declares_of, Asserts_of}
 use Rattle.c_parser.specs.declared.kinds.Kind.{Kind}
 use Rattle.c_parser.specs.declared.kinds.Kind.TheVariants.{TypeName, OpenParen, CloseParen, OpenBracket, CloseBracket, OpenBrace, CloseBrace, Semicolon, Equals, Comma, Assert}
 use Rattle.c_parser.specs.Brackets.{opens, closes}
-use Rattle.c_parser.specs.Heads.{names_it, plain_behind, HoldsDeclarator, HoldsDirect, HoldsValue, HoldsOne, HoldOthers, HoldAll, Closes, is_alone, Leading, leading_of, freely, HoldsHead, HoldsAssertion}
+use Rattle.c_parser.specs.Heads.{HoldsValue, HoldsOne, HoldOthers, HoldAll, Closes, is_alone, Leading, leading_of, freely, HoldsHead}
 use Rattle.c_parser.specs.Heads as head
-use Rattle.c_parser.specs.Kinds.{kind_at, is_equals, is_identifier}
+use Rattle.c_parser.specs.Kinds.{kind_at, is_equals}
 use Rattle.c_parser.specs.Parts.{IsBlind, HoldsDeclaration, is_declaration}
 use Rattle.c_parser.specs.Grammar.{AreSome}
-use Rattle.c_parser.specs.Reading.{HoldSpecifying, HoldSpecifyings}
+use Rattle.c_parser.specs.Reading.{HoldSpecifying, HoldSpecifyings, HoldsAssertion}
 use Rattle.c_parser.specs.Words.{Words, shown, kind_in, declared_as}
 use Rattle.stmt_parser.specs.Balance.{Pairs, No_token, Token_then, Pair_then, ArePairs, AreBalanced, PartsAreBalanced}
 use Rattle.stmt_parser.specs.Externals.{is_semicolon, is_open_brace, is_close_paren, AreQuiet, IsQuiet, DeclarationIsQuiet, HeadsAreQuiet}
 use Rattle.stmt_parser.proofs.Balances as statements
 use Rattle.stmt_parser.proofs.Cuts.{shaded_at, quiet_forth, pairs_forth}
-use Rattle.stmt_parser.proofs.PartBalances.{plain, opener, AreCalm, Calm, join, nothing, token, mark, pair, loosen, plain_by, word_plain, pointers_calm, tree_calm, initial_calm, specifyings_calm, naming_calm, derivings_calm, texts_calm}
+use Rattle.stmt_parser.proofs.PartBalances.{plain, opener, AreMatched, AreCalm, Calm, join, nothing, token, mark, pair, plain_bracket, opener_opens, tree_calm, initial_calm, specifyings_calm, naming_calm, declarator_calm, members_matched, tag_calm, texts_calm}
 
 -- balanced
-plain_bracket : (s : Bool) → (k : Kind) → plain s k ≡ true → (opens k || closes k) ≡ false
-plain_bracket s OpenParen h = absurd (true≢false (sym h))
-plain_bracket s CloseParen h = absurd (true≢false (sym h))
-plain_bracket s OpenBracket h = absurd (true≢false (sym h))
-plain_bracket s CloseBracket h = absurd (true≢false (sym h))
-plain_bracket s OpenBrace h = absurd (true≢false (sym h))
-plain_bracket s CloseBrace h = absurd (true≢false (sym h))
-plain_bracket s _ h = refl
-
 plain_semicolon : (s : Bool) → (k : Kind) → plain s k ≡ true → is_semicolon k ≡ false
 plain_semicolon s Semicolon h = absurd (true≢false (sym h))
 plain_semicolon s _ h = refl
@@ -35,30 +26,51 @@ strict_equals : (k : Kind) → plain true k ≡ true → is_equals k ≡ false
 strict_equals Equals h = absurd (true≢false (sym h))
 strict_equals _ h = refl
 
-opener_opens : (s : Bool) → (k : Kind) → opener s k ≡ true → opens k ≡ true
-opener_opens s OpenParen h = refl
-opener_opens s OpenBracket h = refl
-opener_opens s OpenBrace h = refl
-opener_opens s _ h = absurd (true≢false (sym h))
-
 strict_brace : (k : Kind) → opener true k ≡ true → is_open_brace k ≡ false
 strict_brace OpenBrace h = absurd (true≢false (sym h))
 strict_brace _ h = refl
+
+matched_pairs : (w : Words) → (ps : Pairs) → (a b : ℕ) → AreMatched (shown w) ps a b → ArePairs w ps a b
+matched_pairs w No_token a b h = h
+matched_pairs w (Token_then ps) a b h = (h.0, matched_pairs w ps (a + 1) b h.1)
+matched_pairs w (Pair_then inner ps) a b h =
+    (h.0, h.1, matched_pairs w inner (a + 1) h.0 h.2, h.3, matched_pairs w ps (h.0 + 1) b h.4)
+
+-- whether the token in front is a `)`
+abbrev behind_paren : Words → ℕ → Bool
+behind_paren w a = is_close_paren (kind_in w (a - 1))
 
 pairs_of : (s : Bool) → (w : Words) → (ps : Pairs) → (a b : ℕ) → AreCalm s (shown w) ps a b → ArePairs w ps a b
 pairs_of s w No_token a b h = h
 pairs_of s w (Token_then ps) a b h = (plain_bracket s (kind_in w a) h.0, pairs_of s w ps (a + 1) b h.1)
 pairs_of s w (Pair_then inner ps) a b h =
-    (h.0, opener_opens s (kind_in w a) h.1, pairs_of false w inner (a + 1) h.0 h.2, h.3, pairs_of s w ps (h.0 + 1) b h.4)
+    (h.0, opener_opens (s && behind_paren w a) (kind_in w a) h.1, matched_pairs w inner (a + 1) h.0 h.2, h.3, pairs_of s w ps (h.0 + 1) b h.4)
 
 balanced_of : (s : Bool) → (w : Words) → (a b : ℕ) → Calm s (shown w) a b → AreBalanced w a b
 balanced_of s w a b x = record { pairs = x.pairs; are = pairs_of s w x.pairs a b x.are }
+
+-- that a `)` was the last token is so
+abbrev Follows : Words → ℕ → Bool → Type 0
+Follows w a c = c ≡ true → behind_paren w a ≡ true
+
+not_behind : (w : Words) → (a : ℕ) → Follows w a false
+not_behind w a e = absurd (true≢false (sym e))
+
+behind_pair : (w : Words) → (a : ℕ) → Follows w (a + 1) (is_close_paren (kind_in w a))
+behind_pair w a e = ap (λ i. is_close_paren (kind_in w i)) (before a) ∙ e
+  where
+    before : (a : ℕ) → (a + 1) - 1 ≡ a
+    before a = omega arith
+
+follows_on : (w : Words) → (a b : ℕ) → (c : Bool) → b ≡ a → Follows w a c → Follows w b c
+follows_on w a b c e told = subst (λ i. Follows w i c) (sym e) told
 
 -- quiet, from a state to a state
 record Quieted (w : Words) (a b : ℕ) (c q q' : Bool) : Type 0 where
   pub end : Bool
   pub pairs : Pairs
   pub are : AreQuiet w pairs a b c q end q'
+  pub told : Follows w b end
 
 or_true : (b : Bool) → (b || true) ≡ true
 or_true true = refl
@@ -73,55 +85,64 @@ and_nothing true = refl
 and_nothing false = refl
 
 -- where an `=` stood
-quiet_behind : (w : Words) → (ps : Pairs) → (a b : ℕ) → (c : Bool) → AreCalm false (shown w) ps a b → Quieted w a b c true true
-quiet_behind w No_token a b c h = record { end = c; pairs = No_token; are = (h, refl, refl) }
-quiet_behind w (Token_then ps) a b c h =
-    let more = quiet_behind w ps (a + 1) b false h.1 in
+quiet_behind : (w : Words) → (ps : Pairs) → (a b : ℕ) → (c : Bool) → Follows w a c → AreCalm false (shown w) ps a b → Quieted w a b c true true
+quiet_behind w No_token a b c told h = record { end = c; pairs = No_token; are = (h, refl, refl); told = follows_on w a b c h told }
+quiet_behind w (Token_then ps) a b c told h =
+    let more = quiet_behind w ps (a + 1) b false (not_behind w (a + 1)) h.1 in
     record {
       end = more.end;
       pairs = Token_then more.pairs;
+      told = more.told;
       are = (plain_bracket false (kind_in w a) h.0, plain_semicolon false (kind_in w a) h.0, more.are);
     }
-quiet_behind w (Pair_then inner ps) a b c h =
-    let more = quiet_behind w ps (h.0 + 1) b (is_close_paren (kind_in w h.0)) h.4 in
+quiet_behind w (Pair_then inner ps) a b c told h =
+    let more = quiet_behind w ps (h.0 + 1) b (is_close_paren (kind_in w h.0)) (behind_pair w h.0) h.4 in
     record {
       end = more.end;
       pairs = Pair_then inner more.pairs;
+      told = more.told;
       are = (
         h.0,
         opener_opens false (kind_in w a) h.1,
         and_nothing (is_open_brace (kind_in w a) && c),
-        pairs_of false w inner (a + 1) h.0 h.2,
+        matched_pairs w inner (a + 1) h.0 h.2,
         h.3,
         more.are,
       );
     }
 
 -- where none did
-quiet_still : (w : Words) → (ps : Pairs) → (a b : ℕ) → (c q : Bool) → AreCalm true (shown w) ps a b → Quieted w a b c q q
-quiet_still w No_token a b c q h = record { end = c; pairs = No_token; are = (h, refl, refl) }
-quiet_still w (Token_then ps) a b c q h =
+no_body : (p c q : Bool) → (k : Kind) → (c ≡ true → p ≡ true) → opener p k ≡ true → (is_open_brace k && c && not q) ≡ false
+no_body p false q k told h = ap (λ x. x && not q) (and_nothing (is_open_brace k))
+no_body true true q k told h = ap (λ x. x && true && not q) (strict_brace k h)
+no_body false true q k told h = absurd (true≢false (sym (told refl)))
+
+quiet_still : (w : Words) → (ps : Pairs) → (a b : ℕ) → (c q : Bool) → Follows w a c → AreCalm true (shown w) ps a b → Quieted w a b c q q
+quiet_still w No_token a b c q told h = record { end = c; pairs = No_token; are = (h, refl, refl); told = follows_on w a b c h told }
+quiet_still w (Token_then ps) a b c q told h =
     let same : (q || is_equals (kind_in w a)) ≡ q = ap (λ x. q || x) (strict_equals (kind_in w a) h.0) ∙ or_false q in
-    let more = quiet_still w ps (a + 1) b false q h.1 in
+    let more = quiet_still w ps (a + 1) b false q (not_behind w (a + 1)) h.1 in
     record {
       end = more.end;
       pairs = Token_then more.pairs;
+      told = more.told;
       are = (
         plain_bracket true (kind_in w a) h.0,
         plain_semicolon true (kind_in w a) h.0,
         subst (λ x. AreQuiet w more.pairs (a + 1) b false x more.end q) (sym same) more.are,
       );
     }
-quiet_still w (Pair_then inner ps) a b c q h =
-    let more = quiet_still w ps (h.0 + 1) b (is_close_paren (kind_in w h.0)) q h.4 in
+quiet_still w (Pair_then inner ps) a b c q told h =
+    let more = quiet_still w ps (h.0 + 1) b (is_close_paren (kind_in w h.0)) q (behind_pair w h.0) h.4 in
     record {
       end = more.end;
       pairs = Pair_then inner more.pairs;
+      told = more.told;
       are = (
         h.0,
-        opener_opens true (kind_in w a) h.1,
-        ap (λ x. x && c && not q) (strict_brace (kind_in w a) h.1),
-        pairs_of false w inner (a + 1) h.0 h.2,
+        opener_opens (behind_paren w a) (kind_in w a) h.1,
+        no_body (behind_paren w a) c q (kind_in w a) told h.1,
+        matched_pairs w inner (a + 1) h.0 h.2,
         h.3,
         more.are,
       );
@@ -133,38 +154,33 @@ quiet_then w No_token a m b c q c1 q1 q2 h x =
     (subst (λ y. Quieted w m b y q q2) (sym h.1) (subst (λ y. Quieted w m b c1 y q2) (sym h.2) x))
 quiet_then w (Token_then ps) a m b c q c1 q1 q2 h x =
     let more = quiet_then w ps (a + 1) m b false (q || is_equals (kind_in w a)) c1 q1 q2 h.2 x in
-    record { end = more.end; pairs = Token_then more.pairs; are = (h.0, h.1, more.are) }
+    record { end = more.end; pairs = Token_then more.pairs; are = (h.0, h.1, more.are); told = more.told }
 quiet_then w (Pair_then inner ps) a m b c q c1 q1 q2 h x =
     let more = quiet_then w ps (h.0 + 1) m b (is_close_paren (kind_in w h.0)) q c1 q1 q2 h.5 x in
-    record { end = more.end; pairs = Pair_then inner more.pairs; are = (h.0, h.1, h.2, h.3, h.4, more.are) }
+    record { end = more.end; pairs = Pair_then inner more.pairs; are = (h.0, h.1, h.2, h.3, h.4, more.are); told = more.told }
 
 then_quiet : (w : Words) → (a m b : ℕ) → (c q q1 q2 : Bool) → (x : Quieted w a m c q q1) → Quieted w m b x.end q1 q2 → Quieted w a b c q q2
 then_quiet w a m b c q q1 q2 x y = quiet_then w x.pairs a m b c q x.end q1 q2 x.are y
 
-still : (w : Words) → (a b : ℕ) → (c q : Bool) → Calm true (shown w) a b → Quieted w a b c q q
-still w a b c q x = quiet_still w x.pairs a b c q x.are
-
--- declarators
-name_plain : (y : Bool) → (k : Kind) → names_it y k ≡ true → plain true k ≡ true
-name_plain true k h = plain_by is_identifier true refl refl refl refl refl refl refl refl k h
-name_plain false k h = word_plain true k h
-
-mutual
-  declarator_calm : (d : Declaring) → (ks : List Kind) → (y : Bool) → (a b : ℕ) → HoldsDeclarator ks y d a b → Calm true ks a b
-  declarator_calm (Declaring_of ps g ds) ks y a b h =
-      join true ks a h.0 b (pointers_calm ks ps a h.0 h.2)
-      (join true ks h.0 h.1 b (direct_calm g ks (plain_behind y ps) h.0 h.1 h.3) (derivings_calm ds ks h.1 b h.4))
-
-  direct_calm : (g : Grouping) → (ks : List Kind) → (y : Bool) → (a m : ℕ) → HoldsDirect ks y g a m → Calm true ks a m
-  direct_calm No_group ks y a m h = absurd h
-  direct_calm (Named_of n) ks y a m h = token true ks a m (name_plain y (kind_at ks a) h.1) h.2
-  direct_calm (Group_of o d c) ks y a m h =
-      pair true ks a c m OpenParen CloseParen h.1 refl (loosen ks (a + 1) c (declarator_calm d ks false (a + 1) c h.2)) h.3 refl h.4
+still : (w : Words) → (a b : ℕ) → (c q : Bool) → Follows w a c → Calm true (shown w) a b → Quieted w a b c q q
+still w a b c q told x = quiet_still w x.pairs a b c q told x.are
 
 -- a scope behind a declarator shows the same marks
 as_shown : (f : Kind → Bool) → IsBlind f → (v w : Words) → v.kinds ≡ w.kinds → (a : ℕ) → f (kind_in v a) ≡ f (kind_in w a)
 as_shown f i v w e a =
     shaded_at f i v.hidden v.kinds a ∙ ap (λ ks. f (kind_at ks a)) e ∙ sym (shaded_at f i w.hidden w.kinds a)
+
+matched_under : (v w : Words) → v.kinds ≡ w.kinds → (ps : Pairs) → (a b : ℕ) → AreMatched (shown v) ps a b → AreMatched (shown w) ps a b
+matched_under v w e No_token a b h = h
+matched_under v w e (Token_then ps) a b h =
+    (sym (as_shown (λ k. opens k || closes k) (λ n. refl) v w e a) ∙ h.0, matched_under v w e ps (a + 1) b h.1)
+matched_under v w e (Pair_then inner ps) a b h = (
+  h.0,
+  sym (as_shown opens (λ n. refl) v w e a) ∙ h.1,
+  matched_under v w e inner (a + 1) h.0 h.2,
+  sym (as_shown closes (λ n. refl) v w e h.0) ∙ h.3,
+  matched_under v w e ps (h.0 + 1) b h.4,
+)
 
 calm_under : (s : Bool) → (v w : Words) → v.kinds ≡ w.kinds → (ps : Pairs) → (a b : ℕ) → AreCalm s (shown v) ps a b → AreCalm s (shown w) ps a b
 calm_under s v w e No_token a b h = h
@@ -172,8 +188,10 @@ calm_under s v w e (Token_then ps) a b h =
     (sym (as_shown (plain s) (λ n. refl) v w e a) ∙ h.0, calm_under s v w e ps (a + 1) b h.1)
 calm_under s v w e (Pair_then inner ps) a b h = (
   h.0,
-  sym (as_shown (opener s) (λ n. refl) v w e a) ∙ h.1,
-  calm_under false v w e inner (a + 1) h.0 h.2,
+  ap (λ p. opener (s && p) (kind_in w a)) (sym (as_shown is_close_paren (λ n. refl) v w e (a - 1)))
+      ∙ sym (as_shown (opener (s && behind_paren v a)) (λ n. refl) v w e a)
+      ∙ h.1,
+  matched_under v w e inner (a + 1) h.0 h.2,
   sym (as_shown closes (λ n. refl) v w e h.0) ∙ h.3,
   calm_under s v w e ps (h.0 + 1) b h.4,
 )
@@ -206,6 +224,7 @@ comma_quiet w a c q e = record {
   end = false;
   pairs = Token_then No_token;
   are = (comma_is w a e, comma_semicolon w a e, (refl, refl, ap (λ x. q || x) (comma_equals w a e) ∙ or_false q));
+  told = not_behind w (a + 1);
 }
 
 equals_is : (k : Kind) → is_equals k ≡ true → k ≡ Equals
@@ -221,6 +240,7 @@ equals_quiet w a c q e = record {
     ap is_semicolon e,
     (refl, refl, ap (λ k. q || is_equals k) e ∙ or_true q),
   );
+  told = not_behind w (a + 1);
 }
 
 -- quiet, with an `=` or with none
@@ -231,10 +251,11 @@ record Settled (w : Words) (a b : ℕ) (c q : Bool) : Type 0 where
 settle : (w : Words) → (a m b : ℕ) → (c q q1 : Bool) → (x : Quieted w a m c q q1) → Settled w m b x.end q1 → Settled w a b c q
 settle w a m b c q q1 x y = record { assigned = y.assigned; quiet = then_quiet w a m b c q q1 y.assigned x y.quiet }
 
-one_settled : (w v : Words) → v.kinds ≡ w.kinds → (s : Leading) → (p : Piece) → (a b : ℕ) → HoldsOne v s p.0 p.1 a b → (c q : Bool) → Settled w a b c q
-one_settled w v e s p a b h c q =
-    let front = still w a h.0 c q (seen_calm true v w e a h.0 (declarator_calm p.0 (shown v) (not s.typed) a h.0 h.1)) in
-    settle w a h.0 b c q q front (by p.1 h.2 front.end)
+one_settled : (w v : Words) → v.kinds ≡ w.kinds → (s : Leading) → (p : Piece) → (a b : ℕ) → HoldsOne v s p.0 p.1 a b → (c q : Bool) → Follows w a c
+    → Settled w a b c q
+one_settled w v e s p a b h c q told =
+    let front = still w a h.0 c q told (seen_calm true v w e a h.0 (declarator_calm p.0 (shown v) (not s.typed) a h.0 h.1)) in
+    settle w a h.0 b c q q front (by p.1 h.2 front.end front.told)
   where
     behind : Words
     behind = head.past v s p.0
@@ -242,30 +263,31 @@ one_settled w v e s p a b h c q =
     kinds : behind.kinds ≡ w.kinds
     kinds = named_kinds v s.typedef _ ∙ e
 
-    by : (x : Option Initial) → HoldsValue (shown behind) x h.0 b → (d : Bool) → Settled w h.0 b d q
-    by None g d = record { assigned = q; quiet = still w h.0 b d q (nothing true (shown w) h.0 b g) }
-    by (Some i) g d =
+    by : (x : Option Initial) → HoldsValue (shown behind) x h.0 b → (d : Bool) → Follows w h.0 d → Settled w h.0 b d q
+    by None g d tells = record { assigned = q; quiet = still w h.0 b d q tells (nothing true (shown w) h.0 b g) }
+    by (Some i) g d tells =
         let sign : kind_in w h.0 ≡ Equals = equals_is (kind_in w h.0) (sym (as_shown is_equals (λ n. refl) behind w kinds h.0) ∙ g.0) in
         let first = equals_quiet w h.0 d q sign in
         let calm = seen_calm false behind w kinds (h.0 + 1) b (initial_calm i (shown behind) (h.0 + 1) b g.1) in
         settle w h.0 (h.0 + 1) b d q true first
-        (record { assigned = true; quiet = quiet_behind w calm.pairs (h.0 + 1) b first.end calm.are })
+        (record { assigned = true; quiet = quiet_behind w calm.pairs (h.0 + 1) b first.end first.told calm.are })
 
 others_settled : (w v : Words) → v.kinds ≡ w.kinds → (s : Leading) → (ps : List Piece) → (a b : ℕ) → HoldOthers v s ps a b → (c q : Bool)
-    → Settled w a b c q
-others_settled w v e s [] a b h c q = record { assigned = q; quiet = still w a b c q (nothing true (shown w) a b h) }
-others_settled w v e s (p ∷ ps) a b h c q =
+    → Follows w a c → Settled w a b c q
+others_settled w v e s [] a b h c q told = record { assigned = q; quiet = still w a b c q told (nothing true (shown w) a b h) }
+others_settled w v e s (p ∷ ps) a b h c q told =
     let sign = comma_quiet w a c q (ap (λ ks. kind_at ks a) (sym e) ∙ h.1) in
-    let one = one_settled w v e s p (a + 1) h.0 h.2 sign.end q in
+    let one = one_settled w v e s p (a + 1) h.0 h.2 sign.end q sign.told in
     let rest =
-    others_settled w (head.past v s p.0) (named_kinds v s.typedef _ ∙ e) s ps h.0 b h.3 one.quiet.end one.assigned in
+    others_settled w (head.past v s p.0) (named_kinds v s.typedef _ ∙ e) s ps h.0 b h.3 one.quiet.end one.assigned one.quiet.told in
     settle w a (a + 1) b c q q sign (settle w (a + 1) h.0 b sign.end q one.assigned one.quiet rest)
 
-all_settled : (w v : Words) → v.kinds ≡ w.kinds → (s : Leading) → (ps : List Piece) → (a b : ℕ) → HoldAll v s ps a b → (c q : Bool) → Settled w a b c q
-all_settled w v e s [] a b h c q = record { assigned = q; quiet = still w a b c q (nothing true (shown w) a b h) }
-all_settled w v e s (p ∷ ps) a b h c q =
-    let one = one_settled w v e s p a h.0 h.1 c q in
-    let rest = others_settled w (head.past v s p.0) (named_kinds v s.typedef _ ∙ e) (freely s) ps h.0 b h.2 one.quiet.end one.assigned in
+all_settled : (w v : Words) → v.kinds ≡ w.kinds → (s : Leading) → (ps : List Piece) → (a b : ℕ) → HoldAll v s ps a b → (c q : Bool) → Follows w a c
+    → Settled w a b c q
+all_settled w v e s [] a b h c q told = record { assigned = q; quiet = still w a b c q told (nothing true (shown w) a b h) }
+all_settled w v e s (p ∷ ps) a b h c q told =
+    let one = one_settled w v e s p a h.0 h.1 c q told in
+    let rest = others_settled w (head.past v s p.0) (named_kinds v s.typedef _ ∙ e) (freely s) ps h.0 b h.2 one.quiet.end one.assigned one.quiet.told in
     settle w a h.0 b c q one.assigned one.quiet rest
 
 semicolon_is : (k : Kind) → is_semicolon k ≡ true → k ≡ Semicolon
@@ -289,8 +311,8 @@ assertion_calm ks (Assertion_of k o t c ns p e) a b m q h =
 declaration_quiet : (w : Words) → (d : Heading) → (a b : ℕ) → HoldsDeclaration w d a b → DeclarationIsQuiet w a b
 declaration_quiet w (Declares_of ss ds false) a b g =
     let h = g.1 in
-    let front = still w a h.0 false false (specifyings_calm ss (shown w) false a h.0 h.3) in
-    let rest = all_settled w w refl (leading_of (shown w) ss) ds h.0 h.1 h.4 front.end false in
+    let front = still w a h.0 false false (not_behind w a) (specifyings_calm ss (shown w) false a h.0 h.3) in
+    let rest = all_settled w w refl (leading_of (shown w) ss) ds h.0 h.1 h.4 front.end false front.told in
     let whole = settle w a h.0 h.1 false false false front rest in
     record {
       last = h.1;
@@ -303,7 +325,7 @@ declaration_quiet w (Declares_of ss ds false) a b g =
 declaration_quiet w (Declares_of ss ds true) a b g = absurd (true≢false (sym g.0))
 declaration_quiet w (Asserts_of (Assertion_of k o t c ns p e)) a b g =
     let h = g.1 in
-    let quiet = still w a e false false (assertion_calm (shown w) (Assertion_of k o t c ns p e) a b e h.12 h) in
+    let quiet = still w a e false false (not_behind w a) (assertion_calm (shown w) (Assertion_of k o t c ns p e) a b e h.12 h) in
     record {
       last = e;
       closed = quiet.end;
@@ -351,11 +373,19 @@ closed_by w (Pair_then inner (Pair_then i ps)) a p c q c' q' le h =
     closed_by w (Pair_then i ps) (h.0 + 1) p (is_close_paren (kind_in w h.0)) q c' q' (far w (Pair_then i ps) (h.0 + 1) p (is_close_paren (kind_in w h.0)) q c' q' h.5 tt) h.5
 
 -- a head has a token in front of its last
+matched_forth : (ks : List Kind) → (ps : Pairs) → (a b : ℕ) → AreMatched ks ps a b → a ≤ b
+matched_forth ks No_token a b h = omega (arith, h)
+matched_forth ks (Token_then ps) a b h = let one : a + 1 ≤ b = matched_forth ks ps (a + 1) b h.1 in omega (arith, one)
+matched_forth ks (Pair_then inner ps) a b h =
+    let one : a + 1 ≤ h.0 = matched_forth ks inner (a + 1) h.0 h.2 in
+    let two : h.0 + 1 ≤ b = matched_forth ks ps (h.0 + 1) b h.4 in
+    omega (arith, one, two)
+
 calm_forth : (s : Bool) → (ks : List Kind) → (ps : Pairs) → (a b : ℕ) → AreCalm s ks ps a b → a ≤ b
 calm_forth s ks No_token a b h = omega (arith, h)
 calm_forth s ks (Token_then ps) a b h = let one : a + 1 ≤ b = calm_forth s ks ps (a + 1) b h.1 in omega (arith, one)
 calm_forth s ks (Pair_then inner ps) a b h =
-    let one : a + 1 ≤ h.0 = calm_forth false ks inner (a + 1) h.0 h.2 in
+    let one : a + 1 ≤ h.0 = matched_forth ks inner (a + 1) h.0 h.2 in
     let two : h.0 + 1 ≤ b = calm_forth s ks ps (h.0 + 1) b h.4 in
     omega (arith, one, two)
 
@@ -367,6 +397,21 @@ specifying_strict ks y (Atomic_of k o t c) a b h =
     let inner = naming_calm t ks false (o + 1) c h.4 in
     let one : o + 1 ≤ c = calm_forth true ks inner.pairs (o + 1) c inner.are in
     omega (arith, one, h.2, h.6)
+specifying_strict ks y (Aligned_as_of k o t c) a b h =
+    let inner = naming_calm t ks false (o + 1) c h.4 in
+    let one : o + 1 ≤ c = calm_forth true ks inner.pairs (o + 1) c inner.are in
+    omega (arith, one, h.2, h.6)
+specifying_strict ks y (Aligned_of k o t c) a b h =
+    let inner = tree_calm t ks (o + 1) c h.5 in
+    let one : o + 1 ≤ c = calm_forth false ks inner.pairs (o + 1) c inner.are in
+    omega (arith, one, h.2, h.7)
+specifying_strict ks y (Members_of k g o ms c) a b h =
+    let front = tag_calm ks g (a + 1) o h.2 in
+    let inner = members_matched ms ks (o + 1) c h.5 in
+    let one : a + 1 ≤ o = calm_forth true ks front.pairs (a + 1) o front.are in
+    let two : o + 1 ≤ c = matched_forth ks inner.pairs (o + 1) c inner.are in
+    omega (arith, one, two, h.7)
+specifying_strict ks y (Enumerators_of k g o e es t c) a b h = absurd h
 
 some_strict : (ks : List Kind) → (ss : Specifyings) → (a m : ℕ) → AreSome ss → HoldSpecifyings ks false ss a m → a + 1 ≤ m
 some_strict ks No_specifiers a m s h = absurd s
@@ -404,7 +449,7 @@ definition_quiet w (Declares_of ss ds true) a p h e =
   where
     from : a ≤ p → Calm true (shown w) a (p + 1) → IsQuiet w a (p + 1) (is_close_paren (kind_in w p)) false
     from start x =
-        let y = still w a (p + 1) false false x in
+        let y = still w a (p + 1) false false (not_behind w a) x in
         record {
           pairs = y.pairs;
           are = subst (λ c. AreQuiet w y.pairs a (p + 1) false false c false) (closed_by w y.pairs a p false false y.end false start y.are) y.are;

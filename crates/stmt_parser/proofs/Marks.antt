@@ -1,7 +1,7 @@
 -- Kinds told apart by what begins with them.
 use Rattle.std.proofs.Common.{◌≡◌, refl, ap, sym, ◌∙◌, ℕ, ◌≤◌, arith, Bool, true, false, true≢false}
 use Rattle.c_parser.specs.declared.kinds.Kind.{Kind}
-use Rattle.c_parser.specs.declared.kinds.Kind.TheVariants.{Identifier, TypeName, TypeWord, Qualifier, Tag, Atomic, Storage, Typedef, Static, Assert, Constant, Text, OpenParen, CloseParen, Step, Ampersand, Star, Sign, Complement, SizeOf, AlignOf, Generic, OffsetOf, OpenBrace, CloseBrace, Colon, Semicolon, If, Else, Switch, Case, Default, While, Do, For, Goto, Continue, Break, Return}
+use Rattle.c_parser.specs.declared.kinds.Kind.TheVariants.{Identifier, TypeName, TypeWord, Qualifier, Tag, Atomic, Storage, Typedef, Static, Assert, Constant, Text, OpenParen, CloseParen, Step, Ampersand, Star, Sign, Complement, SizeOf, AlignOf, Generic, OffsetOf, OpenBrace, CloseBrace, Colon, Semicolon, If, Else, Switch, Case, Default, While, Do, For, Goto, Continue, Break, Return, Enum, Align}
 use Rattle.c_parser.specs.Kinds.{level_of, level_at, is_word}
 use Rattle.c_parser.specs.Parts.{starts_expression, starts_declaration}
 use Rattle.c_parser.specs.Reading.{Stops}
@@ -62,6 +62,8 @@ pub declaring_code : (k : Kind) → starts_declaration k ≡ true → code_of k 
 declaring_code TypeWord h = omega arith
 declaring_code Qualifier h = omega arith
 declaring_code Tag h = omega arith
+declaring_code Enum h = omega arith
+declaring_code Align h = omega arith
 declaring_code (TypeName n) h = omega arith
 declaring_code Atomic h = omega arith
 declaring_code Storage h = omega arith
@@ -74,6 +76,8 @@ pub start_declares_not : (k : Kind) → starts_expression k ≡ true → starts_
 start_declares_not TypeWord h d = true≢false (sym h)
 start_declares_not Qualifier h d = true≢false (sym h)
 start_declares_not Tag h d = true≢false (sym h)
+start_declares_not Enum h d = true≢false (sym h)
+start_declares_not Align h d = true≢false (sym h)
 start_declares_not (TypeName n) h d = true≢false (sym h)
 start_declares_not Atomic h d = true≢false (sym h)
 start_declares_not Storage h d = true≢false (sym h)

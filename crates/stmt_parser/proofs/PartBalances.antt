@@ -1,17 +1,18 @@
 -- Brackets are balanced in expressions, initializers, names of types and heads, and outside of them no `;` stands there.
-use Rattle.std.proofs.Common.{◌≡◌, refl, ap, sym, ◌∙◌, subst, ℕ, zero, suc, ◌+◌, ◌≤◌, arith, Bool, true, false, true≢false, not, ◌&&◌, ◌||◌, ◌==◌, List, [], ◌∷◌, map, Option, None, Some}
+use Rattle.std.proofs.Common.{◌≡◌, refl, ap, sym, ◌∙◌, subst, ℕ, zero, suc, ◌+◌, ◌-◌, ◌≤◌, arith, Bool, true, false, true≢false, not, ◌&&◌, ◌||◌, ◌==◌, List, [], ◌∷◌, map, Option, None, Some}
 use Rattle.std.specs.Prelude.{if◌then◌else◌}
-use Rattle.tree_data.specs.Trees.{Tree, Name_of, Constant_of, Text_of, Paren_of, Postfix_of, Unary_of, Binary_of, Conditional_of, Assign_of, Of_type, Compound_of, Generic_of, Offset_of, Behind, Operand_of, Index_of, Call_of, Call_with_of, Member_of, Step_of, Behinds, None_behind, Behind_then, Front, Operator_of, Cast_of, Choice_of, Left_of, Fronts, None_before, Front_then, Braces, Braces_of, Initial, Value_of, List_of, Piece, Plain_of, Designated_of, Pieces, No_pieces, Piece_then, Designator, Element_of, Field_of, Designators, No_designators, Designator_then, Association, Typed_of, Default_of, Associations, No_associations, Association_then, Specifying, Word_of, Typedef_of, Tag_of, Atomic_of, Specifyings, No_specifiers, Specifier_then, Naming, Type_of, Declaring, Declaring_of, Grouping, No_group, Named_of, Group_of, Deriving, Array_of, Function_of, Derivings, No_derivings, Deriving_then, Parameters, No_parameters, Fixed_of, Variadic_of, Names_of, Row, No_more, Parameter_then, Bound, Unsized_of, Any_size_of, Sized_of, Static_sized_of, Sized_static_of}
+use Rattle.tree_data.specs.Trees.{Tree, Name_of, Constant_of, Text_of, Paren_of, Postfix_of, Unary_of, Binary_of, Conditional_of, Assign_of, Of_type, Compound_of, Generic_of, Offset_of, Behind, Operand_of, Index_of, Call_of, Call_with_of, Member_of, Step_of, Behinds, None_behind, Behind_then, Front, Operator_of, Cast_of, Choice_of, Left_of, Fronts, None_before, Front_then, Braces, Braces_of, Initial, Value_of, List_of, Piece, Plain_of, Designated_of, Pieces, No_pieces, Piece_then, Designator, Element_of, Field_of, Designators, No_designators, Designator_then, Association, Typed_of, Default_of, Associations, No_associations, Association_then, Specifying, Word_of, Typedef_of, Tag_of, Atomic_of, Specifyings, No_specifiers, Specifier_then, Naming, Type_of, Declaring, Declaring_of, Grouping, No_group, Named_of, Group_of, Deriving, Array_of, Function_of, Derivings, No_derivings, Deriving_then, Parameters, No_parameters, Fixed_of, Variadic_of, Names_of, Row, No_more, Parameter_then, Bound, Unsized_of, Any_size_of, Sized_of, Static_sized_of, Sized_static_of, Aligned_as_of, Aligned_of, Members_of, Enumerators_of, Member, Bare_of, Fields_of, Asserted_of, Members, No_members, Member_then, Field, Declared_of, Bits_of, Padding_of, Fields, No_fields, Field_then, Assertion, Assertion_of}
 use Rattle.c_parser.specs.declared.kinds.Kind.{Kind}
 use Rattle.c_parser.specs.declared.kinds.Kind.TheVariants as kind
-use Rattle.c_parser.specs.declared.kinds.Kind.TheVariants.{Identifier, TypeName, OpenParen, CloseParen, OpenBracket, CloseBracket, OpenBrace, CloseBrace, Semicolon, Equals, Comma, Or, And, Bar, Caret, Ampersand, Equality, Relation, Shift, Sign, Star, Quotient, Assignment, Question, Colon, Dot, Ellipsis, Constant, Text, Tag, Atomic, Static, Generic, OffsetOf, Default}
+use Rattle.c_parser.specs.declared.kinds.Kind.TheVariants.{Identifier, TypeName, OpenParen, CloseParen, OpenBracket, CloseBracket, OpenBrace, CloseBrace, Semicolon, Equals, Comma, Or, And, Bar, Caret, Ampersand, Equality, Relation, Shift, Sign, Star, Quotient, Assignment, Question, Colon, Dot, Ellipsis, Constant, Text, Tag, Atomic, Static, Generic, OffsetOf, Default, Align, Assert}
 use Rattle.c_parser.specs.declared.kinds.Named.{Named}
 use Rattle.c_parser.specs.declared.kinds.Named.TheVariants.{Never, Plainly, Freely}
-use Rattle.c_parser.specs.Brackets.{closes}
+use Rattle.c_parser.specs.Brackets.{closes, opens}
 use Rattle.c_parser.specs.Grammar.{past, name_by}
-use Rattle.c_parser.specs.Kinds.{kind_at, level_of, is_word, is_identifier, is_size, is_prefix, is_member, is_dot, is_equals, is_typedef, is_qualifier, is_specifying, is_atomic, is_opening, atomic_at, specifies_at, qualifies_at, may_name, hide, hide_kind, hide_word, hidden_one}
-use Rattle.c_parser.specs.Reading.{HoldTexts, HoldsComma, HoldQualifiers, HoldNames, HoldPointers, Holds, HoldsBehind, HoldBehinds, HoldsFront, HoldFronts, HoldBraces, HoldsInitial, HoldsPiece, HoldPieces, HoldsDesignator, HoldDesignators, HoldsAssociation, HoldAssociations, HoldSpecifying, HoldSpecifyings, HoldsNaming, HoldsDeclaring, HoldsGrouping, HoldsDeriving, HoldDerivings, HoldParameters, HoldRow, HoldsBound}
+use Rattle.c_parser.specs.Kinds.{kind_at, level_of, is_word, is_identifier, is_size, is_prefix, is_member, is_dot, is_equals, is_typedef, is_qualifier, is_specifying, is_atomic, is_opening, atomic_at, specifies_at, qualifies_at, may_name, hide, hide_kind, hide_word, hidden_one, is_tagging, names_it, plain_behind}
+use Rattle.c_parser.specs.Reading.{HoldTexts, HoldsComma, HoldQualifiers, HoldNames, HoldPointers, Holds, HoldsBehind, HoldBehinds, HoldsFront, HoldFronts, HoldBraces, HoldsInitial, HoldsPiece, HoldPieces, HoldsDesignator, HoldDesignators, HoldsAssociation, HoldAssociations, HoldSpecifying, HoldSpecifyings, HoldsNaming, HoldsDeclaring, HoldsGrouping, HoldsDeriving, HoldDerivings, HoldParameters, HoldRow, HoldsBound, HoldsTag, HoldsMember, HoldMembers, HoldsField, HoldFields, HoldsAssertion, HoldsDeclarator, HoldsDirect}
 use Rattle.stmt_parser.specs.Balance.{Pairs, No_token, Token_then, Pair_then}
+use Rattle.stmt_parser.specs.Externals.{is_close_paren}
 
 -- no bracket and no `;`, and where it is asked for no `=` either
 abbrev pub plain : Bool → Kind → Bool
@@ -25,22 +26,79 @@ plain strict Semicolon = false
 plain strict Equals = not strict
 plain strict _ = true
 
--- a bracket that opens, and where it is asked for no brace
+-- a bracket that opens, and where it is asked for no brace; that is asked for behind a `)` alone
 abbrev pub opener : Bool → Kind → Bool
 opener strict OpenParen = true
 opener strict OpenBracket = true
 opener strict OpenBrace = not strict
 opener strict _ = false
 
+-- brackets match, whatever stands between them
+abbrev pub AreMatched : List Kind → Pairs → ℕ → ℕ → Type 0
+AreMatched ks No_token a b = b ≡ a
+AreMatched ks (Token_then ps) a b = ((opens (kind_at ks a) || closes (kind_at ks a)) ≡ false) × AreMatched ks ps (a + 1) b
+AreMatched ks (Pair_then inner ps) a b =
+    (c : ℕ) × (opens (kind_at ks a) ≡ true) × AreMatched ks inner (a + 1) c × (closes (kind_at ks c) ≡ true) × AreMatched ks ps (c + 1) b
+
+pub record Matched (ks : List Kind) (a b : ℕ) : Type 0 where
+  pub pairs : Pairs
+  pub are : AreMatched ks pairs a b
+
+pub plain_bracket : (s : Bool) → (k : Kind) → plain s k ≡ true → (opens k || closes k) ≡ false
+plain_bracket s OpenParen h = absurd (true≢false (sym h))
+plain_bracket s CloseParen h = absurd (true≢false (sym h))
+plain_bracket s OpenBracket h = absurd (true≢false (sym h))
+plain_bracket s CloseBracket h = absurd (true≢false (sym h))
+plain_bracket s OpenBrace h = absurd (true≢false (sym h))
+plain_bracket s CloseBrace h = absurd (true≢false (sym h))
+plain_bracket s _ h = refl
+
+pub opener_opens : (s : Bool) → (k : Kind) → opener s k ≡ true → opens k ≡ true
+opener_opens s OpenParen h = refl
+opener_opens s OpenBracket h = refl
+opener_opens s OpenBrace h = refl
+opener_opens s _ h = absurd (true≢false (sym h))
+
 abbrev pub AreCalm : Bool → List Kind → Pairs → ℕ → ℕ → Type 0
 AreCalm s ks No_token a b = b ≡ a
 AreCalm s ks (Token_then ps) a b = (plain s (kind_at ks a) ≡ true) × AreCalm s ks ps (a + 1) b
 AreCalm s ks (Pair_then inner ps) a b =
-    (c : ℕ) × (opener s (kind_at ks a) ≡ true) × AreCalm false ks inner (a + 1) c × (closes (kind_at ks c) ≡ true) × AreCalm s ks ps (c + 1) b
+    (c : ℕ) × (opener (s && is_close_paren (kind_at ks (a - 1))) (kind_at ks a) ≡ true) × AreMatched ks inner (a + 1) c
+    × (closes (kind_at ks c) ≡ true) × AreCalm s ks ps (c + 1) b
 
 pub record Calm (s : Bool) (ks : List Kind) (a b : ℕ) : Type 0 where
   pub pairs : Pairs
   pub are : AreCalm s ks pairs a b
+
+matching : (s : Bool) → (ks : List Kind) → (ps : Pairs) → (a b : ℕ) → AreCalm s ks ps a b → AreMatched ks ps a b
+matching s ks No_token a b h = h
+matching s ks (Token_then ps) a b h = (plain_bracket s (kind_at ks a) h.0, matching s ks ps (a + 1) b h.1)
+matching s ks (Pair_then inner ps) a b h = (
+  h.0,
+  opener_opens (s && is_close_paren (kind_at ks (a - 1))) (kind_at ks a) h.1,
+  h.2,
+  h.3,
+  matching s ks ps (h.0 + 1) b h.4,
+)
+
+pub matched : (s : Bool) → (ks : List Kind) → (a b : ℕ) → Calm s ks a b → Matched ks a b
+matched s ks a b x = record { pairs = x.pairs; are = matching s ks x.pairs a b x.are }
+
+then_matched : (ks : List Kind) → (ps qs : Pairs) → (a m b : ℕ) → AreMatched ks ps a m → AreMatched ks qs m b → Matched ks a b
+then_matched ks No_token qs a m b h g = record { pairs = qs; are = subst (λ i. AreMatched ks qs i b) h g }
+then_matched ks (Token_then ps) qs a m b h g =
+    let more = then_matched ks ps qs (a + 1) m b h.1 g in
+    record { pairs = Token_then more.pairs; are = (h.0, more.are) }
+then_matched ks (Pair_then inner ps) qs a m b h g =
+    let more = then_matched ks ps qs (h.0 + 1) m b h.4 g in
+    record { pairs = Pair_then inner more.pairs; are = (h.0, h.1, h.2, h.3, more.are) }
+
+-- one behind another inside of brackets
+pub chain : (ks : List Kind) → (a m b : ℕ) → Matched ks a m → Matched ks m b → Matched ks a b
+chain ks a m b x y = then_matched ks x.pairs y.pairs a m b x.are y.are
+
+pub semicolon_matched : (ks : List Kind) → (a b : ℕ) → kind_at ks a ≡ Semicolon → b ≡ a + 1 → Matched ks a b
+semicolon_matched ks a b e f = record { pairs = Token_then No_token; are = (ap (λ k. opens k || closes k) e, f) }
 
 joined : (s : Bool) → (ks : List Kind) → (ps qs : Pairs) → (a m b : ℕ) → AreCalm s ks ps a m → AreCalm s ks qs m b → Calm s ks a b
 joined s ks No_token qs a m b h g = record { pairs = qs; are = subst (λ i. AreCalm s ks qs i b) h g }
@@ -63,11 +121,6 @@ token s ks a b h e = record { pairs = Token_then No_token; are = (h, e) }
 pub mark : (s : Bool) → (ks : List Kind) → (a b : ℕ) → (k : Kind) → kind_at ks a ≡ k → plain s k ≡ true → b ≡ a + 1 → Calm s ks a b
 mark s ks a b k e h f = token s ks a b (ap (plain s) e ∙ h) f
 
-pub pair : (s : Bool) → (ks : List Kind) → (a c b : ℕ) → (k l : Kind) → kind_at ks a ≡ k → opener s k ≡ true → Calm false ks (a + 1) c
-    → kind_at ks c ≡ l → closes l ≡ true → b ≡ c + 1 → Calm s ks a b
-pair s ks a c b k l e o x f g q =
-    record { pairs = Pair_then x.pairs No_token; are = (c, ap (opener s) e ∙ o, x.are, ap closes f ∙ g, q) }
-
 -- less is asked for
 plain_loose : (k : Kind) → plain true k ≡ true → plain false k ≡ true
 plain_loose OpenParen h = h
@@ -86,10 +139,48 @@ opener_loose OpenBracket h = refl
 opener_loose OpenBrace h = refl
 opener_loose _ h = h
 
+pub opener_any : (s : Bool) → (k : Kind) → opener s k ≡ true → opener false k ≡ true
+opener_any true k h = opener_loose k h
+opener_any false k h = h
+
+opener_weaker : (s p : Bool) → (k : Kind) → opener s k ≡ true → opener (s && p) k ≡ true
+opener_weaker true true k h = h
+opener_weaker true false k h = opener_loose k h
+opener_weaker false p k h = h
+
+pub pair : (s : Bool) → (ks : List Kind) → (a c b : ℕ) → (k l : Kind) → kind_at ks a ≡ k → opener s k ≡ true → Calm false ks (a + 1) c
+    → kind_at ks c ≡ l → closes l ≡ true → b ≡ c + 1 → Calm s ks a b
+pair s ks a c b k l e o x f g q =
+    record {
+      pairs = Pair_then x.pairs No_token;
+      are = (c, opener_weaker s (is_close_paren (kind_at ks (a - 1))) (kind_at ks a) (ap (opener s) e ∙ o), matching false ks x.pairs (a + 1) c x.are, ap closes f ∙ g, q);
+    }
+
+-- a brace that is no body's, since no `)` stands in front of it
+unclosed_opens : (s p : Bool) → p ≡ false → opener (s && p) OpenBrace ≡ true
+unclosed_opens true true e = absurd (true≢false e)
+unclosed_opens true false e = refl
+unclosed_opens false p e = refl
+
+pub braces : (s : Bool) → (ks : List Kind) → (a c b : ℕ) → is_close_paren (kind_at ks (a - 1)) ≡ false → kind_at ks a ≡ OpenBrace → Matched ks (a + 1) c
+    → kind_at ks c ≡ CloseBrace → b ≡ c + 1 → Calm s ks a b
+braces s ks a c b u e x f q =
+    record {
+      pairs = Pair_then x.pairs No_token;
+      are = (
+        c,
+        ap (opener (s && is_close_paren (kind_at ks (a - 1)))) e ∙ unclosed_opens s (is_close_paren (kind_at ks (a - 1))) u,
+        x.are,
+        ap closes f,
+        q,
+      );
+    }
+
 loosened : (ks : List Kind) → (ps : Pairs) → (a b : ℕ) → AreCalm true ks ps a b → AreCalm false ks ps a b
 loosened ks No_token a b h = h
 loosened ks (Token_then ps) a b h = (plain_loose (kind_at ks a) h.0, loosened ks ps (a + 1) b h.1)
-loosened ks (Pair_then inner ps) a b h = (h.0, opener_loose (kind_at ks a) h.1, h.2, h.3, loosened ks ps (h.0 + 1) b h.4)
+loosened ks (Pair_then inner ps) a b h =
+    (h.0, opener_any (is_close_paren (kind_at ks (a - 1))) (kind_at ks a) h.1, h.2, h.3, loosened ks ps (h.0 + 1) b h.4)
 
 pub loosen : (ks : List Kind) → (a b : ℕ) → Calm true ks a b → Calm false ks a b
 loosen ks a b x = record { pairs = x.pairs; are = loosened ks x.pairs a b x.are }
@@ -205,14 +296,28 @@ past_same : (f : Kind → Bool) → ((n : ℕ) → f (TypeName n) ≡ f Identifi
 past_same f i ks None a = refl
 past_same f i ks (Some n) a = kind_hidden f i ks (kind_at ks n) a
 
+behind_matched : (ks : List Kind) → (o : Option ℕ) → (ps : Pairs) → (a b : ℕ) → AreMatched (hide ks o) ps a b → AreMatched ks ps a b
+behind_matched ks o No_token a b h = h
+behind_matched ks o (Token_then ps) a b h =
+    (sym (past_same (λ k. opens k || closes k) (λ n. refl) ks o a) ∙ h.0, behind_matched ks o ps (a + 1) b h.1)
+behind_matched ks o (Pair_then inner ps) a b h = (
+  h.0,
+  sym (past_same opens (λ n. refl) ks o a) ∙ h.1,
+  behind_matched ks o inner (a + 1) h.0 h.2,
+  sym (past_same closes (λ n. refl) ks o h.0) ∙ h.3,
+  behind_matched ks o ps (h.0 + 1) b h.4,
+)
+
 behind_one : (s : Bool) → (ks : List Kind) → (o : Option ℕ) → (ps : Pairs) → (a b : ℕ) → AreCalm s (hide ks o) ps a b → AreCalm s ks ps a b
 behind_one s ks o No_token a b h = h
 behind_one s ks o (Token_then ps) a b h =
     (sym (past_same (plain s) (λ n. refl) ks o a) ∙ h.0, behind_one s ks o ps (a + 1) b h.1)
 behind_one s ks o (Pair_then inner ps) a b h = (
   h.0,
-  sym (past_same (opener s) (λ n. refl) ks o a) ∙ h.1,
-  behind_one false ks o inner (a + 1) h.0 h.2,
+  ap (λ p. opener (s && p) (kind_at ks a)) (sym (past_same is_close_paren (λ n. refl) ks o (a - 1)))
+      ∙ sym (past_same (opener (s && is_close_paren (kind_at (hide ks o) (a - 1)))) (λ n. refl) ks o a)
+      ∙ h.1,
+  behind_matched ks o inner (a + 1) h.0 h.2,
   sym (past_same closes (λ n. refl) ks o h.0) ∙ h.3,
   behind_one s ks o ps (h.0 + 1) b h.4,
 )
@@ -239,6 +344,31 @@ names_calm ks [] a b h = nothing true ks a b h
 names_calm ks (p ∷ ps) a b h =
     join true ks a (a + 1) b (mark true ks a (a + 1) Comma h.1 refl refl)
     (join true ks (a + 1) (a + 1 + 1) b (mark true ks (a + 1) (a + 1 + 1) Identifier h.3 refl refl) (names_calm ks ps (a + 1 + 1) b h.4))
+
+pub tag_calm : (ks : List Kind) → (g : Option ℕ) → (a b : ℕ) → HoldsTag ks g a b → Calm true ks a b
+tag_calm ks None a b h = nothing true ks a b h
+tag_calm ks (Some n) a b h = token true ks a b (word_plain true (kind_at ks a) h.1) h.2
+
+word_paren_not : (k : Kind) → is_word k ≡ true → is_close_paren k ≡ false
+word_paren_not CloseParen h = absurd (true≢false (sym h))
+word_paren_not _ h = refl
+
+front_of : (a : ℕ) → (a + 1) - 1 ≡ a
+front_of a = omega arith
+
+-- in front of the `{` of members stands their keyword, or their tag
+no_paren : (ks : List Kind) → (g : Option ℕ) → (a o : ℕ) → kind_at ks a ≡ Tag → HoldsTag ks g (a + 1) o → is_close_paren (kind_at ks (o - 1)) ≡ false
+no_paren ks None a o k h = ap (λ i. is_close_paren (kind_at ks i)) (ap (λ i. i - 1) h ∙ front_of a) ∙ ap is_close_paren k
+no_paren ks (Some n) a o k h =
+    ap (λ i. is_close_paren (kind_at ks i)) (ap (λ i. i - 1) h.2 ∙ front_of (a + 1)) ∙ word_paren_not (kind_at ks (a + 1)) h.1
+
+-- the name of a declarator that has one
+pub name_plain : (y : Bool) → (k : Kind) → names_it y k ≡ true → plain true k ≡ true
+name_plain true k h = plain_by is_identifier true refl refl refl refl refl refl refl refl k h
+name_plain false k h = word_plain true k h
+
+tagging_plain : (s : Bool) → (k : Kind) → is_tagging k ≡ true → plain s k ≡ true
+tagging_plain s k h = plain_by is_tagging s refl refl refl refl refl refl refl refl k h
 
 pub pointers_calm : (ks : List Kind) → (ps : List (ℕ × List ℕ)) → (a b : ℕ) → HoldPointers ks ps a b → Calm true ks a b
 pointers_calm ks [] a b h = nothing true ks a b h
@@ -360,10 +490,65 @@ mutual
   specifying_calm (Word_of n) ks y a b h = token true ks a b (specifies_plain true ks a h.1) h.2
   specifying_calm (Typedef_of n) ks y a b h = token true ks a b (typedef_plain true (kind_at ks a) h.2) h.3
   specifying_calm (Tag_of k n) ks y a b h =
-      join true ks a n b (mark true ks a n Tag h.1 refl h.2) (token true ks n b (word_plain true (kind_at ks n) h.3) h.4)
+      join true ks a n b (token true ks a n (tagging_plain true (kind_at ks a) h.1) h.2) (token true ks n b (word_plain true (kind_at ks n) h.3) h.4)
   specifying_calm (Atomic_of k o t c) ks y a b h =
       join true ks a o b (mark true ks a o Atomic h.1 refl h.2)
       (pair true ks o c b OpenParen CloseParen h.3 refl (loosen ks (o + 1) c (naming_calm t ks false (o + 1) c h.4)) h.5 refl h.6)
+  specifying_calm (Aligned_as_of k o t c) ks y a b h =
+      join true ks a o b (mark true ks a o Align h.1 refl h.2)
+      (pair true ks o c b OpenParen CloseParen h.3 refl (loosen ks (o + 1) c (naming_calm t ks false (o + 1) c h.4)) h.5 refl h.6)
+  specifying_calm (Aligned_of k o t c) ks y a b h =
+      join true ks a o b (mark true ks a o Align h.1 refl h.2)
+      (pair true ks o c b OpenParen CloseParen h.3 refl (tree_calm t ks (o + 1) c h.5) h.6 refl h.7)
+  specifying_calm (Members_of k g o ms c) ks y a b h =
+      join true ks a (a + 1) b (mark true ks a (a + 1) Tag h.1 refl refl)
+      (join true ks (a + 1) o b (tag_calm ks g (a + 1) o h.2)
+      (braces true ks o c b (no_paren ks g a o h.1 h.2) h.3 (members_matched ms ks (o + 1) c h.5) h.6 h.7))
+  specifying_calm (Enumerators_of k g o e es t c) ks y a b h = absurd h
+
+  member_matched : (x : Member) → (ks : List Kind) → (a b : ℕ) → HoldsMember ks x a b → Matched ks a b
+  member_matched (Bare_of ss e) ks a b h =
+      chain ks a e b (matched true ks a e (specifyings_calm ss ks false a e h.1)) (semicolon_matched ks e b h.3 h.4)
+  member_matched (Fields_of ss f fs e) ks a b h =
+      chain ks a h.0 b (matched true ks a h.0 (specifyings_calm ss ks false a h.0 h.3))
+      (chain ks h.0 h.1 b (matched false ks h.0 h.1 (field_calm f ks _ h.0 h.1 h.5))
+      (chain ks h.1 e b (matched false ks h.1 e (fields_calm fs ks h.1 e h.6)) (semicolon_matched ks e b h.7 h.8)))
+  member_matched (Asserted_of (Assertion_of k o t c ns p e)) ks a b h =
+      chain ks a o b (matched false ks a o (mark false ks a o Assert h.1 refl h.2))
+      (chain ks o e b
+      (matched false ks o e
+      (pair false ks o p e OpenParen CloseParen h.3 refl
+      (join false ks (o + 1) c p (tree_calm t ks (o + 1) c h.5)
+      (join false ks c (c + 1) p (mark false ks c (c + 1) Comma h.6 refl refl) (texts_calm ks ns (c + 1) p h.8))) h.9 refl h.10))
+      (semicolon_matched ks e b h.11 h.12))
+
+  pub members_matched : (xs : Members) → (ks : List Kind) → (a b : ℕ) → HoldMembers ks xs a b → Matched ks a b
+  members_matched No_members ks a b h = record { pairs = No_token; are = h }
+  members_matched (Member_then x xs) ks a b h = chain ks a h.0 b (member_matched x ks a h.0 h.1) (members_matched xs ks h.0 b h.2)
+
+  field_calm : (f : Field) → (ks : List Kind) → (y : Bool) → (a b : ℕ) → HoldsField ks y f a b → Calm false ks a b
+  field_calm (Declared_of d) ks y a b h = loosen ks a b (declarator_calm d ks y a b h)
+  field_calm (Bits_of d c w) ks y a b h =
+      join false ks a c b (loosen ks a c (declarator_calm d ks y a c h.0))
+      (join false ks c (c + 1) b (mark false ks c (c + 1) Colon h.1 refl refl) (tree_calm w ks (c + 1) b h.3))
+  field_calm (Padding_of c w) ks y a b h = join false ks a (a + 1) b (mark false ks a (a + 1) Colon h.1 refl refl) (tree_calm w ks (a + 1) b h.3)
+
+  fields_calm : (fs : Fields) → (ks : List Kind) → (a b : ℕ) → HoldFields ks fs a b → Calm false ks a b
+  fields_calm No_fields ks a b h = nothing false ks a b h
+  fields_calm (Field_then o f fs) ks a b h =
+      join false ks a (a + 1) b (mark false ks a (a + 1) Comma h.2 refl refl)
+      (join false ks (a + 1) h.0 b (field_calm f ks false (a + 1) h.0 h.3) (fields_calm fs ks h.0 b h.4))
+
+  pub declarator_calm : (d : Declaring) → (ks : List Kind) → (y : Bool) → (a b : ℕ) → HoldsDeclarator ks y d a b → Calm true ks a b
+  declarator_calm (Declaring_of ps g ds) ks y a b h =
+      join true ks a h.0 b (pointers_calm ks ps a h.0 h.2)
+      (join true ks h.0 h.1 b (direct_calm g ks (plain_behind y ps) h.0 h.1 h.3) (derivings_calm ds ks h.1 b h.4))
+
+  direct_calm : (g : Grouping) → (ks : List Kind) → (y : Bool) → (a m : ℕ) → HoldsDirect ks y g a m → Calm true ks a m
+  direct_calm No_group ks y a m h = absurd h
+  direct_calm (Named_of n) ks y a m h = token true ks a m (name_plain y (kind_at ks a) h.1) h.2
+  direct_calm (Group_of o d c) ks y a m h =
+      pair true ks a c m OpenParen CloseParen h.1 refl (loosen ks (a + 1) c (declarator_calm d ks false (a + 1) c h.2)) h.3 refl h.4
 
   pub specifyings_calm : (xs : Specifyings) → (ks : List Kind) → (y : Bool) → (a b : ℕ) → HoldSpecifyings ks y xs a b → Calm true ks a b
   specifyings_calm No_specifiers ks y a b h = nothing true ks a b h
