@@ -1,20 +1,8 @@
 // Heads as S-expressions.
-use crate::shown::{show_declarator, show_init, show_specifiers, show_text, shown_into};
+use crate::shown::{show_assertion, show_declarator, show_init, show_specifiers};
 use std::alloc::{AllocError, Global};
 use tok_data::OutToken;
-use tree_data::{Assertion, Declarator, Head, Init};
-
-fn show_assertion(
-    out: &mut String,
-    tokens: &[OutToken],
-    assertion: &Assertion,
-) -> Result<(), AllocError> {
-    out.push_str("(assert ")?;
-    shown_into(out, tokens, &assertion.condition)?;
-    out.push_str(" ")?;
-    show_text(out, tokens, assertion.text.as_slice())?;
-    out.push_str(")")
-}
+use tree_data::{Declarator, Head, Init};
 
 fn show_declared(
     out: &mut String,

@@ -2,8 +2,9 @@
 use std::alloc::{AllocError, Global};
 use tok_data::OutToken;
 use tree_data::{
-    Association, Bound, Braces, Choice, Declarator, Deriving, Designator, Expr, Group, Init,
-    Parameters, Piece, Prefix, Specifier, Specs, Suffix, TypeName,
+    Assertion, Association, Bound, Braces, Choice, Declarator, Deriving, Designator, Enumerator,
+    Expr, Field, Group, Init, Member, Parameters, Piece, Prefix, Specifier, Specs, Suffix,
+    TypeName,
 };
 
 fn spelling(tokens: &[OutToken], at: u32) -> &str {
@@ -118,7 +119,125 @@ fn show_specifier(
             show_name(out, tokens, "(type ", name)?;
             out.push_str(")")
         }
+        Specifier::AlignedAs(_, _, name, _) => {
+            out.push_str("(alignas ")?;
+            show_name(out, tokens, "(type ", name)?;
+            out.push_str(")")
+        }
+        Specifier::Aligned(_, _, size, _) => {
+            out.push_str("(alignas ")?;
+            show(out, tokens, size)?;
+            out.push_str(")")
+        }
+        Specifier::Members(keyword, tag, _, members, _) => {
+            open_tagged(out, tokens, *keyword, *tag)?;
+            out.push_str(" (members")?;
+            for member in members {
+                out.push_str(" ")?;
+                show_member(out, tokens, member)?;
+            }
+            close(out, 2)
+        }
+        Specifier::Enumerators(list) => {
+            open_tagged(out, tokens, list.keyword, list.tag)?;
+            out.push_str(" (items ")?;
+            show_enumerator(out, tokens, &list.first)?;
+            for pair in &list.more {
+                out.push_str(" ")?;
+                show_enumerator(out, tokens, &pair.1)?;
+            }
+            close(out, 2)
+        }
     }
+}
+
+// `struct`, `union` or `enum` and its tag, if there is one.
+fn open_tagged(
+    out: &mut String,
+    tokens: &[OutToken],
+    keyword: u32,
+    tag: Option<u32>,
+) -> Result<(), AllocError> {
+    out.push_str("(")?;
+    spell(out, tokens, keyword)?;
+    out.push_str(" ")?;
+    match tag {
+        Some(at) => spell(out, tokens, at),
+        None => out.push_str("_"),
+    }
+}
+
+#[cycle(show)]
+fn show_field(out: &mut String, tokens: &[OutToken], field: &Field) -> Result<(), AllocError> {
+    match field {
+        Field::Declared(declarator) => show_declarator(out, tokens, declarator),
+        Field::Bits(declarator, _, width) => {
+            out.push_str("(bits ")?;
+            show_declarator(out, tokens, declarator)?;
+            out.push_str(" ")?;
+            show(out, tokens, width)?;
+            out.push_str(")")
+        }
+        Field::Padding(_, width) => {
+            out.push_str("(bits _ ")?;
+            show(out, tokens, width)?;
+            out.push_str(")")
+        }
+    }
+}
+
+#[cycle(show)]
+fn show_member(out: &mut String, tokens: &[OutToken], member: &Member) -> Result<(), AllocError> {
+    match member {
+        Member::Bare(specs, _) => {
+            out.push_str("(member ")?;
+            show_specifiers(out, tokens, specs)?;
+            out.push_str(")")
+        }
+        Member::Fields(specs, first, more, _) => {
+            out.push_str("(member ")?;
+            show_specifiers(out, tokens, specs)?;
+            out.push_str(" ")?;
+            show_field(out, tokens, first)?;
+            for pair in more {
+                out.push_str(" ")?;
+                show_field(out, tokens, &pair.1)?;
+            }
+            out.push_str(")")
+        }
+        Member::Asserted(assertion) => show_assertion(out, tokens, assertion),
+    }
+}
+
+#[cycle(show)]
+fn show_enumerator(
+    out: &mut String,
+    tokens: &[OutToken],
+    enumerator: &Enumerator,
+) -> Result<(), AllocError> {
+    out.push_str("(")?;
+    match enumerator {
+        Enumerator::Counted(at) => spell(out, tokens, *at)?,
+        Enumerator::Given(at, _, value) => {
+            spell(out, tokens, *at)?;
+            out.push_str(" ")?;
+            show(out, tokens, value)?;
+        }
+    }
+    out.push_str(")")
+}
+
+#[cycle(show)]
+pub(crate) fn show_assertion(
+    out: &mut String,
+    tokens: &[OutToken],
+    assertion: &Assertion,
+) -> Result<(), AllocError> {
+    out.push_str("(assert ")?;
+    show(out, tokens, &assertion.condition)?;
+    out.push_str(" ")?;
+    show_text(out, tokens, assertion.text.as_slice())?;
+    out.push_str(")")
 }
 
 #[cycle(show)]
