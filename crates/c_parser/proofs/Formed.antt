@@ -1,14 +1,14 @@
 -- What holds is formed.
 use Rattle.std.proofs.Common.{◌≡◌, ap, sym, ◌∙◌, subst, ℕ, ◌+◌, ◌<◌, arith, not, List, [], ◌∷◌, ◌||◌, Bool, true, false, Option, Some, None}
-use Rattle.tree_data.specs.Trees.{Tree, Name_of, Constant_of, Text_of, Paren_of, Postfix_of, Unary_of, Binary_of, Conditional_of, Assign_of, Of_type, Compound_of, Behind, Operand_of, Index_of, Call_of, Call_with_of, Member_of, Step_of, Behinds, None_behind, Behind_then, Front, Operator_of, Cast_of, Choice_of, Left_of, Fronts, None_before, Front_then, Braces, Braces_of, Initial, Value_of, List_of, Piece, Plain_of, Designated_of, Pieces, No_pieces, Piece_then, Designator, Element_of, Field_of, Designators, No_designators, Designator_then, Generic_of, Offset_of, Association, Typed_of, Default_of, Associations, No_associations, Association_then, Specifying, Word_of, Typedef_of, Tag_of, Atomic_of, Specifyings, No_specifiers, Specifier_then, Naming, Type_of, Declaring, Declaring_of, No_parameters, Fixed_of, Variadic_of, Names_of, Parameters, Row, No_more, Parameter_then, Named_of, Grouping, No_group, Group_of, Deriving, Array_of, Function_of, Derivings, No_derivings, Deriving_then, Bound, Unsized_of, Any_size_of, Sized_of, Static_sized_of, Sized_static_of, Aligned_as_of, Aligned_of, Members_of, Enumerators_of, Member, Bare_of, Fields_of, Asserted_of, Members, No_members, Member_then, Field, Declared_of, Bits_of, Padding_of, Fields, No_fields, Field_then, Assertion, Assertion_of}
+use Rattle.tree_data.specs.Trees.{Tree, Name_of, Constant_of, Text_of, Paren_of, Postfix_of, Unary_of, Binary_of, Conditional_of, Assign_of, Of_type, Compound_of, Behind, Operand_of, Index_of, Call_of, Call_with_of, Member_of, Step_of, Behinds, None_behind, Behind_then, Front, Operator_of, Cast_of, Choice_of, Left_of, Fronts, None_before, Front_then, Braces, Braces_of, Initial, Value_of, List_of, Piece, Plain_of, Designated_of, Pieces, No_pieces, Piece_then, Designator, Element_of, Field_of, Designators, No_designators, Designator_then, Generic_of, Offset_of, Association, Typed_of, Default_of, Associations, No_associations, Association_then, Specifying, Word_of, Typedef_of, Tag_of, Atomic_of, Specifyings, No_specifiers, Specifier_then, Naming, Type_of, Declaring, Declaring_of, No_parameters, Fixed_of, Variadic_of, Names_of, Parameters, Row, No_more, Parameter_then, Named_of, Grouping, No_group, Group_of, Deriving, Array_of, Function_of, Derivings, No_derivings, Deriving_then, Bound, Unsized_of, Any_size_of, Sized_of, Static_sized_of, Sized_static_of, Aligned_as_of, Aligned_of, Members_of, Enumerators_of, Member, Bare_of, Fields_of, Asserted_of, Members, No_members, Member_then, Field, Declared_of, Bits_of, Padding_of, Fields, No_fields, Field_then, Assertion, Assertion_of, Enumerator, Counted_of, Given_of, Enumerators, No_enumerators, Enumerator_then}
 use Rattle.c_parser.specs.declared.kinds.Kind.{Kind}
 use Rattle.c_parser.specs.declared.kinds.Kind.TheVariants.{OpenBrace}
-use Rattle.c_parser.specs.Grammar.{IsFormed, IsBehind, AreBehind, IsInFront, AreInFront, GoOn, IsComma, AreBraced, IsInitial, IsPiece, ArePieces, IsDesignator, AreDesignators, IsAssociated, AreAssociated, has_type, IsSpecifying, AreSpecifying, IsNaming, AreParameters, AreMore, IsDeclaring, IsGrouping, IsDerived, AreDerived, IsBound, typed_by, past, IsTag, IsMember, AreMembers, IsField, AreFields, IsAsserted, IsDeclarator, IsDirect, AreTexts}
+use Rattle.c_parser.specs.Grammar.{IsFormed, IsBehind, AreBehind, IsInFront, AreInFront, GoOn, IsComma, AreBraced, IsInitial, IsPiece, ArePieces, IsDesignator, AreDesignators, IsAssociated, AreAssociated, has_type, IsSpecifying, AreSpecifying, IsNaming, AreParameters, AreMore, IsDeclaring, IsGrouping, IsDerived, AreDerived, IsBound, typed_by, past, IsTag, IsMember, AreMembers, IsField, AreFields, IsAsserted, IsDeclarator, IsDirect, AreTexts, IsEnumerator, AreEnumerators}
 use Rattle.c_parser.specs.Kinds.{kind_at, level_at, is_prefix, is_size, casts_at, is_dot, is_member, specifies_at, named_by, grouped, behind_pointers, may_name, is_typedef, is_word, is_tagging, names_it, plain_behind}
 use Rattle.c_parser.specs.Levels.{behinds_level}
 use Rattle.c_parser.proofs.NameLists.{names_formed}
 use Rattle.c_parser.proofs.Types.{qualifiers_formed, pointers_formed}
-use Rattle.c_parser.specs.Reading.{HoldTexts, Holds, HoldsBehind, HoldBehinds, HoldsFront, HoldFronts, HoldsComma, HoldBraces, HoldsInitial, HoldsPiece, HoldPieces, HoldsDesignator, HoldDesignators, HoldsAssociation, HoldAssociations, HoldSpecifying, HoldSpecifyings, HoldsNaming, HoldParameters, HoldRow, HoldsDeclaring, HoldsGrouping, HoldsDeriving, HoldDerivings, HoldsBound, HoldsTag, HoldsMember, HoldMembers, HoldsField, HoldFields, HoldsAssertion, HoldsDeclarator, HoldsDirect}
+use Rattle.c_parser.specs.Reading.{HoldTexts, Holds, HoldsBehind, HoldBehinds, HoldsFront, HoldFronts, HoldsComma, HoldBraces, HoldsInitial, HoldsPiece, HoldPieces, HoldsDesignator, HoldDesignators, HoldsAssociation, HoldAssociations, HoldSpecifying, HoldSpecifyings, HoldsNaming, HoldParameters, HoldRow, HoldsDeclaring, HoldsGrouping, HoldsDeriving, HoldDerivings, HoldsBound, HoldsTag, HoldsMember, HoldMembers, HoldsField, HoldFields, HoldsAssertion, HoldsDeclarator, HoldsDirect, HoldsEnumerator, HoldEnumerators}
 use Rattle.c_parser.specs.declared.kinds.Named.{Named}
 
 pub comma_formed : (ks : List Kind) → (t : Option ℕ) → (a b : ℕ) → HoldsComma ks t a b → IsComma ks t
@@ -166,7 +166,24 @@ mutual
       (ap (λ x. kind_at ks x) h.0 ∙ h.1, h.3, h.4, formed ks t (o + 1) c h.5, h.6)
   formed_specifying ks y (Members_of k g o ms c) a b h =
       (ap (λ x. kind_at ks x) h.0 ∙ h.1, tag_formed ks g (a + 1) o h.2, h.3, h.4, formed_members ks ms (o + 1) c h.5, h.6)
-  formed_specifying ks y (Enumerators_of k g o e es t c) a b h = h
+  formed_specifying ks y (Enumerators_of k g o e es t c) a b h = (
+    ap (λ x. kind_at ks x) h.2 ∙ h.3,
+    tag_formed ks g (a + 1) o h.4,
+    h.5,
+    formed_enumerator ks e (o + 1) h.0 h.6,
+    formed_enumerators ks es h.0 h.1 h.7,
+    comma_formed ks t h.1 c h.8,
+    h.9,
+  )
+
+  pub formed_enumerator : (ks : List Kind) → (e : Enumerator) → (a b : ℕ) → HoldsEnumerator ks e a b → IsEnumerator ks e
+  formed_enumerator ks (Counted_of n) a b h = ap (λ x. kind_at ks x) h.0 ∙ h.1
+  formed_enumerator ks (Given_of n q t) a b h = (ap (λ x. kind_at ks x) h.0 ∙ h.1, h.3, h.4, formed ks t (q + 1) b h.5)
+
+  pub formed_enumerators : (ks : List Kind) → (es : Enumerators) → (a b : ℕ) → HoldEnumerators ks es a b → AreEnumerators ks es
+  formed_enumerators ks No_enumerators a b h = tt
+  formed_enumerators ks (Enumerator_then o e es) a b h =
+      (ap (λ x. kind_at ks x) h.1 ∙ h.2, formed_enumerator ks e (a + 1) h.0 h.3, formed_enumerators ks es h.0 b h.4)
 
   pub formed_member : (ks : List Kind) → (x : Member) → (a b : ℕ) → HoldsMember ks x a b → IsMember ks x
   formed_member ks (Bare_of ss e) a b h = (h.0, formed_specifyings ks false ss a e h.1, h.2, h.3)

@@ -1,11 +1,11 @@
 -- Parts end no earlier than they begin.
 use Rattle.std.proofs.Common.{ℕ, ◌≤◌, List, Bool, Option}
-use Rattle.tree_data.specs.Trees.{Tree, Behind, Front, Fronts, Piece, Designator, Designators, Association, Specifyings, Naming, Declaring, Grouping, Deriving, Bound, Member, Members, Field, Fields}
+use Rattle.tree_data.specs.Trees.{Tree, Behind, Front, Fronts, Piece, Designator, Designators, Association, Specifyings, Naming, Declaring, Grouping, Deriving, Bound, Member, Members, Field, Fields, Enumerator, Enumerators}
 use Rattle.c_parser.specs.declared.kinds.Kind.{Kind}
-use Rattle.c_parser.specs.Grammar.{spell, spell_behind, spell_front, spell_fronts, spell_piece, spell_designator, spell_designators, spell_association, spell_specifyings, spell_type, spell_declaring, spell_grouping, spell_deriving, spell_bound, spell_tag, spell_member, spell_members, spell_field, spell_fields}
-use Rattle.c_parser.specs.Reading.{Holds, HoldsBehind, HoldsFront, HoldFronts, HoldsPiece, HoldsDesignator, HoldDesignators, HoldsAssociation, HoldSpecifyings, HoldsNaming, HoldsType, HoldsDeclaring, HoldsGrouping, HoldsDeriving, HoldsBound, HoldsTag, HoldsMember, HoldMembers, HoldsField, HoldFields, HoldsDeclarator, HoldsDirect}
+use Rattle.c_parser.specs.Grammar.{spell, spell_behind, spell_front, spell_fronts, spell_piece, spell_designator, spell_designators, spell_association, spell_specifyings, spell_type, spell_declaring, spell_grouping, spell_deriving, spell_bound, spell_tag, spell_member, spell_members, spell_field, spell_fields, spell_enumerator, spell_enumerators, spell_comma}
+use Rattle.c_parser.specs.Reading.{Holds, HoldsBehind, HoldsFront, HoldFronts, HoldsPiece, HoldsDesignator, HoldDesignators, HoldsAssociation, HoldSpecifyings, HoldsNaming, HoldsType, HoldsDeclaring, HoldsGrouping, HoldsDeriving, HoldsBound, HoldsTag, HoldsMember, HoldMembers, HoldsField, HoldFields, HoldsDeclarator, HoldsDirect, HoldsEnumerator, HoldEnumerators, HoldsComma}
 use Rattle.c_parser.proofs.Numbers.{spans_forth}
-use Rattle.c_parser.proofs.Spanned.{spanned, spanned_behind, spanned_front, spanned_fronts, spanned_piece, spanned_designator, spanned_designators, spanned_association, spanned_specifyings, spanned_naming, spanned_declaring, spanned_grouping, spanned_deriving, spanned_bound, tag_spanned, spanned_member, spanned_members, spanned_field, spanned_fields, spanned_declarator, spanned_direct}
+use Rattle.c_parser.proofs.Spanned.{spanned, spanned_behind, spanned_front, spanned_fronts, spanned_piece, spanned_designator, spanned_designators, spanned_association, spanned_specifyings, spanned_naming, spanned_declaring, spanned_grouping, spanned_deriving, spanned_bound, tag_spanned, spanned_member, spanned_members, spanned_field, spanned_fields, spanned_declarator, spanned_direct, spanned_enumerator, spanned_enumerators, comma_spanned}
 use Rattle.c_parser.proofs.Spans.{spanned_type}
 use Rattle.c_parser.specs.declared.kinds.Named.{Named}
 
@@ -74,3 +74,12 @@ direct_forth ks y g a b h = spans_forth (spell_grouping g) a b (spanned_direct k
 
 pub tag_forth : (ks : List Kind) → (g : Option ℕ) → (a b : ℕ) → HoldsTag ks g a b → a ≤ b
 tag_forth ks g a b h = spans_forth (spell_tag g) a b (tag_spanned ks g a b h)
+
+pub enumerator_forth : (ks : List Kind) → (e : Enumerator) → (a b : ℕ) → HoldsEnumerator ks e a b → a ≤ b
+enumerator_forth ks e a b h = spans_forth (spell_enumerator e) a b (spanned_enumerator ks e a b h)
+
+pub enumerators_forth : (ks : List Kind) → (es : Enumerators) → (a b : ℕ) → HoldEnumerators ks es a b → a ≤ b
+enumerators_forth ks es a b h = spans_forth (spell_enumerators es) a b (spanned_enumerators ks es a b h)
+
+pub comma_forth : (ks : List Kind) → (t : Option ℕ) → (a b : ℕ) → HoldsComma ks t a b → a ≤ b
+comma_forth ks t a b h = spans_forth (spell_comma t) a b (comma_spanned ks t a b h)

@@ -1,16 +1,16 @@
 -- What is formed holds where the numbers that it spells are.
 use Rattle.std.proofs.Common.{◌≡◌, ap, sym, ◌∙◌, subst, ℕ, ◌+◌, ◌<◌, arith, not, List, [], ◌∷◌, ◌++◌, ◌||◌, Bool, true, false, Option, Some, None}
-use Rattle.tree_data.specs.Trees.{Tree, Name_of, Constant_of, Text_of, Paren_of, Postfix_of, Unary_of, Binary_of, Conditional_of, Assign_of, Of_type, Compound_of, Behind, Operand_of, Index_of, Call_of, Call_with_of, Member_of, Step_of, Behinds, None_behind, Behind_then, Front, Operator_of, Cast_of, Choice_of, Left_of, Fronts, None_before, Front_then, Braces, Braces_of, Initial, Value_of, List_of, Piece, Plain_of, Designated_of, Pieces, No_pieces, Piece_then, Designator, Element_of, Field_of, Designators, No_designators, Designator_then, Generic_of, Offset_of, Association, Typed_of, Default_of, Associations, No_associations, Association_then, Specifying, Word_of, Typedef_of, Tag_of, Atomic_of, Specifyings, No_specifiers, Specifier_then, Naming, Type_of, Declaring, Declaring_of, No_parameters, Fixed_of, Variadic_of, Names_of, Parameters, Row, No_more, Parameter_then, Named_of, Grouping, No_group, Group_of, Deriving, Array_of, Function_of, Derivings, No_derivings, Deriving_then, Bound, Unsized_of, Any_size_of, Sized_of, Static_sized_of, Sized_static_of, Aligned_as_of, Aligned_of, Members_of, Enumerators_of, Member, Bare_of, Fields_of, Asserted_of, Members, No_members, Member_then, Field, Declared_of, Bits_of, Padding_of, Fields, No_fields, Field_then, Assertion, Assertion_of}
+use Rattle.tree_data.specs.Trees.{Tree, Name_of, Constant_of, Text_of, Paren_of, Postfix_of, Unary_of, Binary_of, Conditional_of, Assign_of, Of_type, Compound_of, Behind, Operand_of, Index_of, Call_of, Call_with_of, Member_of, Step_of, Behinds, None_behind, Behind_then, Front, Operator_of, Cast_of, Choice_of, Left_of, Fronts, None_before, Front_then, Braces, Braces_of, Initial, Value_of, List_of, Piece, Plain_of, Designated_of, Pieces, No_pieces, Piece_then, Designator, Element_of, Field_of, Designators, No_designators, Designator_then, Generic_of, Offset_of, Association, Typed_of, Default_of, Associations, No_associations, Association_then, Specifying, Word_of, Typedef_of, Tag_of, Atomic_of, Specifyings, No_specifiers, Specifier_then, Naming, Type_of, Declaring, Declaring_of, No_parameters, Fixed_of, Variadic_of, Names_of, Parameters, Row, No_more, Parameter_then, Named_of, Grouping, No_group, Group_of, Deriving, Array_of, Function_of, Derivings, No_derivings, Deriving_then, Bound, Unsized_of, Any_size_of, Sized_of, Static_sized_of, Sized_static_of, Aligned_as_of, Aligned_of, Members_of, Enumerators_of, Member, Bare_of, Fields_of, Asserted_of, Members, No_members, Member_then, Field, Declared_of, Bits_of, Padding_of, Fields, No_fields, Field_then, Assertion, Assertion_of, Enumerator, Counted_of, Given_of, Enumerators, No_enumerators, Enumerator_then}
 use Rattle.c_parser.specs.declared.kinds.Kind.{Kind}
 use Rattle.c_parser.specs.declared.kinds.Kind.TheVariants.{Text, OpenBrace}
-use Rattle.c_parser.specs.Grammar.{spell, spell_behind, spell_behinds, spell_front, spell_fronts, IsFormed, IsBehind, AreBehind, IsInFront, AreInFront, GoOn, spell_comma, spell_braces, spell_initial, spell_piece, spell_pieces, spell_designator, spell_designators, IsComma, AreBraced, IsInitial, IsPiece, ArePieces, IsDesignator, AreDesignators, spell_association, spell_associations, IsAssociated, AreAssociated, spell_specifying, spell_specifyings, spell_type, spell_declaring, spell_grouping, spell_deriving, spell_derivings, spell_bound, has_type, IsSpecifying, AreSpecifying, IsNaming, AreParameters, AreMore, spell_parameters, spell_row, IsDeclaring, IsGrouping, IsDerived, AreDerived, IsBound, typed_by, past, spell_tag, spell_member, spell_members, spell_field, spell_fields, spell_assertion, IsTag, IsMember, AreMembers, IsField, AreFields, IsAsserted, IsDeclarator, IsDirect, AreTexts}
+use Rattle.c_parser.specs.Grammar.{spell, spell_behind, spell_behinds, spell_front, spell_fronts, IsFormed, IsBehind, AreBehind, IsInFront, AreInFront, GoOn, spell_comma, spell_braces, spell_initial, spell_piece, spell_pieces, spell_designator, spell_designators, IsComma, AreBraced, IsInitial, IsPiece, ArePieces, IsDesignator, AreDesignators, spell_association, spell_associations, IsAssociated, AreAssociated, spell_specifying, spell_specifyings, spell_type, spell_declaring, spell_grouping, spell_deriving, spell_derivings, spell_bound, has_type, IsSpecifying, AreSpecifying, IsNaming, AreParameters, AreMore, spell_parameters, spell_row, IsDeclaring, IsGrouping, IsDerived, AreDerived, IsBound, typed_by, past, spell_tag, spell_member, spell_members, spell_field, spell_fields, spell_assertion, IsTag, IsMember, AreMembers, IsField, AreFields, IsAsserted, IsDeclarator, IsDirect, AreTexts, spell_enumerator, spell_enumerators, IsEnumerator, AreEnumerators}
 use Rattle.c_parser.specs.Kinds.{kind_at, level_at, is_prefix, is_size, casts_at, is_dot, is_member, specifies_at, named_by, grouped, behind_pointers, may_name, is_typedef, is_word, is_tagging, names_it, plain_behind}
 use Rattle.c_parser.specs.Levels.{behinds_level}
 use Rattle.c_parser.specs.Declarators.{spell_pointers}
 use Rattle.c_parser.proofs.Numbers.{Spans, spans_split, spans_forth}
 use Rattle.c_parser.proofs.NameLists.{names_held}
 use Rattle.c_parser.proofs.Types.{qualifiers_held, pointers_held}
-use Rattle.c_parser.specs.Reading.{HoldTexts, Holds, HoldsBehind, HoldBehinds, HoldsFront, HoldFronts, HoldsComma, HoldBraces, HoldsInitial, HoldsPiece, HoldPieces, HoldsDesignator, HoldDesignators, HoldsAssociation, HoldAssociations, HoldQualifiers, HoldSpecifying, HoldSpecifyings, HoldsNaming, HoldParameters, HoldRow, HoldsDeclaring, HoldsGrouping, HoldsDeriving, HoldDerivings, HoldsBound, HoldsTag, HoldsMember, HoldMembers, HoldsField, HoldFields, HoldsAssertion, HoldsDeclarator, HoldsDirect}
+use Rattle.c_parser.specs.Reading.{HoldTexts, Holds, HoldsBehind, HoldBehinds, HoldsFront, HoldFronts, HoldsComma, HoldBraces, HoldsInitial, HoldsPiece, HoldPieces, HoldsDesignator, HoldDesignators, HoldsAssociation, HoldAssociations, HoldQualifiers, HoldSpecifying, HoldSpecifyings, HoldsNaming, HoldParameters, HoldRow, HoldsDeclaring, HoldsGrouping, HoldsDeriving, HoldDerivings, HoldsBound, HoldsTag, HoldsMember, HoldMembers, HoldsField, HoldFields, HoldsAssertion, HoldsDeclarator, HoldsDirect, HoldsEnumerator, HoldEnumerators}
 use Rattle.c_parser.specs.declared.kinds.Named.{Named}
 
 pub comma_held : (ks : List Kind) → (t : Option ℕ) → (a b : ℕ) → IsComma ks t → Spans (spell_comma t) a b → HoldsComma ks t a b
@@ -368,7 +368,46 @@ mutual
         f.5,
         r.back.1 ∙ ap (λ x. x + 1) (sym r.back.0),
       )
-  held_specifying ks y (Enumerators_of k g o e es t c) a b f s = f
+  held_specifying ks y (Enumerators_of k g o e es t c) a b f s =
+      let q = spans_split (spell_tag g) (o ∷ (spell_enumerator e ++ (spell_enumerators es ++ (spell_comma t ++ c ∷ [])))) (a + 1) b s.1 in
+      let r = spans_split (spell_enumerator e) (spell_enumerators es ++ (spell_comma t ++ c ∷ [])) (q.at + 1) b q.back.1 in
+      let u = spans_split (spell_enumerators es) (spell_comma t ++ c ∷ []) r.at b r.back in
+      let v = spans_split (spell_comma t) (c ∷ []) u.at b u.back in (
+        r.at,
+        u.at,
+        s.0,
+        ap (λ x. kind_at ks x) (sym s.0) ∙ f.0,
+        subst (λ x. HoldsTag ks g (a + 1) x) (sym q.back.0) (tag_held ks g (a + 1) q.at f.1 q.front),
+        f.2,
+        subst (λ x. HoldsEnumerator ks e (x + 1) r.at) (sym q.back.0) (held_enumerator ks e (q.at + 1) r.at f.3 r.front),
+        held_enumerators ks es r.at u.at f.4 u.front,
+        subst (λ x. HoldsComma ks t u.at x) (sym v.back.0) (comma_held ks t u.at v.at f.5 v.front),
+        f.6,
+        v.back.1 ∙ ap (λ x. x + 1) (sym v.back.0),
+      )
+
+  pub held_enumerator : (ks : List Kind) → (e : Enumerator) → (a b : ℕ) → IsEnumerator ks e → Spans (spell_enumerator e) a b → HoldsEnumerator ks e a b
+  held_enumerator ks (Counted_of n) a b f s = (s.0, ap (λ x. kind_at ks x) (sym s.0) ∙ f, s.1)
+  held_enumerator ks (Given_of n q t) a b f s = (
+    s.0,
+    ap (λ x. kind_at ks x) (sym s.0) ∙ f.0,
+    s.1.0,
+    f.1,
+    f.2,
+    subst (λ x. Holds ks t (x + 1) b) (sym s.1.0) (held ks t ((a + 1) + 1) b f.3 s.1.1),
+  )
+
+  pub held_enumerators : (ks : List Kind) → (es : Enumerators) → (a b : ℕ) → AreEnumerators ks es → Spans (spell_enumerators es) a b
+      → HoldEnumerators ks es a b
+  held_enumerators ks No_enumerators a b f s = s
+  held_enumerators ks (Enumerator_then o e es) a b f s =
+      let r = spans_split (spell_enumerator e) (spell_enumerators es) (a + 1) b s.1 in (
+        r.at,
+        s.0,
+        ap (λ x. kind_at ks x) (sym s.0) ∙ f.0,
+        held_enumerator ks e (a + 1) r.at f.1 r.front,
+        held_enumerators ks es r.at b f.2 r.back,
+      )
 
   pub held_member : (ks : List Kind) → (x : Member) → (a b : ℕ) → IsMember ks x → Spans (spell_member x) a b → HoldsMember ks x a b
   held_member ks (Bare_of ss e) a b f s =

@@ -1,13 +1,13 @@
 -- No two specifiers, lists of them, static assertions or members stand from one place on.
 use Rattle.std.proofs.Common.{◌≡◌, refl, ap, sym, ◌∙◌, subst, ℕ, ◌+◌, ◌<◌, ◌≤◌, List, arith, Option, Some, None, Bool, true, false, not, true≢false, ◌||◌}
-use Rattle.tree_data.specs.Trees.{Tree, Declaring, Specifying, Word_of, Typedef_of, Tag_of, Atomic_of, Aligned_as_of, Aligned_of, Members_of, Enumerators_of, Specifyings, No_specifiers, Specifier_then, Naming, Member, Bare_of, Fields_of, Asserted_of, Members, No_members, Member_then, Field, Declared_of, Bits_of, Padding_of, Fields, No_fields, Field_then, Assertion, Assertion_of}
+use Rattle.tree_data.specs.Trees.{Tree, Declaring, Specifying, Word_of, Typedef_of, Tag_of, Atomic_of, Aligned_as_of, Aligned_of, Members_of, Enumerators_of, Specifyings, No_specifiers, Specifier_then, Naming, Member, Bare_of, Fields_of, Asserted_of, Members, No_members, Member_then, Field, Declared_of, Bits_of, Padding_of, Fields, No_fields, Field_then, Assertion, Assertion_of, Enumerator, Counted_of, Given_of, Enumerators, No_enumerators, Enumerator_then}
 use Rattle.c_parser.specs.declared.kinds.Kind.{Kind}
-use Rattle.c_parser.specs.declared.kinds.Kind.TheVariants.{Identifier, TypeName, Tag, Atomic, Align, Assert, Star, OpenParen, CloseParen, OpenBracket, OpenBrace, CloseBrace, Colon, Comma, Semicolon, Equals, End}
+use Rattle.c_parser.specs.declared.kinds.Kind.TheVariants.{Identifier, TypeName, Tag, Atomic, Align, Assert, Star, OpenParen, CloseParen, OpenBracket, OpenBrace, CloseBrace, Colon, Comma, Semicolon, Equals, End, Enum}
 use Rattle.c_parser.specs.Grammar.{AreSome, has_type, typed_by}
-use Rattle.c_parser.specs.Kinds.{kind_at, starts_type, ends_type, ends_specifiers, is_word, is_typedef, is_tagging, is_opening}
+use Rattle.c_parser.specs.Kinds.{kind_at, starts_type, ends_type, ends_specifiers, is_word, is_typedef, is_tagging, is_opening, is_equals}
 use Rattle.c_parser.specs.MembersFound.{ends_field}
-use Rattle.c_parser.specs.Reading.{Holds, HoldTexts, HoldsTag, HoldSpecifying, HoldSpecifyings, HoldsMember, HoldMembers, HoldsField, HoldFields, HoldsAssertion, HoldsDeclarator, HoldsType, Reads, Stops}
-use Rattle.c_parser.proofs.Forth.{tree_forth, type_forth, specifyings_forth, members_forth, member_forth, field_forth, fields_forth, declarator_forth, tag_forth}
+use Rattle.c_parser.specs.Reading.{Holds, HoldTexts, HoldsTag, HoldSpecifying, HoldSpecifyings, HoldsMember, HoldMembers, HoldsField, HoldFields, HoldsAssertion, HoldsDeclarator, HoldsType, Reads, Stops, HoldsComma, HoldsEnumerator, HoldEnumerators}
+use Rattle.c_parser.proofs.Forth.{tree_forth, type_forth, specifyings_forth, members_forth, member_forth, field_forth, fields_forth, declarator_forth, tag_forth, enumerator_forth, enumerators_forth, comma_forth}
 use Rattle.c_parser.proofs.Marks.{clash, stops_at, no_type}
 use Rattle.c_parser.proofs.NamedReading.{declarator_only, declarator_starts, declarator_next, starts_declarator}
 use Rattle.c_parser.proofs.OneReading.{placed_only}
@@ -149,7 +149,7 @@ class (Atomic_of k o t c) = 3
 class (Aligned_as_of k o t c) = 4
 class (Aligned_of k o t c) = 4
 class (Members_of k g o ms c) = 2
-class (Enumerators_of k g o e es t c) = 5
+class (Enumerators_of k g o e es t c) = 2
 
 abbrev first : List Kind → ℕ → ℕ
 first ks a = class_of (kind_at ks a) (is_opening (kind_at ks (a + 1)))
@@ -164,7 +164,7 @@ class_is ks y (Atomic_of k o t c) a b h =
 class_is ks y (Aligned_as_of k o t c) a b h = ap (λ x. class_of x (is_opening (kind_at ks (a + 1)))) h.1
 class_is ks y (Aligned_of k o t c) a b h = ap (λ x. class_of x (is_opening (kind_at ks (a + 1)))) h.1
 class_is ks y (Members_of k g o ms c) a b h = ap (λ x. class_of x (is_opening (kind_at ks (a + 1)))) h.1
-class_is ks y (Enumerators_of k g o e es t c) a b h = absurd h
+class_is ks y (Enumerators_of k g o e es t c) a b h = ap (λ x. class_of x (is_opening (kind_at ks (a + 1)))) h.3
 
 same_class : (ks : List Kind) → (y : Bool) → (s s' : Specifying) → (a b b' : ℕ) → HoldSpecifying ks y s a b → HoldSpecifying ks y s' a b'
     → class s ≡ class s'
@@ -197,6 +197,7 @@ tag_alike ks y k n a b h (Tag_of k' n') b' e h' =
     let same : n ≡ n' = h.2 ∙ sym h'.2 in
     (ap (λ x. Tag_of x n) (h.0 ∙ sym h'.0) ∙ ap (λ x. Tag_of k' x) same, h.4 ∙ ap (λ x. x + 1) same ∙ sym h'.4)
 tag_alike ks y k n a b h (Members_of k' g o ms c) b' e h' = tag_members_not ks y k n g o a b h h'.2 h'.3
+tag_alike ks y k n a b h (Enumerators_of k' g o el es t c) b' e h' = tag_members_not ks y k n g o a b h h'.4 h'.5
 tag_alike ks y k n a b h _ b' e h' = absurd (omega (arith, e))
 
 abbrev OnlyNaming : List Kind → ℕ → Naming → ℕ → Type 0
@@ -281,7 +282,121 @@ members_alike ks y k g o ms c a b h only (Members_of k' g' o' ms' c') b' e h' =
       h.7 ∙ ap (λ x. x + 1) same.1 ∙ sym h'.7,
     )
 members_alike ks y k g o ms c a b h only (Tag_of k' n) b' e h' = tag_members_not ks y k' n g o a b' h' h.2 h.3
+members_alike ks y k g o ms c a b h only (Enumerators_of k' g' o' el es t c') b' e h' =
+    clash (kind_at ks a) Tag Enum h.1 h'.3 (λ x. omega (arith, x))
 members_alike ks y k g o ms c a b h only _ b' e h' = absurd (omega (arith, e))
+
+-- enumerators
+abbrev ends_enumerator : Kind → Bool
+ends_enumerator Comma = true
+ends_enumerator CloseBrace = true
+ends_enumerator _ = false
+
+enumerator_ends_by : (ks : List Kind) → (b : ℕ) → (k : Kind) → kind_at ks b ≡ k → ends_enumerator k ≡ true → Stops ks 3 b
+enumerator_ends_by ks b Comma e h = stops_at ks 3 b Comma e (omega arith)
+enumerator_ends_by ks b CloseBrace e h = stops_at ks 3 b CloseBrace e (omega arith)
+enumerator_ends_by ks b _ e h = absurd (true≢false (sym h))
+
+unequal : {A : Type 0} → (k : Kind) → ends_enumerator k ≡ true → is_equals k ≡ true → A
+unequal Equals h e = absurd (true≢false (sym h))
+unequal _ h e = absurd (true≢false (sym e))
+
+enumerator_only : (ks : List Kind) → (e : Enumerator) → (a b : ℕ) → From ks a → HoldsEnumerator ks e a b → ends_enumerator (kind_at ks b) ≡ true
+    → (e' : Enumerator) → (b' : ℕ) → HoldsEnumerator ks e' a b' → ends_enumerator (kind_at ks b') ≡ true → (e ≡ e') × (b ≡ b')
+enumerator_only ks (Counted_of n) a b w h f (Counted_of n') b' h' f' = (ap Counted_of (h.0 ∙ sym h'.0), h.2 ∙ sym h'.2)
+enumerator_only ks (Counted_of n) a b w h f (Given_of n' q t) b' h' f' =
+    unequal (kind_at ks b) f (ap (λ x. is_equals (kind_at ks x)) (h.2 ∙ sym h'.2) ∙ h'.3)
+enumerator_only ks (Given_of n q t) a b w h f (Counted_of n') b' h' f' =
+    unequal (kind_at ks b') f' (ap (λ x. is_equals (kind_at ks x)) (h'.2 ∙ sym h.2) ∙ h.3)
+enumerator_only ks (Given_of n q t) a b w h f (Given_of n' q' t') b' h' f' =
+    let one : q ≡ q' = h.2 ∙ sym h'.2 in
+    let w' : From ks (q + 1) = later ks a (q + 1) (omega (arith, h.2)) w in
+    let two =
+    placed_only ks 3 t (q + 1) b w' (omega arith) (h.4, h.5) (enumerator_ends_by ks b (kind_at ks b) refl f) t' b'
+    (h'.4, subst (λ x. Holds ks t' (x + 1) b') (sym one) h'.5) (enumerator_ends_by ks b' (kind_at ks b') refl f') in
+    (ap (λ x. Given_of x q t) (h.0 ∙ sym h'.0) ∙ ap (λ x. Given_of n' x t) one ∙ ap (λ x. Given_of n' q' x) two.0, two.1)
+
+named_first : (ks : List Kind) → (e : Enumerator) → (a b : ℕ) → HoldsEnumerator ks e a b → kind_at ks a ≡ Identifier
+named_first ks (Counted_of n) a b h = h.1
+named_first ks (Given_of n q t) a b h = h.1
+
+last_ends : (ks : List Kind) → (t : Option ℕ) → (a c : ℕ) → HoldsComma ks t a c → kind_at ks c ≡ CloseBrace → ends_enumerator (kind_at ks a) ≡ true
+last_ends ks None a c h k = ap ends_enumerator (ap (λ x. kind_at ks x) (sym h) ∙ k)
+last_ends ks (Some o) a c h k = ap ends_enumerator h.1
+
+enumerators_end : (ks : List Kind) → (es : Enumerators) → (t : Option ℕ) → (a n c : ℕ) → HoldEnumerators ks es a n → HoldsComma ks t n c
+    → kind_at ks c ≡ CloseBrace → ends_enumerator (kind_at ks a) ≡ true
+enumerators_end ks No_enumerators t a n c h g k = last_ends ks t a c (subst (λ x. HoldsComma ks t x c) h g) k
+enumerators_end ks (Enumerator_then o e es) t a n c h g k = ap ends_enumerator h.2
+
+comma_only : (ks : List Kind) → (t : Option ℕ) → (a c : ℕ) → HoldsComma ks t a c → kind_at ks c ≡ CloseBrace → (t' : Option ℕ) → (c' : ℕ)
+    → HoldsComma ks t' a c' → kind_at ks c' ≡ CloseBrace → (t ≡ t') × (c ≡ c')
+comma_only ks None a c h k None c' h' k' = (refl, h ∙ sym h')
+comma_only ks None a c h k (Some o) c' h' k' =
+    clash (kind_at ks a) CloseBrace Comma (ap (λ x. kind_at ks x) (sym h) ∙ k) h'.1 (λ x. omega (arith, x))
+comma_only ks (Some o) a c h k None c' h' k' =
+    clash (kind_at ks a) CloseBrace Comma (ap (λ x. kind_at ks x) (sym h') ∙ k') h.1 (λ x. omega (arith, x))
+comma_only ks (Some o) a c h k (Some o') c' h' k' = (ap Some (h.0 ∙ sym h'.0), h.2 ∙ sym h'.2)
+
+-- no enumerator goes on where the list ends
+none_on : {A : Type 0} → (ks : List Kind) → (t : Option ℕ) → (a c : ℕ) → HoldsComma ks t a c → kind_at ks c ≡ CloseBrace → (e : Enumerator) → (m : ℕ)
+    → kind_at ks a ≡ Comma → HoldsEnumerator ks e (a + 1) m → A
+none_on ks None a c h k e m g i = clash (kind_at ks a) CloseBrace Comma (ap (λ x. kind_at ks x) (sym h) ∙ k) g (λ x. omega (arith, x))
+none_on ks (Some o) a c h k e m g i =
+    clash (kind_at ks (a + 1)) CloseBrace Identifier (ap (λ x. kind_at ks x) (sym h.2) ∙ k) (named_first ks e (a + 1) m i) (λ x. omega (arith, x))
+
+abbrev OnlyList : List Kind → ℕ → Enumerators → Option ℕ → ℕ → Type 0
+OnlyList ks a es t c =
+    (es' : Enumerators) → (n' : ℕ) → (t' : Option ℕ) → (c' : ℕ) → HoldEnumerators ks es' a n' → HoldsComma ks t' n' c' → kind_at ks c' ≡ CloseBrace
+    → (es ≡ es') × (t ≡ t') × (c ≡ c')
+
+enumerators_only : (ks : List Kind) → (es : Enumerators) → (t : Option ℕ) → (a n c : ℕ) → From ks a → HoldEnumerators ks es a n → HoldsComma ks t n c
+    → kind_at ks c ≡ CloseBrace → OnlyList ks a es t c
+enumerators_only ks No_enumerators t a n c w h g k No_enumerators n' t' c' h' g' k' =
+    let same = comma_only ks t a c (subst (λ x. HoldsComma ks t x c) h g) k t' c' (subst (λ x. HoldsComma ks t' x c') h' g') k' in
+    (refl, same.0, same.1)
+enumerators_only ks No_enumerators t a n c w h g k (Enumerator_then o e es) n' t' c' h' g' k' =
+    none_on ks t a c (subst (λ x. HoldsComma ks t x c) h g) k e h'.0 h'.2 h'.3
+enumerators_only ks (Enumerator_then o e es) t a n c w h g k No_enumerators n' t' c' h' g' k' =
+    none_on ks t' a c' (subst (λ x. HoldsComma ks t' x c') h' g') k' e h.0 h.2 h.3
+enumerators_only ks (Enumerator_then o e es) t a n c w h g k (Enumerator_then o' e' es') n' t' c' h' g' k' =
+    let one =
+    enumerator_only ks e (a + 1) h.0 (next ks a w) h.3 (enumerators_end ks es t h.0 n c h.4 g k) e' h'.0 h'.3
+    (enumerators_end ks es' t' h'.0 n' c' h'.4 g' k') in
+    let w' : From ks h.0 = later ks a h.0 (omega (arith, enumerator_forth ks e (a + 1) h.0 h.3)) w in
+    let two = enumerators_only ks es t h.0 n c w' h.4 g k es' n' t' c' (subst (λ x. HoldEnumerators ks es' x n') (sym one.1) h'.4) g' k' in (
+      ap (λ x. Enumerator_then x e es) (h.1 ∙ sym h'.1)
+          ∙ ap (λ x. Enumerator_then o' x es) one.0
+          ∙ ap (λ x. Enumerator_then o' e' x) two.0,
+      two.1,
+      two.2,
+    )
+
+enumerators_alike : (ks : List Kind) → (y : Bool) → (k : ℕ) → (g : Option ℕ) → (o : ℕ) → (el : Enumerator) → (es : Enumerators) → (t : Option ℕ)
+    → (c a b : ℕ) → From ks (a + 1) → HoldSpecifying ks y (Enumerators_of k g o el es t c) a b → (s : Specifying) → (b' : ℕ) → 2 ≡ class s
+    → HoldSpecifying ks y s a b' → (Enumerators_of k g o el es t c ≡ s) × (b ≡ b')
+enumerators_alike ks y k g o el es t c a b w h (Enumerators_of k' g' o' el' es' t' c') b' e h' =
+    let tag = tag_same ks g (a + 1) o h.4 h.5 g' o' h'.4 h'.5 in
+    let w1 : From ks (o + 1) = later ks (a + 1) (o + 1) (omega (arith, tag_forth ks g (a + 1) o h.4)) w in
+    let one =
+    enumerator_only ks el (o + 1) h.0 w1 h.6 (enumerators_end ks es t h.0 h.1 c h.7 h.8 h.9) el' h'.0
+    (subst (λ x. HoldsEnumerator ks el' (x + 1) h'.0) (sym tag.1) h'.6) (enumerators_end ks es' t' h'.0 h'.1 c' h'.7 h'.8 h'.9) in
+    let w2 : From ks h.0 = later ks (o + 1) h.0 (enumerator_forth ks el (o + 1) h.0 h.6) w1 in
+    let two =
+    enumerators_only ks es t h.0 h.1 c w2 h.7 h.8 h.9 es' h'.1 t' c' (subst (λ x. HoldEnumerators ks es' x h'.1) (sym one.1) h'.7) h'.8 h'.9 in (
+      ap (λ x. Enumerators_of x g o el es t c) (h.2 ∙ sym h'.2)
+          ∙ ap (λ x. Enumerators_of k' x o el es t c) tag.0
+          ∙ ap (λ x. Enumerators_of k' g' x el es t c) tag.1
+          ∙ ap (λ x. Enumerators_of k' g' o' x es t c) one.0
+          ∙ ap (λ x. Enumerators_of k' g' o' el' x t c) two.0
+          ∙ ap (λ x. Enumerators_of k' g' o' el' es' x c) two.1
+          ∙ ap (λ x. Enumerators_of k' g' o' el' es' t' x) two.2,
+      h.10 ∙ ap (λ x. x + 1) two.2 ∙ sym h'.10,
+    )
+enumerators_alike ks y k g o el es t c a b w h (Tag_of k' n) b' e h' = tag_members_not ks y k' n g o a b' h' h.4 h.5
+enumerators_alike ks y k g o el es t c a b w h (Members_of k' g' o' ms c') b' e h' =
+    clash (kind_at ks a) Enum Tag h.3 h'.1 (λ x. omega (arith, x))
+enumerators_alike ks y k g o el es t c a b w h _ b' e h' = absurd (omega (arith, e))
 
 abbrev OnlySpecifying : List Kind → Bool → ℕ → Specifyings → ℕ → Type 0
 OnlySpecifying ks y a ss m =
@@ -339,7 +454,12 @@ specifying_strict ks y (Aligned_as_of k o t c) a b h = omega (arith, h.6, h.2, t
 specifying_strict ks y (Aligned_of k o t c) a b h = omega (arith, h.7, h.2, tree_forth ks t (o + 1) c h.5)
 specifying_strict ks y (Members_of k g o ms c) a b h =
     omega (arith, h.7, tag_forth ks g (a + 1) o h.2, members_forth ks ms (o + 1) c h.5)
-specifying_strict ks y (Enumerators_of k g o e es t c) a b h = absurd h
+specifying_strict ks y (Enumerators_of k g o e es t c) a b h =
+    let one : a + 1 ≤ o = tag_forth ks g (a + 1) o h.4 in
+    let two : o + 1 ≤ h.0 = enumerator_forth ks e (o + 1) h.0 h.6 in
+    let three : h.0 ≤ h.1 = enumerators_forth ks es h.0 h.1 h.7 in
+    let four : h.1 ≤ c = comma_forth ks t h.1 c h.8 in
+    omega (arith, one, two, three, four, h.10)
 specifying_strict ks y (Atomic_of k o t c) a b h = omega (arith, h.6, h.2, type_forth ks t (o + 1) c h.4)
 
 -- where specifiers may end and one begins, a typedef name stands behind a type specifier
@@ -377,7 +497,8 @@ no_specifying ks y (Aligned_of k o t c) a b h e =
     typedef_not (kind_at ks a) Align (ends_starts (kind_at ks a) y e (starting ks y (Aligned_of k o t c) a b h)).0 h.1 refl
 no_specifying ks y (Members_of k g o ms c) a b h e =
     typedef_not (kind_at ks a) Tag (ends_starts (kind_at ks a) y e (starting ks y (Members_of k g o ms c) a b h)).0 h.1 refl
-no_specifying ks y (Enumerators_of k g o el es t c) a b h e = absurd h
+no_specifying ks y (Enumerators_of k g o el es t c) a b h e =
+    typedef_not (kind_at ks a) Enum (ends_starts (kind_at ks a) y e (starting ks y (Enumerators_of k g o el es t c) a b h)).0 h.3 refl
 
 after : (ks : List Kind) → (a b : ℕ) → a ≤ b → From ks (a + 1) → From ks (b + 1)
 after ks a b le w = later ks (a + 1) (b + 1) (omega (arith, le)) w
@@ -406,7 +527,8 @@ mutual
       let w' : From ks (o + 1) = later ks (a + 1) (o + 1) (omega (arith, tag_forth ks g (a + 1) o h.2)) w in
       members_alike ks y k g o ms c a b h (members_only ks ms (o + 1) c w' h.5 h.6) s' b'
       (same_class ks y (Members_of k g o ms c) s' a b b' h h') h'
-  specifying_only ks y (Enumerators_of k g o e es t c) a b w h s' b' h' = absurd h
+  specifying_only ks y (Enumerators_of k g o e es t c) a b w h s' b' h' =
+      enumerators_alike ks y k g o e es t c a b w h s' b' (same_class ks y (Enumerators_of k g o e es t c) s' a b b' h h') h'
 
   pub specifyings_only : (ks : List Kind) → (y : Bool) → (ss : Specifyings) → (a m : ℕ) → From ks (a + 1) → HoldSpecifyings ks y ss a m
       → ends_specifiers (kind_at ks m) (typed_by ks y ss) ≡ true → (ss' : Specifyings) → (m' : ℕ) → HoldSpecifyings ks y ss' a m'

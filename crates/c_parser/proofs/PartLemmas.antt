@@ -223,7 +223,7 @@ first_unlabelled w s (Aligned_as_of i o t j) ss ds body a p m n f h g c k =
 first_unlabelled w s (Aligned_of i o t j) ss ds body a p m n f h g c k =
     paren_colon_not (kind_in w (a + 1)) (ap (kind_in w) (sym f.2) ∙ f.3) k
 first_unlabelled w s (Members_of i x o ms j) ss ds body a p m n f h g c k = tag_colon_not w x a o f.2 f.3 k
-first_unlabelled w s (Enumerators_of i x o e es t j) ss ds body a p m n f h g c k = f
+first_unlabelled w s (Enumerators_of i x o e es t j) ss ds body a p m n f h g c k = tag_colon_not w x a o f.4 f.5 k
 
 head_unlabelled : (w : Words) → (d : Heading) → (a b : ℕ) → HoldsHead w d a b → kind_in w (a + 1) ≡ Colon → ⊥
 head_unlabelled w (Declares_of No_specifiers ds body) a b h k = h.2

@@ -1,14 +1,14 @@
 -- What holds spells the numbers between.
 use Rattle.std.proofs.Common.{refl, ap, ◌∙◌, subst, ℕ, ◌+◌, List, [], ◌∷◌, ◌++◌, ◌||◌, not, Bool, true, false, Option, Some, None}
-use Rattle.tree_data.specs.Trees.{Tree, Name_of, Constant_of, Text_of, Paren_of, Postfix_of, Unary_of, Binary_of, Conditional_of, Assign_of, Of_type, Compound_of, Behind, Operand_of, Index_of, Call_of, Call_with_of, Member_of, Step_of, Behinds, None_behind, Behind_then, Front, Operator_of, Cast_of, Choice_of, Left_of, Fronts, None_before, Front_then, Braces, Braces_of, Initial, Value_of, List_of, Piece, Plain_of, Designated_of, Pieces, No_pieces, Piece_then, Designator, Element_of, Field_of, Designators, No_designators, Designator_then, Generic_of, Offset_of, Association, Typed_of, Default_of, Associations, No_associations, Association_then, Specifying, Word_of, Typedef_of, Tag_of, Atomic_of, Specifyings, No_specifiers, Specifier_then, Naming, Type_of, Declaring, Declaring_of, No_parameters, Fixed_of, Variadic_of, Names_of, Parameters, Row, No_more, Parameter_then, Named_of, Grouping, No_group, Group_of, Deriving, Array_of, Function_of, Derivings, No_derivings, Deriving_then, Bound, Unsized_of, Any_size_of, Sized_of, Static_sized_of, Sized_static_of, Aligned_as_of, Aligned_of, Members_of, Enumerators_of, Member, Bare_of, Fields_of, Asserted_of, Members, No_members, Member_then, Field, Declared_of, Bits_of, Padding_of, Fields, No_fields, Field_then, Assertion, Assertion_of}
+use Rattle.tree_data.specs.Trees.{Tree, Name_of, Constant_of, Text_of, Paren_of, Postfix_of, Unary_of, Binary_of, Conditional_of, Assign_of, Of_type, Compound_of, Behind, Operand_of, Index_of, Call_of, Call_with_of, Member_of, Step_of, Behinds, None_behind, Behind_then, Front, Operator_of, Cast_of, Choice_of, Left_of, Fronts, None_before, Front_then, Braces, Braces_of, Initial, Value_of, List_of, Piece, Plain_of, Designated_of, Pieces, No_pieces, Piece_then, Designator, Element_of, Field_of, Designators, No_designators, Designator_then, Generic_of, Offset_of, Association, Typed_of, Default_of, Associations, No_associations, Association_then, Specifying, Word_of, Typedef_of, Tag_of, Atomic_of, Specifyings, No_specifiers, Specifier_then, Naming, Type_of, Declaring, Declaring_of, No_parameters, Fixed_of, Variadic_of, Names_of, Parameters, Row, No_more, Parameter_then, Named_of, Grouping, No_group, Group_of, Deriving, Array_of, Function_of, Derivings, No_derivings, Deriving_then, Bound, Unsized_of, Any_size_of, Sized_of, Static_sized_of, Sized_static_of, Aligned_as_of, Aligned_of, Members_of, Enumerators_of, Member, Bare_of, Fields_of, Asserted_of, Members, No_members, Member_then, Field, Declared_of, Bits_of, Padding_of, Fields, No_fields, Field_then, Assertion, Assertion_of, Enumerator, Counted_of, Given_of, Enumerators, No_enumerators, Enumerator_then}
 use Rattle.c_parser.specs.declared.kinds.Kind.{Kind}
-use Rattle.c_parser.specs.Grammar.{spell, spell_behind, spell_behinds, spell_front, spell_fronts, spell_comma, spell_braces, spell_initial, spell_piece, spell_pieces, spell_designator, spell_designators, spell_association, spell_associations, spell_specifying, spell_specifyings, spell_type, spell_declaring, spell_grouping, spell_deriving, spell_derivings, spell_bound, has_type, spell_parameters, spell_row, typed_by, past, spell_tag, spell_member, spell_members, spell_field, spell_fields, spell_assertion}
+use Rattle.c_parser.specs.Grammar.{spell, spell_behind, spell_behinds, spell_front, spell_fronts, spell_comma, spell_braces, spell_initial, spell_piece, spell_pieces, spell_designator, spell_designators, spell_association, spell_associations, spell_specifying, spell_specifyings, spell_type, spell_declaring, spell_grouping, spell_deriving, spell_derivings, spell_bound, has_type, spell_parameters, spell_row, typed_by, past, spell_tag, spell_member, spell_members, spell_field, spell_fields, spell_assertion, spell_enumerator, spell_enumerators}
 use Rattle.c_parser.specs.Levels.{behinds_level}
 use Rattle.c_parser.specs.Declarators.{spell_pointers}
 use Rattle.c_parser.proofs.Numbers.{Spans, spans_join}
 use Rattle.c_parser.proofs.NameLists.{names_spanned}
 use Rattle.c_parser.proofs.Types.{qualifiers_spanned, pointers_spanned}
-use Rattle.c_parser.specs.Reading.{HoldTexts, Holds, HoldsBehind, HoldBehinds, HoldsFront, HoldFronts, HoldsComma, HoldBraces, HoldsInitial, HoldsPiece, HoldPieces, HoldsDesignator, HoldDesignators, HoldsAssociation, HoldAssociations, HoldSpecifying, HoldSpecifyings, HoldsNaming, HoldParameters, HoldRow, HoldsDeclaring, HoldsGrouping, HoldsDeriving, HoldDerivings, HoldsBound, HoldsTag, HoldsMember, HoldMembers, HoldsField, HoldFields, HoldsAssertion, HoldsDeclarator, HoldsDirect}
+use Rattle.c_parser.specs.Reading.{HoldTexts, Holds, HoldsBehind, HoldBehinds, HoldsFront, HoldFronts, HoldsComma, HoldBraces, HoldsInitial, HoldsPiece, HoldPieces, HoldsDesignator, HoldDesignators, HoldsAssociation, HoldAssociations, HoldSpecifying, HoldSpecifyings, HoldsNaming, HoldParameters, HoldRow, HoldsDeclaring, HoldsGrouping, HoldsDeriving, HoldDerivings, HoldsBound, HoldsTag, HoldsMember, HoldMembers, HoldsField, HoldFields, HoldsAssertion, HoldsDeclarator, HoldsDirect, HoldsEnumerator, HoldEnumerators}
 use Rattle.c_parser.specs.declared.kinds.Named.{Named}
 use Rattle.c_parser.specs.Kinds.{named_by, grouped, behind_pointers, plain_behind}
 
@@ -309,7 +309,52 @@ mutual
         (tag_spanned ks g (a + 1) o h.2)
         (refl, spans_join (spell_members ms) (c ∷ []) (o + 1) c b (spanned_members ks ms (o + 1) c h.5) (refl, h.7)),
   )
-  spanned_specifying ks y (Enumerators_of k g o e es t c) a b h = absurd h
+  spanned_specifying ks y (Enumerators_of k g o e es t c) a b h = (
+    h.2,
+    spans_join
+        (spell_tag g)
+        (o ∷ (spell_enumerator e ++ (spell_enumerators es ++ (spell_comma t ++ c ∷ []))))
+        (a + 1)
+        o
+        b
+        (tag_spanned ks g (a + 1) o h.4) (
+          refl,
+          spans_join
+              (spell_enumerator e)
+              (spell_enumerators es ++ (spell_comma t ++ c ∷ []))
+              (o + 1)
+              h.0
+              b
+              (spanned_enumerator ks e (o + 1) h.0 h.6)
+              (spans_join
+              (spell_enumerators es)
+              (spell_comma t ++ c ∷ [])
+              h.0
+              h.1
+              b
+              (spanned_enumerators ks es h.0 h.1 h.7)
+              (spans_join (spell_comma t) (c ∷ []) h.1 c b (comma_spanned ks t h.1 c h.8) (refl, h.10))),
+        ),
+  )
+
+  pub spanned_enumerator : (ks : List Kind) → (e : Enumerator) → (a b : ℕ) → HoldsEnumerator ks e a b → Spans (spell_enumerator e) a b
+  spanned_enumerator ks (Counted_of n) a b h = (h.0, h.2)
+  spanned_enumerator ks (Given_of n q t) a b h =
+      (h.0, (h.2, subst (λ x. Spans (spell t) x b) (ap (λ x. x + 1) h.2) (spanned ks t (q + 1) b h.5)))
+
+  pub spanned_enumerators : (ks : List Kind) → (es : Enumerators) → (a b : ℕ) → HoldEnumerators ks es a b → Spans (spell_enumerators es) a b
+  spanned_enumerators ks No_enumerators a b h = h
+  spanned_enumerators ks (Enumerator_then o e es) a b h = (
+    h.1,
+    spans_join
+        (spell_enumerator e)
+        (spell_enumerators es)
+        (a + 1)
+        h.0
+        b
+        (spanned_enumerator ks e (a + 1) h.0 h.3)
+        (spanned_enumerators ks es h.0 b h.4),
+  )
 
   pub spanned_member : (ks : List Kind) → (x : Member) → (a b : ℕ) → HoldsMember ks x a b → Spans (spell_member x) a b
   spanned_member ks (Bare_of ss e) a b h =

@@ -68,7 +68,7 @@ starting ks y (Atomic_of k o t c) a b h = ap starts_type h.1
 starting ks y (Aligned_as_of k o t c) a b h = ap starts_type h.1
 starting ks y (Aligned_of k o t c) a b h = ap starts_type h.1
 starting ks y (Members_of k g o ms c) a b h = ap starts_type h.1
-starting ks y (Enumerators_of k g o e es t c) a b h = absurd h
+starting ks y (Enumerators_of k g o e es t c) a b h = ap starts_type h.3
 
 pub naming_starts : (ks : List Kind) → (y : Bool) → (t : Naming) → (a b : ℕ) → HoldsNaming ks y t a b → starts_type (kind_at ks a) ≡ true
 naming_starts ks y (Type_of No_specifiers d) a b h = absurd h.1

@@ -8,7 +8,7 @@ use Rattle.c_parser.specs.declared.kinds.Kind.{Kind}
 use Rattle.c_parser.specs.declared.kinds.Named.{Named}
 use Rattle.c_parser.specs.declared.kinds.Site.{Site}
 use Rattle.c_parser.specs.declared.kinds.Site.TheVariants.{OfMember}
-use Rattle.c_parser.specs.declared.kinds.Kind.TheVariants.{Identifier, Constant, Text, OpenParen, CloseParen, OpenBracket, CloseBracket, OpenBrace, CloseBrace, Step, Question, Colon, Comma, Generic, OffsetOf, Default, Ellipsis, Tag, Star, Atomic, Static, Align, Assert, Semicolon}
+use Rattle.c_parser.specs.declared.kinds.Kind.TheVariants.{Identifier, Constant, Text, OpenParen, CloseParen, OpenBracket, CloseBracket, OpenBrace, CloseBrace, Step, Question, Colon, Comma, Generic, OffsetOf, Default, Ellipsis, Tag, Star, Atomic, Static, Align, Assert, Semicolon, Enum}
 use Rattle.c_parser.specs.Brackets.{too_deep}
 use Rattle.c_parser.specs.Kinds.{kind_at, level_at, is_prefix, casts_at, is_size, is_word, is_equals, is_dot, is_member, is_type_word, specifies_at, may_name, named_by, grouped, behind_pointers, is_typedef, hide, is_tagging, admits, site_of, names_it, plain_behind}
 use Rattle.c_parser.specs.Declarators.{spell_pointers, spell_names, AreQualifiers, AreThere, ArePointers, AreNames, IsWritten, MayDerive, name_of}
@@ -499,8 +499,29 @@ abbrev mutual
       × (kind_at kinds o ≡ OpenBrace)
       × HasMembers ms × AreMembers kinds ms
       × (kind_at kinds c ≡ CloseBrace)
-  -- 6.7.2.2 enum-specifier : enum identifier opt { enumerator-list }, which isn't read so far
-  IsSpecifying kinds typed (Enumerators_of k g o e es t c) = ⊥
+  -- 6.7.2.2 enum-specifier : enum identifier opt { enumerator-list } | enum identifier opt { enumerator-list , }
+  IsSpecifying kinds typed (Enumerators_of k g o e es t c) =
+      (kind_at kinds k ≡ Enum)
+      × IsTag kinds g
+      × (kind_at kinds o ≡ OpenBrace)
+      × IsEnumerator kinds e
+      × AreEnumerators kinds es
+      × IsComma kinds t
+      × (kind_at kinds c ≡ CloseBrace)
+
+  -- 6.7.2.2 enumerator : enumeration-constant | enumeration-constant = constant-expression; so far the constant is no typedef name in force, so
+  -- that it hides none
+  pub IsEnumerator : List Kind → Enumerator → Type 0
+  IsEnumerator kinds (Counted_of n) = kind_at kinds n ≡ Identifier
+  IsEnumerator kinds (Given_of n q t) =
+      (kind_at kinds n ≡ Identifier)
+      × (is_equals (kind_at kinds q) ≡ true)
+      × (conditional_expression ≤ rank kinds t) × IsFormed kinds t
+
+  -- enumerator-list : enumerator | enumerator-list , enumerator
+  pub AreEnumerators : List Kind → Enumerators → Type 0
+  AreEnumerators kinds No_enumerators = Unit {0}
+  AreEnumerators kinds (Enumerator_then o e es) = (kind_at kinds o ≡ Comma) × IsEnumerator kinds e × AreEnumerators kinds es
 
   -- 6.7.2.1 struct-declaration : specifier-qualifier-list struct-declarator-list opt ; | static_assert-declaration; alignments may stand
   -- among its specifiers

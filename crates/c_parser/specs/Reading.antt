@@ -6,7 +6,7 @@ use Rattle.c_parser.specs.declared.answers.ParseError.TheVariants as told
 use Rattle.c_parser.specs.declared.answers.Stop.{Stop}
 use Rattle.c_parser.specs.declared.answers.Stop.TheVariants.{Syntax, NoMemory}
 use Rattle.c_parser.specs.declared.kinds.Kind.{Kind}
-use Rattle.c_parser.specs.declared.kinds.Kind.TheVariants.{Identifier, Constant, Text, OpenParen, CloseParen, OpenBracket, CloseBracket, OpenBrace, CloseBrace, Step, Question, Colon, Comma, Generic, OffsetOf, Default, Ellipsis, Tag, Star, Atomic, Static, Align, Assert, Semicolon}
+use Rattle.c_parser.specs.declared.kinds.Kind.TheVariants.{Identifier, Constant, Text, OpenParen, CloseParen, OpenBracket, CloseBracket, OpenBrace, CloseBrace, Step, Question, Colon, Comma, Generic, OffsetOf, Default, Ellipsis, Tag, Star, Atomic, Static, Align, Assert, Semicolon, Enum}
 use Rattle.c_parser.specs.Brackets.{too_deep}
 use Rattle.c_parser.specs.Grammar.{IsMore, IsAny, IsBefore, AreSteps, goes_on, has_type, AreSome, MayStand, typed_by, past, HasMembers}
 use Rattle.c_parser.specs.Kinds.{kind_at, level_at, is_prefix, casts_at, is_size, is_word, is_equals, is_dot, is_member, specifies_at, qualifies_at, may_name, named_by, grouped, behind_pointers, is_typedef, is_tagging, site_of, names_it, plain_behind}
@@ -194,7 +194,19 @@ abbrev mutual
   HoldSpecifying ks typed (Members_of k g o ms c) a b =
       (k ≡ a) × (kind_at ks a ≡ Tag) × HoldsTag ks g (a + 1) o × (kind_at ks o ≡ OpenBrace)
       × HasMembers ms × HoldMembers ks ms (o + 1) c × (kind_at ks c ≡ CloseBrace) × (b ≡ c + 1)
-  HoldSpecifying ks typed (Enumerators_of k g o e es t c) a b = ⊥
+  HoldSpecifying ks typed (Enumerators_of k g o e es t c) a b =
+      (m : ℕ) × (n : ℕ) × (k ≡ a) × (kind_at ks a ≡ Enum) × HoldsTag ks g (a + 1) o × (kind_at ks o ≡ OpenBrace)
+      × HoldsEnumerator ks e (o + 1) m × HoldEnumerators ks es m n × HoldsComma ks t n c × (kind_at ks c ≡ CloseBrace) × (b ≡ c + 1)
+
+  pub HoldsEnumerator : List Kind → Enumerator → ℕ → ℕ → Type 0
+  HoldsEnumerator ks (Counted_of n) a b = (n ≡ a) × (kind_at ks a ≡ Identifier) × (b ≡ a + 1)
+  HoldsEnumerator ks (Given_of n q t) a b =
+      (n ≡ a) × (kind_at ks a ≡ Identifier) × (q ≡ a + 1) × (is_equals (kind_at ks q) ≡ true) × (3 ≤ rank ks t) × Holds ks t (q + 1) b
+
+  pub HoldEnumerators : List Kind → Enumerators → ℕ → ℕ → Type 0
+  HoldEnumerators ks No_enumerators a b = b ≡ a
+  HoldEnumerators ks (Enumerator_then o e es) a b =
+      (m : ℕ) × (o ≡ a) × (kind_at ks a ≡ Comma) × HoldsEnumerator ks e (a + 1) m × HoldEnumerators ks es m b
 
   pub HoldsMember : List Kind → Member → ℕ → ℕ → Type 0
   HoldsMember ks (Bare_of ss e) a b =
