@@ -190,7 +190,7 @@ designators_fail ks at n d m f e fails (Designated_of d' ds q y) b h s =
     let one = f d' h.0 h.1 in
     fails ds q (subst (λ k. HoldDesignators ks ds k q) (sym one.1) h.2) h.3
 
-equals_is : (k : Kind) → is_equals k ≡ true → k ≡ Equals
+pub equals_is : (k : Kind) → is_equals k ≡ true → k ≡ Equals
 equals_is Equals h = refl
 equals_is _ h = absurd (true≢false (sym h))
 
@@ -278,7 +278,7 @@ row_starts ks at i = record {
 }
 
 -- what stands behind a comma that is not the last
-comma_goes : {A : Type 0} → (ks : List Kind) → (t : Option ℕ) → (at k c : ℕ) → kind_at ks at ≡ Comma → (kind_at ks (at + 1) ≡ CloseBrace → ⊥)
+pub comma_goes : {A : Type 0} → (ks : List Kind) → (t : Option ℕ) → (at k c : ℕ) → kind_at ks at ≡ Comma → (kind_at ks (at + 1) ≡ CloseBrace → ⊥)
     → k ≡ at → HoldsComma ks t k c → kind_at ks c ≡ CloseBrace → A
 comma_goes ks None at k c m n e h l =
     clash (kind_at ks at) Comma CloseBrace m (ap (λ x. kind_at ks x) (sym (h ∙ e)) ∙ l) (λ x. omega (arith, x))

@@ -1,5 +1,6 @@
 mod Abstract
 mod DeclaratorReading
+mod EnumeratorLists
 mod FirstLemmas
 mod Formed
 mod Forth

@@ -5,6 +5,7 @@ use Rattle.c_parser.specs.declared.kinds.Kind.{Kind}
 use Rattle.c_parser.specs.declared.kinds.Kind.TheVariants.{Identifier, TypeName, Tag, Atomic, Align, Assert, Star, OpenParen, CloseParen, OpenBracket, OpenBrace, CloseBrace, Colon, Comma, Semicolon, Equals, End, Enum}
 use Rattle.c_parser.specs.Grammar.{AreSome, has_type, typed_by}
 use Rattle.c_parser.specs.Kinds.{kind_at, starts_type, ends_type, ends_specifiers, is_word, is_typedef, is_tagging, is_opening, is_equals}
+use Rattle.c_parser.specs.EnumeratorsFound.{ends_enumerator}
 use Rattle.c_parser.specs.MembersFound.{ends_field}
 use Rattle.c_parser.specs.Reading.{Holds, HoldTexts, HoldsTag, HoldSpecifying, HoldSpecifyings, HoldsMember, HoldMembers, HoldsField, HoldFields, HoldsAssertion, HoldsDeclarator, HoldsType, Reads, Stops, HoldsComma, HoldsEnumerator, HoldEnumerators}
 use Rattle.c_parser.proofs.Forth.{tree_forth, type_forth, specifyings_forth, members_forth, member_forth, field_forth, fields_forth, declarator_forth, tag_forth, enumerator_forth, enumerators_forth, comma_forth}
@@ -287,17 +288,15 @@ members_alike ks y k g o ms c a b h only (Enumerators_of k' g' o' el es t c') b'
 members_alike ks y k g o ms c a b h only _ b' e h' = absurd (omega (arith, e))
 
 -- enumerators
-abbrev ends_enumerator : Kind → Bool
-ends_enumerator Comma = true
-ends_enumerator CloseBrace = true
-ends_enumerator _ = false
-
 enumerator_ends_by : (ks : List Kind) → (b : ℕ) → (k : Kind) → kind_at ks b ≡ k → ends_enumerator k ≡ true → Stops ks 3 b
 enumerator_ends_by ks b Comma e h = stops_at ks 3 b Comma e (omega arith)
 enumerator_ends_by ks b CloseBrace e h = stops_at ks 3 b CloseBrace e (omega arith)
 enumerator_ends_by ks b _ e h = absurd (true≢false (sym h))
 
-unequal : {A : Type 0} → (k : Kind) → ends_enumerator k ≡ true → is_equals k ≡ true → A
+pub enumerator_stops : (ks : List Kind) → (b : ℕ) → ends_enumerator (kind_at ks b) ≡ true → Stops ks 3 b
+enumerator_stops ks b h = enumerator_ends_by ks b (kind_at ks b) refl h
+
+pub unequal : {A : Type 0} → (k : Kind) → ends_enumerator k ≡ true → is_equals k ≡ true → A
 unequal Equals h e = absurd (true≢false (sym h))
 unequal _ h e = absurd (true≢false (sym e))
 
@@ -312,11 +311,11 @@ enumerator_only ks (Given_of n q t) a b w h f (Given_of n' q' t') b' h' f' =
     let one : q ≡ q' = h.2 ∙ sym h'.2 in
     let w' : From ks (q + 1) = later ks a (q + 1) (omega (arith, h.2)) w in
     let two =
-    placed_only ks 3 t (q + 1) b w' (omega arith) (h.4, h.5) (enumerator_ends_by ks b (kind_at ks b) refl f) t' b'
-    (h'.4, subst (λ x. Holds ks t' (x + 1) b') (sym one) h'.5) (enumerator_ends_by ks b' (kind_at ks b') refl f') in
+    placed_only ks 3 t (q + 1) b w' (omega arith) (h.4, h.5) (enumerator_stops ks b f) t' b'
+    (h'.4, subst (λ x. Holds ks t' (x + 1) b') (sym one) h'.5) (enumerator_stops ks b' f') in
     (ap (λ x. Given_of x q t) (h.0 ∙ sym h'.0) ∙ ap (λ x. Given_of n' x t) one ∙ ap (λ x. Given_of n' q' x) two.0, two.1)
 
-named_first : (ks : List Kind) → (e : Enumerator) → (a b : ℕ) → HoldsEnumerator ks e a b → kind_at ks a ≡ Identifier
+pub named_first : (ks : List Kind) → (e : Enumerator) → (a b : ℕ) → HoldsEnumerator ks e a b → kind_at ks a ≡ Identifier
 named_first ks (Counted_of n) a b h = h.1
 named_first ks (Given_of n q t) a b h = h.1
 
@@ -324,7 +323,7 @@ last_ends : (ks : List Kind) → (t : Option ℕ) → (a c : ℕ) → HoldsComma
 last_ends ks None a c h k = ap ends_enumerator (ap (λ x. kind_at ks x) (sym h) ∙ k)
 last_ends ks (Some o) a c h k = ap ends_enumerator h.1
 
-enumerators_end : (ks : List Kind) → (es : Enumerators) → (t : Option ℕ) → (a n c : ℕ) → HoldEnumerators ks es a n → HoldsComma ks t n c
+pub enumerators_end : (ks : List Kind) → (es : Enumerators) → (t : Option ℕ) → (a n c : ℕ) → HoldEnumerators ks es a n → HoldsComma ks t n c
     → kind_at ks c ≡ CloseBrace → ends_enumerator (kind_at ks a) ≡ true
 enumerators_end ks No_enumerators t a n c h g k = last_ends ks t a c (subst (λ x. HoldsComma ks t x c) h g) k
 enumerators_end ks (Enumerator_then o e es) t a n c h g k = ap ends_enumerator h.2
@@ -345,7 +344,7 @@ none_on ks None a c h k e m g i = clash (kind_at ks a) CloseBrace Comma (ap (λ 
 none_on ks (Some o) a c h k e m g i =
     clash (kind_at ks (a + 1)) CloseBrace Identifier (ap (λ x. kind_at ks x) (sym h.2) ∙ k) (named_first ks e (a + 1) m i) (λ x. omega (arith, x))
 
-abbrev OnlyList : List Kind → ℕ → Enumerators → Option ℕ → ℕ → Type 0
+abbrev pub OnlyList : List Kind → ℕ → Enumerators → Option ℕ → ℕ → Type 0
 OnlyList ks a es t c =
     (es' : Enumerators) → (n' : ℕ) → (t' : Option ℕ) → (c' : ℕ) → HoldEnumerators ks es' a n' → HoldsComma ks t' n' c' → kind_at ks c' ≡ CloseBrace
     → (es ≡ es') × (t ≡ t') × (c ≡ c')

@@ -3,24 +3,25 @@ use Rattle.std.proofs.Common.{◌≡◌, refl, ap, sym, ◌∙◌, subst, ℕ, �
 use Rattle.std.proofs.lemmas.List.{map-append}
 use Rattle.tree_data.specs.declared.types.Specifier.{Specifier}
 use Rattle.tree_data.specs.Seen.{specifier_of, specifiers_of}
-use Rattle.tree_data.specs.Trees.{Tree, Members, Specifying, Word_of, Typedef_of, Tag_of, Atomic_of, Aligned_as_of, Aligned_of, Members_of, Enumerators_of, Specifyings, No_specifiers, Specifier_then, Naming, Type_of, Declaring, specifyings}
+use Rattle.tree_data.specs.Trees.{Tree, Members, Enumerator, Enumerators, Specifying, Word_of, Typedef_of, Tag_of, Atomic_of, Aligned_as_of, Aligned_of, Members_of, Enumerators_of, Specifyings, No_specifiers, Specifier_then, Naming, Type_of, Declaring, specifyings}
 use Rattle.c_parser.specs.declared.answers.Stop.{Stop}
 use Rattle.c_parser.specs.declared.answers.Stop.TheVariants as stop
 use Rattle.c_parser.specs.declared.kinds.Kind.{Kind}
-use Rattle.c_parser.specs.declared.kinds.Kind.TheVariants.{TypeWord, Qualifier, Storage, Static, Tag, Enum, Align, Atomic, OpenParen, CloseParen, OpenBrace, Typedef}
+use Rattle.c_parser.specs.declared.kinds.Kind.TheVariants.{TypeWord, Qualifier, Storage, Static, Tag, Enum, Align, Atomic, OpenParen, CloseParen, OpenBrace, CloseBrace, Typedef}
 use Rattle.c_parser.specs.Beginnings.{IsNamed}
 use Rattle.c_parser.specs.Grammar.{has_type, AreSome, MayStand, first_in, all_admitted, typed_by}
-use Rattle.c_parser.specs.Kinds.{kind_at, is_word, is_type_word, ends_type, ends_specifiers, specifies_at, atomic_opens, stored_amiss, named_by, is_typedef, is_tagging, is_brace, starts_type, admits, site_of, braces_at, members_open}
-use Rattle.c_parser.specs.Reading.{Holds, HoldsTag, HoldMembers, HoldSpecifying, HoldSpecifyings, HoldsNaming, HoldsType, HoldsDeclaring, Found, FoundNaming, Reads, Stops, IsWant}
+use Rattle.c_parser.specs.Kinds.{kind_at, is_word, is_type_word, ends_type, ends_specifiers, specifies_at, atomic_opens, stored_amiss, named_by, is_typedef, is_tagging, is_brace, starts_type, admits, site_of, braces_at, list_opens}
+use Rattle.c_parser.specs.Reading.{Holds, HoldsTag, HoldMembers, HoldsEnumerator, HoldEnumerators, HoldsComma, HoldSpecifying, HoldSpecifyings, HoldsNaming, HoldsType, HoldsDeclaring, Found, FoundNaming, Reads, Stops, IsWant}
 use Rattle.c_parser.specs.TypeNames.{NoMore, FoundSpecifying, FoundSpecifiers, FoundDeclaring, FailsSpecifying}
 use Rattle.c_parser.proofs.Marks.{clash, stops_at, no_type}
 use Rattle.c_parser.proofs.Forth.{specifyings_forth}
 use Rattle.c_parser.proofs.MemberReading.{specifying_only, specifying_strict, no_specifying, tag_same}
 use Rattle.c_parser.proofs.TypeReading.{everywhere, declaring_begins, named_moved}
-use Rattle.c_parser.proofs.Words.{specifies_not, specifies_none, atomic_not, opens_kind, opens_next, opens_both, left_of, right_of, amiss_refused, amiss_admitted, specifies_untyped, typedef_not, test_inside, is_a_brace, members_kind, members_braces, members_both, brace_first, brace_second, tag_opens, opens_here, tagging_untyped, tagging_unspecified, tagging_by, tagging_opens_not}
+use Rattle.c_parser.proofs.Words.{specifies_not, specifies_none, atomic_not, opens_kind, opens_next, opens_both, left_of, right_of, amiss_refused, amiss_admitted, specifies_untyped, typedef_not, test_inside, is_a_brace, list_both, brace_first, brace_second, tag_opens, opens_here, tagging_untyped, tagging_unspecified, tagging_by, tagging_opens_not}
 use Rattle.c_parser.specs.declared.kinds.Named.{Named}
 use Rattle.c_parser.specs.declared.kinds.Site.{Site}
 use Rattle.c_parser.specs.declared.kinds.Site.TheVariants.{OfName, OfMember, OfDeclaration}
+use Rattle.c_parser.specs.EnumeratorsFound.{FoundEnumerator, FoundEnumerators}
 use Rattle.c_parser.specs.MembersFound.{FoundTag, FoundMembers, FailsMembers}
 use Rattle.c_parser.proofs.SameParts.{Only}
 use Rattle.c_parser.proofs.Types.{type_starts}
@@ -73,11 +74,11 @@ braced_opens : (ks : List Kind) → (g : Option ℕ) → (a o : ℕ) → HoldsTa
 braced_opens ks None a o h k = brace_first ks (a + 1) (ap (λ x. kind_at ks x) (sym h) ∙ k)
 braced_opens ks (Some n) a o h k = brace_second ks (a + 1) h.1 (ap (λ x. kind_at ks x) (sym h.2) ∙ k)
 
-pub members_opens : (ks : List Kind) → (y : Bool) → (k : ℕ) → (g : Option ℕ) → (o : ℕ) → (ms : Members) → (c a b : ℕ)
-    → HoldSpecifying ks y (Members_of k g o ms c) a b → members_open ks a ≡ true
-members_opens ks y k g o ms c a b h = members_both ks a h.1 (braced_opens ks g a o h.2 h.3)
+list_stands : (ks : List Kind) → (a : ℕ) → (g : Option ℕ) → (o : ℕ) → is_tagging (kind_at ks a) ≡ true → HoldsTag ks g (a + 1) o
+    → kind_at ks o ≡ OpenBrace → list_opens ks a ≡ true
+list_stands ks a g o k t b = list_both ks a k (braced_opens ks g a o t b)
 
-pub nothing_stands : (ks : List Kind) → (y : Bool) → (at : ℕ) → atomic_opens ks at ≡ false → members_open ks at ≡ false → (kind_at ks at ≡ Align → ⊥)
+pub nothing_stands : (ks : List Kind) → (y : Bool) → (at : ℕ) → atomic_opens ks at ≡ false → list_opens ks at ≡ false → (kind_at ks at ≡ Align → ⊥)
     → (specifies_at ks at ≡ true → ⊥) → (y ≡ false → is_typedef (kind_at ks at) ≡ true → ⊥) → NoTag ks at → NoMore ks y at
 nothing_stands ks y at o g l w n t (Word_of k) b h = w h.1
 nothing_stands ks y at o g l w n t (Typedef_of k) b h = n h.1 h.2
@@ -88,13 +89,14 @@ nothing_stands ks y at o g l w n t (Atomic_of k p u c) b h =
     true≢false (sym (opens_both ks at h.1 (ap (λ x. kind_at ks x) (sym h.2) ∙ h.3)) ∙ o)
 nothing_stands ks y at o g l w n t (Aligned_as_of k p u c) b h = l h.1
 nothing_stands ks y at o g l w n t (Aligned_of k p u c) b h = l h.1
-nothing_stands ks y at o g l w n t (Members_of k x p ms c) b h = true≢false (sym (members_opens ks y k x p ms c at b h) ∙ g)
-nothing_stands ks y at o g l w n t (Enumerators_of k x p e es u c) b h = h
+nothing_stands ks y at o g l w n t (Members_of k x p ms c) b h = true≢false (sym (list_stands ks at x p (ap is_tagging h.1) h.2 h.3) ∙ g)
+nothing_stands ks y at o g l w n t (Enumerators_of k x p e es u c) b h =
+    true≢false (sym (list_stands ks at x p (ap is_tagging h.3) h.4 h.5) ∙ g)
 
 tagging_aligned_not : (k : Kind) → is_tagging k ≡ true → k ≡ Align → ⊥
 tagging_aligned_not k h e = true≢false (sym h ∙ ap is_tagging e)
 
-pub typedef_hides : (ks : List Kind) → (y : Bool) → (at : ℕ) → atomic_opens ks at ≡ false → members_open ks at ≡ false → (kind_at ks at ≡ Align → ⊥)
+pub typedef_hides : (ks : List Kind) → (y : Bool) → (at : ℕ) → atomic_opens ks at ≡ false → list_opens ks at ≡ false → (kind_at ks at ≡ Align → ⊥)
     → is_typedef (kind_at ks at) ≡ true → y ≡ true → NoMore ks y at
 typedef_hides ks y at o g l k t =
     nothing_stands
@@ -109,7 +111,7 @@ typedef_hides ks y at o g l k t =
     (λ x w n. true≢false (sym k ∙ tagging_untyped (kind_at ks at) x))
 
 -- behind `struct`, `union` or `enum` neither a tag nor a list in braces
-pub untagged : (ks : List Kind) → (y : Bool) → (at : ℕ) → is_tagging (kind_at ks at) ≡ true → members_open ks at ≡ false
+pub untagged : (ks : List Kind) → (y : Bool) → (at : ℕ) → is_tagging (kind_at ks at) ≡ true → list_opens ks at ≡ false
     → (is_word (kind_at ks (at + 1)) ≡ true → (kind_at ks (at + 2) ≡ OpenBrace → ⊥) → ⊥) → NoMore ks y at
 untagged ks y at k g n =
     let other = tagging_unspecified (kind_at ks at) k in
@@ -124,7 +126,7 @@ untagged ks y at k g n =
     (λ f x. true≢false (sym x ∙ tagging_untyped (kind_at ks at) k))
     (λ x w m. n w m)
 
-pub no_kind : (ks : List Kind) → (y : Bool) → (at : ℕ) → (k : Kind) → atomic_opens ks at ≡ false → members_open ks at ≡ false
+pub no_kind : (ks : List Kind) → (y : Bool) → (at : ℕ) → (k : Kind) → atomic_opens ks at ≡ false → list_opens ks at ≡ false
     → (kind_at ks at ≡ Align → ⊥) → k ≡ kind_at ks at → (k ≡ TypeWord → ⊥) → (k ≡ Qualifier → ⊥) → (k ≡ Storage → ⊥) → (k ≡ Typedef → ⊥)
     → (k ≡ Static → ⊥) → (k ≡ Atomic → ⊥) → (is_typedef k ≡ true → ⊥) → (k ≡ Tag → ⊥) → (k ≡ Enum → ⊥) → NoMore ks y at
 no_kind ks y at k o g l e w q c d s a n t u =
@@ -159,7 +161,7 @@ atomic_by ks y (Atomic_of k p t c) a b o h = (h, refl)
 atomic_by ks y (Aligned_as_of k p t c) a b o h = clash (kind_at ks a) Align Atomic h.1 (opens_kind ks a o) (λ x. omega (arith, x))
 atomic_by ks y (Aligned_of k p t c) a b o h = clash (kind_at ks a) Align Atomic h.1 (opens_kind ks a o) (λ x. omega (arith, x))
 atomic_by ks y (Members_of k g p ms c) a b o h = clash (kind_at ks a) Tag Atomic h.1 (opens_kind ks a o) (λ x. omega (arith, x))
-atomic_by ks y (Enumerators_of k g p e es t c) a b o h = absurd h
+atomic_by ks y (Enumerators_of k g p e es t c) a b o h = clash (kind_at ks a) Enum Atomic h.3 (opens_kind ks a o) (λ x. omega (arith, x))
 
 pub atomic_specified : (ks : List Kind) → (y : Bool) → (a : ℕ) → (s : Specifying) → (b : ℕ) → atomic_opens ks a ≡ true
     → FoundSpecifying ks false a s b → FoundSpecifying ks y a s b × (true ≡ (has_type ks s || y))
@@ -176,7 +178,8 @@ atomic_none ks y a e o fails (Tag_of k n) b h = tagging_atomic_not (kind_at ks a
 atomic_none ks y a e o fails (Aligned_as_of k p t c) b h = clash (kind_at ks a) Align Atomic h.1 (opens_kind ks a o) (λ x. omega (arith, x))
 atomic_none ks y a e o fails (Aligned_of k p t c) b h = clash (kind_at ks a) Align Atomic h.1 (opens_kind ks a o) (λ x. omega (arith, x))
 atomic_none ks y a e o fails (Members_of k g p ms c) b h = clash (kind_at ks a) Tag Atomic h.1 (opens_kind ks a o) (λ x. omega (arith, x))
-atomic_none ks y a e o fails (Enumerators_of k g p el es t c) b h = absurd h
+atomic_none ks y a e o fails (Enumerators_of k g p el es t c) b h =
+    clash (kind_at ks a) Enum Atomic h.3 (opens_kind ks a o) (λ x. omega (arith, x))
 atomic_none ks y a e o fails (Atomic_of k p t c) b h = fails t c (subst (λ x. HoldsType ks t (x + 1) c) h.2 h.4) h.5
 
 pub atomic_fails : (ks : List Kind) → (y : Bool) → (a : ℕ) → (e : Stop) → atomic_opens ks a ≡ true
@@ -195,7 +198,7 @@ align_only ks y a k e f g (Atomic_of i p t c) b h = clash (kind_at ks a) Align A
 align_only ks y a k e f g (Aligned_as_of i p t c) b h = f i p t c b h
 align_only ks y a k e f g (Aligned_of i p t c) b h = g i p t c b h
 align_only ks y a k e f g (Members_of i x p ms c) b h = clash (kind_at ks a) Align Tag k h.1 (λ z. omega (arith, z))
-align_only ks y a k e f g (Enumerators_of i x p el es t c) b h = absurd h
+align_only ks y a k e f g (Enumerators_of i x p el es t c) b h = clash (kind_at ks a) Align Enum k h.3 (λ z. omega (arith, z))
 
 align_ends : (ks : List Kind) → (y : Bool) → (a : ℕ) → kind_at ks a ≡ Align → ends_specifiers (kind_at ks a) y ≡ false
 align_ends ks y a k = ap (λ x. ends_specifiers x y) k
@@ -208,7 +211,7 @@ align_unopened ks y a k u n = (
       (λ i o t c b h. u (ap (λ x. kind_at ks x) (sym h.2) ∙ h.3)),
 )
 
-second : (a o : ℕ) → o ≡ a + 1 → o + 1 ≡ a + 2
+pub second : (a o : ℕ) → o ≡ a + 1 → o + 1 ≡ a + 2
 second a o e = omega (arith, e)
 
 type_not_tree : {A : Type 0} → (ks : List Kind) → (t : Tree) → (a b : ℕ) → starts_type (kind_at ks a) ≡ true → Holds ks t a b → A
@@ -303,30 +306,70 @@ structure_found ks y a s g o ms c k e tag found =
       ap (λ x. has_type ks x || y) (sym e),
     )
 
-structure_only : (ks : List Kind) → (y : Bool) → (a : ℕ) → members_open ks a ≡ true → (e : Stop)
+list_only : (ks : List Kind) → (y : Bool) → (a : ℕ) → is_tagging (kind_at ks a) ≡ true → braces_at ks (a + 1) ≡ true → (e : Stop)
     → ((k : ℕ) → (g : Option ℕ) → (o : ℕ) → (ms : Members) → (c b : ℕ) → HoldSpecifying ks y (Members_of k g o ms c) a b → IsWant e)
+    → ((k : ℕ) → (g : Option ℕ) → (o : ℕ) → (el : Enumerator) → (es : Enumerators) → (t : Option ℕ) → (c b : ℕ)
+    → HoldSpecifying ks y (Enumerators_of k g o el es t c) a b → IsWant e)
     → (s : Specifying) → (b : ℕ) → HoldSpecifying ks y s a b → IsWant e
-structure_only ks y a m e f (Word_of n) b h = specifies_not ks a Tag h.1 (members_kind ks a m) refl refl
-structure_only ks y a m e f (Typedef_of n) b h = typedef_not (kind_at ks a) Tag h.2 (members_kind ks a m) refl
-structure_only ks y a m e f (Tag_of i n) b h =
+list_only ks y a k m e f g (Word_of n) b h =
+    let other = tagging_unspecified (kind_at ks a) k in
+    specifies_not ks a (kind_at ks a) h.1 refl other.0 other.1
+list_only ks y a k m e f g (Typedef_of n) b h = absurd (true≢false (sym h.2 ∙ tagging_untyped (kind_at ks a) k))
+list_only ks y a k m e f g (Tag_of i n) b h =
     let w : is_word (kind_at ks (a + 1)) ≡ true = ap (λ x. is_word (kind_at ks x)) (sym h.2) ∙ h.3 in
     let end : b ≡ (a + 1) + 1 = h.4 ∙ ap (λ x. x + 1) h.2 in
-    absurd (h.5 (ap (λ x. kind_at ks x) end ∙ tag_opens ks (a + 1) (members_braces ks a m) w))
-structure_only ks y a m e f (Atomic_of i p t c) b h = clash (kind_at ks a) Tag Atomic (members_kind ks a m) h.1 (λ x. omega (arith, x))
-structure_only ks y a m e f (Aligned_as_of i p t c) b h = clash (kind_at ks a) Tag Align (members_kind ks a m) h.1 (λ x. omega (arith, x))
-structure_only ks y a m e f (Aligned_of i p t c) b h = clash (kind_at ks a) Tag Align (members_kind ks a m) h.1 (λ x. omega (arith, x))
-structure_only ks y a m e f (Members_of i g p ms c) b h = f i g p ms c b h
-structure_only ks y a m e f (Enumerators_of i g p el es t c) b h = absurd h
+    absurd (h.5 (ap (λ x. kind_at ks x) end ∙ tag_opens ks (a + 1) m w))
+list_only ks y a k m e f g (Atomic_of i p t c) b h = tagging_atomic_not (kind_at ks a) k h.1
+list_only ks y a k m e f g (Aligned_as_of i p t c) b h = absurd (tagging_aligned_not (kind_at ks a) k h.1)
+list_only ks y a k m e f g (Aligned_of i p t c) b h = absurd (tagging_aligned_not (kind_at ks a) k h.1)
+list_only ks y a k m e f g (Members_of i x p ms c) b h = f i x p ms c b h
+list_only ks y a k m e f g (Enumerators_of i x p el es t c) b h = g i x p el es t c b h
 
-pub structure_fails : (ks : List Kind) → (y : Bool) → (a : ℕ) → members_open ks a ≡ true → (g : Option ℕ) → (o : ℕ) → FoundTag ks (a + 1) g o
-    → (e : Stop) → FailsMembers ks (o + 1) e → FailsSpecifying ks y a e
-structure_fails ks y a m g o tag e fails = (
-  ap (λ x. ends_specifiers x y) (members_kind ks a m),
-  structure_only ks y a m e
-      (λ k g' o' ms c b h.
+pub structure_fails : (ks : List Kind) → (y : Bool) → (a : ℕ) → kind_at ks a ≡ Tag → braces_at ks (a + 1) ≡ true → (g : Option ℕ) → (o : ℕ)
+    → FoundTag ks (a + 1) g o → (e : Stop) → FailsMembers ks (o + 1) e → FailsSpecifying ks y a e
+structure_fails ks y a k m g o tag e fails = (
+  ap (λ x. ends_specifiers x y) k,
+  list_only ks y a (ap is_tagging k) m e
+      (λ i g' o' ms c b h.
       let same = tag_same ks g (a + 1) o tag.reads tag.opens g' o' h.2 h.3 in
-      fails ms c h.4 (subst (λ x. HoldMembers ks ms (x + 1) c) (sym same.1) h.5) h.6),
+      fails ms c h.4 (subst (λ x. HoldMembers ks ms (x + 1) c) (sym same.1) h.5) h.6)
+      (λ i g' o' el es t c b h. clash (kind_at ks a) Tag Enum k h.3 (λ x. omega (arith, x))),
 )
+
+-- `enum` with enumerators
+abbrev pub FailsList : List Kind → ℕ → Stop → Type 0
+FailsList ks a e =
+    (x : Enumerator) → (m : ℕ) → (es : Enumerators) → (n : ℕ) → (t : Option ℕ) → (c : ℕ) → HoldsEnumerator ks x a m → HoldEnumerators ks es m n
+    → HoldsComma ks t n c → kind_at ks c ≡ CloseBrace → IsWant e
+
+pub enumeration_fails : (ks : List Kind) → (y : Bool) → (a : ℕ) → kind_at ks a ≡ Enum → braces_at ks (a + 1) ≡ true → (g : Option ℕ) → (o : ℕ)
+    → FoundTag ks (a + 1) g o → (e : Stop) → FailsList ks (o + 1) e → FailsSpecifying ks y a e
+enumeration_fails ks y a k m g o tag e fails = (
+  ap (λ x. ends_specifiers x y) k,
+  list_only ks y a (ap is_tagging k) m e
+      (λ i g' o' ms c b h. clash (kind_at ks a) Enum Tag k h.1 (λ x. omega (arith, x)))
+      (λ i g' o' el es t c b h.
+      let same = tag_same ks g (a + 1) o tag.reads tag.opens g' o' h.4 h.5 in
+      fails el h.0 es h.1 t c (subst (λ x. HoldsEnumerator ks el (x + 1) h.0) (sym same.1) h.6) h.7 h.8 h.9),
+)
+
+pub enumeration_found : (ks : List Kind) → (y : Bool) → (a : ℕ) → (s : Specifying) → (g : Option ℕ) → (o : ℕ) → (x : Enumerator) → (m : ℕ)
+    → (es : Enumerators) → (t : Option ℕ) → (c : ℕ) → kind_at ks a ≡ Enum → s ≡ Enumerators_of a g o x es t c → FoundTag ks (a + 1) g o
+    → FoundEnumerator ks (o + 1) x m → FoundEnumerators ks m es t c → kind_at ks c ≡ CloseBrace → c < length ks
+    → FoundSpecifying ks y a s (c + 1) × (true ≡ (has_type ks s || y))
+enumeration_found ks y a s g o x m es t c k e tag one list l i =
+    let first : a + 1 ≤ o = tag.forth in
+    let second : o + 1 < m = one.forth in
+    let third : m ≤ c = list.forth in (
+      record {
+        reads =
+            subst (λ z. HoldSpecifying ks y z a (c + 1)) (sym e)
+            (m, list.behind, refl, k, tag.reads, tag.opens, one.reads, list.reads, list.comma, l, refl);
+        forth = omega arith;
+        inside = omega (arith, i);
+      },
+      ap (λ z. has_type ks z || y) (sym e),
+    )
 
 -- what the loop keeps
 pub record SpecifiersLeft (ks : List Kind) (y : Bool) (done : List Specifying) (at : ℕ) (ss : Specifyings) (m : ℕ) : Type 0 where
@@ -379,7 +422,7 @@ first_at ks y (Atomic_of k o t c) a b h = h.0
 first_at ks y (Aligned_as_of k o t c) a b h = h.0
 first_at ks y (Aligned_of k o t c) a b h = h.0
 first_at ks y (Members_of k g o ms c) a b h = h.0
-first_at ks y (Enumerators_of k g o e es t c) a b h = absurd h
+first_at ks y (Enumerators_of k g o e es t c) a b h = h.2
 
 one_may : (ks : List Kind) → (n : Site) → (y : Bool) → (s : Specifying) → (a b : ℕ) → HoldSpecifying ks y s a b → stored_amiss ks a n ≡ false
     → admits n (kind_at ks (first_in s)) ≡ true

@@ -2,7 +2,7 @@
 use Rattle.std.proofs.Common.{◌≡◌, refl, ap, sym, ◌∙◌, ℕ, zero, suc, ◌+◌, ◌<◌, List, [], ◌∷◌, length, arith, ◌⊎◌, inl, inr, Bool, true, false, true≢false, ◌&&◌, ◌||◌, not, map}
 use Rattle.c_parser.specs.declared.kinds.Kind.{Kind}
 use Rattle.c_parser.specs.declared.kinds.Kind.TheVariants.{Identifier, TypeWord, Qualifier, Storage, Static, OpenParen, OpenBrace, Atomic, End, TypeName, Typedef, Tag, Enum, Align}
-use Rattle.c_parser.specs.Kinds.{kind_at, is_specifying, is_qualifier, is_atomic, is_opening, starts_type, atomic_at, specifies_at, qualifies_at, atomic_opens, is_identifier, stored_amiss, admits, is_word, names_at, may_name, named_by, grouped, behind_pointers, ends_specifiers, opens_parameters, is_typedef, is_tagging, is_tag, is_brace, braces_at, members_open}
+use Rattle.c_parser.specs.Kinds.{kind_at, is_specifying, is_qualifier, is_atomic, is_opening, starts_type, atomic_at, specifies_at, qualifies_at, atomic_opens, is_identifier, stored_amiss, admits, is_word, names_at, may_name, named_by, grouped, behind_pointers, ends_specifiers, opens_parameters, is_typedef, is_tagging, is_brace, braces_at, list_opens}
 use Rattle.c_parser.specs.declared.kinds.Named.{Named}
 use Rattle.c_parser.specs.declared.kinds.Site.{Site}
 use Rattle.c_parser.specs.declared.kinds.Named.TheVariants.{Never, Plainly, Freely}
@@ -237,10 +237,11 @@ named_or p true h e = refl
 named_or true false h e = sym h
 named_or false false h e = e
 
--- `struct` or `union` with members
-tag_is : (k : Kind) → is_tag k ≡ true → k ≡ Tag
-tag_is Tag h = refl
-tag_is _ h = absurd (true≢false (sym h))
+-- members or enumerators in braces
+pub tag_is : (k : Kind) → is_tagging k ≡ true → (k ≡ Enum → ⊥) → k ≡ Tag
+tag_is Tag h n = refl
+tag_is Enum h n = absurd (n refl)
+tag_is _ h n = absurd (true≢false (sym h))
 
 pub brace_is : (k : Kind) → is_brace k ≡ true → k ≡ OpenBrace
 brace_is OpenBrace h = refl
@@ -249,17 +250,17 @@ brace_is _ h = absurd (true≢false (sym h))
 pub is_a_brace : (k : Kind) → k ≡ OpenBrace → is_brace k ≡ true
 is_a_brace k e = ap is_brace e
 
-pub members_kind : (ks : List Kind) → (a : ℕ) → members_open ks a ≡ true → kind_at ks a ≡ Tag
-unfolding members_open
-members_kind ks a h = tag_is (kind_at ks a) (left_of (is_tag (kind_at ks a)) (braces_at ks (a + 1)) h)
+pub list_tags : (ks : List Kind) → (a : ℕ) → list_opens ks a ≡ true → is_tagging (kind_at ks a) ≡ true
+unfolding list_opens
+list_tags ks a h = left_of (is_tagging (kind_at ks a)) (braces_at ks (a + 1)) h
 
-pub members_braces : (ks : List Kind) → (a : ℕ) → members_open ks a ≡ true → braces_at ks (a + 1) ≡ true
-unfolding members_open
-members_braces ks a h = right_of (is_tag (kind_at ks a)) (braces_at ks (a + 1)) h
+pub list_braces : (ks : List Kind) → (a : ℕ) → list_opens ks a ≡ true → braces_at ks (a + 1) ≡ true
+unfolding list_opens
+list_braces ks a h = right_of (is_tagging (kind_at ks a)) (braces_at ks (a + 1)) h
 
-pub members_both : (ks : List Kind) → (a : ℕ) → kind_at ks a ≡ Tag → braces_at ks (a + 1) ≡ true → members_open ks a ≡ true
-unfolding members_open
-members_both ks a k h = both_true (is_tag (kind_at ks a)) (braces_at ks (a + 1)) (ap is_tag k) h
+pub list_both : (ks : List Kind) → (a : ℕ) → is_tagging (kind_at ks a) ≡ true → braces_at ks (a + 1) ≡ true → list_opens ks a ≡ true
+unfolding list_opens
+list_both ks a k h = both_true (is_tagging (kind_at ks a)) (braces_at ks (a + 1)) k h
 
 pub brace_first : (ks : List Kind) → (a : ℕ) → kind_at ks a ≡ OpenBrace → braces_at ks a ≡ true
 unfolding braces_at
@@ -297,8 +298,8 @@ opens_here ks a h w =
       | inr q ↦ absurd (true≢false (sym (left_of (is_word (kind_at ks a)) (is_brace (kind_at ks (a + 1))) q) ∙ w))
     ]
 
-pub members_inside : (ks : List Kind) → (a : ℕ) → members_open ks a ≡ true → a < length ks
-members_inside ks a h = test_inside is_tag refl ks a (ap is_tag (members_kind ks a h))
+pub list_inside : (ks : List Kind) → (a : ℕ) → list_opens ks a ≡ true → a < length ks
+list_inside ks a h = test_inside is_tagging refl ks a (list_tags ks a h)
 
 -- a specifier by its first token
 abbrev pub class_of : Kind → Bool → ℕ

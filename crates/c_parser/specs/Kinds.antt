@@ -300,21 +300,17 @@ is_tagging Tag = true
 is_tagging Enum = true
 is_tagging _ = false
 
-abbrev pub is_tag : Kind → Bool
-is_tag Tag = true
-is_tag _ = false
-
 abbrev pub is_brace : Kind → Bool
 is_brace OpenBrace = true
 is_brace _ = false
 
--- the `{` of a structure's or union's members behind its keyword, or behind its tag
+-- the `{` of a list of members or enumerators behind its keyword, or behind its tag
 unfoldable pub braces_at : List Kind → ℕ → Bool
 braces_at kinds at = is_brace (kind_at kinds at) || (is_word (kind_at kinds at) && is_brace (kind_at kinds (at + 1)))
 
--- `struct` or `union` with members begins here (6.7.2.1)
-unfoldable pub members_open : List Kind → ℕ → Bool
-members_open kinds at = is_tag (kind_at kinds at) && braces_at kinds (at + 1)
+-- `struct` or `union` with members (6.7.2.1), or `enum` with enumerators (6.7.2.2), begins here
+unfoldable pub list_opens : List Kind → ℕ → Bool
+list_opens kinds at = is_tagging (kind_at kinds at) && braces_at kinds (at + 1)
 
 -- the name of a declarator that has one: directly behind specifiers without a type specifier a typedef name would be one of these (6.7.2);
 -- behind `*`, `(` and `,` it is the name

@@ -1,6 +1,7 @@
 pub mod Beginnings
 pub mod Brackets
 pub mod Declarators
+pub mod EnumeratorsFound
 pub mod Grammar
 pub mod Heads
 pub mod HeadsFound

@@ -180,11 +180,11 @@ impl Kind {
         matches!(self, Kind::Align)
     }
 
-    // Whether it is `struct` or `union`.
-    pub fn is_tag(self) -> bool
-        ensures { result ≡ spec.is_tag self }
+    // Whether it is `struct`, `union` or `enum`.
+    pub fn is_tagging(self) -> bool
+        ensures { result ≡ spec.is_tagging self }
     {
-        matches!(self, Kind::Tag)
+        matches!(self, Kind::Tag | Kind::Enum)
     }
 
     pub fn is_brace(self) -> bool
@@ -481,7 +481,7 @@ pub(crate) fn stored_amiss(kinds: &Kinds<'_>, at: u32, site: Site) -> bool
     !site.admits(kind_at(kinds, at))
 }
 
-// Whether the `{` of members stands here, or behind a tag here.
+// Whether the `{` of members or enumerators stands here, or behind a tag here.
 #[tactic(auto, unfolding(crate::specs::Kinds::braces_at))]
 fn braces_at(kinds: &Kinds<'_>, at: u32) -> bool
     requires { at ≤ 2000002 }
@@ -491,13 +491,13 @@ fn braces_at(kinds: &Kinds<'_>, at: u32) -> bool
         || (kind_at(kinds, at).is_word() && kind_at(kinds, at + 1).is_brace())
 }
 
-// Whether a structure or union with members begins at this token (6.7.2.1).
-#[tactic(auto, unfolding(crate::specs::Kinds::members_open))]
-pub(crate) fn members_open(kinds: &Kinds<'_>, at: u32) -> bool
+// Whether members or enumerators in braces belong to the keyword at this token (6.7.2.1, 6.7.2.2).
+#[tactic(auto, unfolding(crate::specs::Kinds::list_opens))]
+pub(crate) fn list_opens(kinds: &Kinds<'_>, at: u32) -> bool
     requires { at ≤ 2000001 }
-    ensures { result ≡ spec.members_open kinds.now at }
+    ensures { result ≡ spec.list_opens kinds.now at }
 {
-    kind_at(kinds, at).is_tag() && braces_at(kinds, at + 1)
+    kind_at(kinds, at).is_tagging() && braces_at(kinds, at + 1)
 }
 
 // Whether no operator stands in front of this token that takes a unary-expression.

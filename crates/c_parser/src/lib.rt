@@ -5,6 +5,7 @@ mod answers;
 mod before;
 mod brackets;
 mod declarators;
+mod enumerators;
 mod expressions;
 mod heads;
 mod initializers;

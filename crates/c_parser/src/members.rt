@@ -305,7 +305,7 @@ pub(crate) fn members(alloc: Global, kinds: &Kinds<'_>, at: u32) -> Result<(Vec<
     }
 }
 
-// A tag, or none, in front of the `{` of members, and the place of the `{`.
+// A tag, or none, in front of the `{` of members or enumerators, and the place of the `{`.
 pub(crate) fn tag_before(kinds: &Kinds<'_>, at: u32) -> (Option<u32>, u32)
     requires size { length kinds.now ≤ 2000000 }
     requires inside { at ≤ length kinds.now }

@@ -2,7 +2,7 @@
 ghost use Rattle.std.specs.Prelude.{◌≡◌, true, false, ℕ, ◌+◌, ◌<◌, ◌≤◌, length, IfOk, IfErr};
 ghost use Rattle.tree_data.specs.Seen.{specifier_of, specifiers_of, type_of};
 ghost use Rattle.tree_data.specs.Trees.{Naming, Atomic_of, Specifyings, No_specifiers, specifyings};
-ghost use Rattle.c_parser.specs.declared.kinds.Kind.TheVariants.{Align, OpenParen, CloseParen};
+ghost use Rattle.c_parser.specs.declared.kinds.Kind.TheVariants.{Align, Tag, OpenParen, CloseParen};
 ghost use Rattle.c_parser.specs.Grammar.{MayStand, typed_by, name_by};
 ghost use Rattle.c_parser.specs.Kinds as spec;
 ghost use Rattle.c_parser.specs.Reading.{HoldsNaming, HoldsType, HoldSpecifyings, FoundNaming, FoundType, MustGive};
@@ -11,9 +11,10 @@ ghost use Rattle.c_parser.specs.TypeNames.{FoundSpecifying, FoundSpecifiers, Spe
 use crate::answers::Stop;
 use crate::before::typed;
 use crate::declarators::declarator;
+use crate::enumerators::enumeration;
 use crate::expressions::{CONDITIONAL, level};
 use crate::kinds::{
-    Kind, Site, atomic_opens, kind_at, members_open, named_by, site_of, stored_amiss,
+    Kind, Site, atomic_opens, kind_at, list_opens, named_by, site_of, stored_amiss,
 };
 use crate::members::{members, tag_before};
 use crate::scope::Kinds;
@@ -25,7 +26,7 @@ fn tagged(kinds: &Kinds<'_>, at: u32, typed: bool) -> Option<(Specifier, u32, bo
     requires size { length kinds.now ≤ 2000000 }
     requires inside { at ≤ length kinds.now }
     requires kind { spec.is_tagging (spec.kind_at kinds.now at) ≡ true }
-    requires bare { spec.members_open kinds.now at ≡ false }
+    requires bare { spec.list_opens kinds.now at ≡ false }
     ensures { Specified kinds.now typed at result }
 {
     if !kind_at(kinds, at + 1).is_word() {
@@ -42,7 +43,7 @@ fn short_specifier(kinds: &Kinds<'_>, at: u32, typed: bool) -> Option<(Specifier
     requires size { length kinds.now ≤ 2000000 }
     requires inside { at ≤ length kinds.now }
     requires short { spec.atomic_opens kinds.now at ≡ false }
-    requires bare { spec.members_open kinds.now at ≡ false }
+    requires bare { spec.list_opens kinds.now at ≡ false }
     requires unaligned { spec.kind_at kinds.now at ≡ Align → ⊥ }
     ensures { Specified kinds.now typed at result }
 {
@@ -134,7 +135,8 @@ fn structure(
 ) -> Result<Option<(Specifier, u32, bool)>, Stop>
     requires size { length kinds.now ≤ 2000000 }
     requires inside { at < length kinds.now }
-    requires opens { spec.members_open kinds.now at ≡ true }
+    requires kind { spec.kind_at kinds.now at ≡ Tag }
+    requires braces { spec.braces_at kinds.now (at + 1) ≡ true }
     ensures found { IfOk result (λ r. Specified kinds.now before at r) }
     ensures fails { IfErr result (λ e. FailsSpecifying kinds.now before at e) }
 {
@@ -147,6 +149,26 @@ fn structure(
         ))),
         Err(stop) => Err(stop),
     }
+}
+
+// `struct` or `union` with members, or `enum` with enumerators.
+#[cycle(parser)]
+fn braced(
+    alloc: Global,
+    kinds: &Kinds<'_>,
+    at: u32,
+    before: bool,
+) -> Result<Option<(Specifier, u32, bool)>, Stop>
+    requires size { length kinds.now ≤ 2000000 }
+    requires inside { at < length kinds.now }
+    requires opens { spec.list_opens kinds.now at ≡ true }
+    ensures found { IfOk result (λ r. Specified kinds.now before at r) }
+    ensures fails { IfErr result (λ e. FailsSpecifying kinds.now before at e) }
+{
+    if let Kind::Enum = kind_at(kinds, at) {
+        return enumeration(alloc, kinds, at, before);
+    }
+    structure(alloc, kinds, at, before)
 }
 
 // `_Atomic ( type-name )`.
@@ -185,8 +207,8 @@ fn specifier(
     if let Kind::Align = kind_at(kinds, at) {
         return alignment(alloc, kinds, at, typed);
     }
-    if members_open(kinds, at) {
-        return structure(alloc, kinds, at, typed);
+    if list_opens(kinds, at) {
+        return braced(alloc, kinds, at, typed);
     }
     if !atomic_opens(kinds, at) {
         return Ok(short_specifier(kinds, at, typed));

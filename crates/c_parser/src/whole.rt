@@ -141,13 +141,13 @@ fn whole_type(alloc: Global, kinds: &[Kind]) -> Result<TypeName, ParseError>
 }
 
 /// The one name of a type that the tokens spell, all of them (ISO C11 6.7.7): specifiers and qualifiers, and an abstract
-/// declarator. Of specifiers its grammar has keywords, qualifiers, `_Atomic ( type-name )`, tags without braces and, where no type specifier
-/// stands before it, a typedef name, which is an identifier among `names`; of declarators it has pointers, parentheses, arrays
-/// and functions, and their parameters (6.7.6.3), which are such specifiers, storage classes and function specifiers, and a declarator
-/// with a name or with none. An identifier among `names` is a parameter's name behind a type specifier of its own specifiers or a `*`, and
+/// declarator. Of specifiers its grammar has keywords, qualifiers, `_Atomic ( type-name )`, tags, structures and unions with members (6.7.2.1),
+/// `enum` with enumerators (6.7.2.2) and, where no type specifier stands before it, a typedef name, which is an identifier among `names`; of
+/// declarators it has pointers, parentheses, arrays and functions, and their parameters (6.7.6.3), which are such specifiers, storage classes,
+/// function specifiers and alignments (6.7.5), and a declarator with a name or with none. An identifier among `names` is a parameter's name behind a type specifier of its own specifiers or a `*`, and
 /// else its type (6.7.6.3p11). Behind a name, or a declarator in parentheses with a name in it, a list of identifiers that aren't among
 /// `names` may stand in place of parameters (6.7.6). From the name of a parameter to the end of its list an identifier of the same text
-/// is no typedef name (6.2.1). Braces and `_Alignas` are not in it yet. The tokens are at most 2,000,000.
+/// is no typedef name (6.2.1). An enumerator that is a typedef name where it stands is not in it yet. The tokens are at most 2,000,000.
 ///
 /// Cost: linear, but that the first name of a list of parameters that hides a typedef name takes a copy of a flag for each name among
 /// `names` up to the last that is hidden.
@@ -248,8 +248,7 @@ fn whole_head(alloc: Global, kinds: &[Kind], hidden: Vec<bool>) -> Result<Head, 
 /// declarator up to and with the `{` of its body, or a static assertion (6.7.10). Specifiers and declarators are those that
 /// `parse_type_name` has for parameters; a declarator has a name, which is declared for the tokens behind it: with `typedef` among the
 /// specifiers it is a typedef name there, and else none (6.2.1). An identifier among `names` is a typedef name at first. At the front of a
-/// declarator a `(` always begins a declarator in parentheses. Braces and `_Alignas` among the specifiers are not in its grammar yet. The
-/// tokens are at most 2,000,000.
+/// declarator a `(` always begins a declarator in parentheses. The tokens are at most 2,000,000.
 ///
 /// Errors: TooDeep with the bracket that opens the 257th level, which is looked for first; Syntax(0) exactly where
 /// no head of the grammar spells the tokens and no bracket is too deep; NoMemory.

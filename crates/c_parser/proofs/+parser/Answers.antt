@@ -5,8 +5,10 @@ use Rattle.c_parser.proofs.HeadWholes as asserts
 use Rattle.c_parser.proofs.MemberLists.{OnlyField, padding_found, padding_same, padding_fails, no_declarator, declared_found, declared_same, bits_found, bits_same, width_fails, fielding_start_with, fielding_end, fielding_only, fielding_fails, fielding_push, first_fails, rest_fails, list_unended, list_found, specs_fail, no_specs, bare_found, list_missing, fields_found, asserted_found, asserted_fails, membering_start_with, membering_fails, members_end, membering_push}
 use Rattle.c_parser.specs.HeadsFound.{FoundDirect, FoundDeclarator, FoundAssertion}
 use Rattle.c_parser.specs.MembersFound.{FoundField, FoundMember}
-use Rattle.c_parser.proofs.SpecifierLists.{OnlySpecifiers, FailsSpecifiers, align_unopened, aligned_as_fails, aligned_as_found, aligned_fails, aligned_left_open, aligned_found, structure_found, structure_fails, atomic_found, atomic_specified, atomic_fails, specifiers_end, specifiers_only, specifiers_fail, specifiers_refused, specifiers_push, specifiers_missing, none_specifying, some_specifying, declarator_missing, naming_found, name_only, specifiers_told}
-use Rattle.c_parser.proofs.Words.{members_inside, members_kind, members_braces, left_of, right_of, not_named, named_or, opens_inside, opens_next, name_stands, name_stands_not, behind_mapped}
+use Rattle.c_parser.specs.EnumeratorsFound.{FoundEnumerator}
+use Rattle.c_parser.proofs.EnumeratorLists as enumerating
+use Rattle.c_parser.proofs.SpecifierLists.{OnlySpecifiers, FailsSpecifiers, align_unopened, aligned_as_fails, aligned_as_found, aligned_fails, aligned_left_open, aligned_found, structure_found, structure_fails, enumeration_found, enumeration_fails, atomic_found, atomic_specified, atomic_fails, specifiers_end, specifiers_only, specifiers_fail, specifiers_refused, specifiers_push, specifiers_missing, none_specifying, some_specifying, declarator_missing, naming_found, name_only, specifiers_told}
+use Rattle.c_parser.proofs.Words.{list_inside, list_tags, list_braces, tag_is, left_of, right_of, not_named, named_or, opens_inside, opens_next, name_stands, name_stands_not, behind_mapped}
 use Rattle.c_parser.specs.TypeNames.{FoundSpecifiers, FoundGrouping, FoundBound, FoundDeriving, FoundDeclaring, FoundParameters}
 use Rattle.tree_data.specs.Trees.{Atomic_of, Type_of, Bare_of, Fields_of, No_fields, No_specifiers, fields, specifyings, needs_name}
 use Rattle.tree_data.specs.Seen.{declarator_of, deriving_of, field_of, fields_of, pointers_of, pointing, specifiers_of}
@@ -2271,7 +2273,7 @@ type_names::alignment-returns-in-Ok-aligned t c = record {
 }
 
 pub type_names::structure-tag_before-tag-requires-clause-braces : goal.type_names::structure-tag_before-tag-requires-clause-braces
-type_names::structure-tag_before-tag-requires-clause-braces t c = members_braces _ _ c.requires.opens
+type_names::structure-tag_before-tag-requires-clause-braces t c = c.requires.braces
 
 pub type_names::structure-members-requires : goal.type_names::structure-members-requires
 type_names::structure-members-requires t c =
@@ -2289,7 +2291,7 @@ type_names::structure-returns-in-Ok t c = record {
       _
       _
       _
-      (members_kind _ _ c.requires.opens)
+      c.requires.kind
       c.members-in-Ok.ensures
       c.tag_before-tag.ensures
       c.in-Ok.ensures.found;
@@ -2298,19 +2300,215 @@ type_names::structure-returns-in-Ok t c = record {
 
 pub type_names::structure-returns-in-Err : goal.type_names::structure-returns-in-Err
 type_names::structure-returns-in-Err t c =
-    record { found = tt; fails = structure_fails _ _ _ c.requires.opens _ _ c.tag_before-tag.ensures _ c.in-Err.ensures.fails }
+    record { found = tt; fails = structure_fails _ _ _ c.requires.kind c.requires.braces _ _ c.tag_before-tag.ensures _ c.in-Err.ensures.fails }
 
 pub type_names::specifier-alignment-requires : goal.type_names::specifier-alignment-requires
 type_names::specifier-alignment-requires t c =
     (omega (arith, c.decreases), (c.requires.size, (c.in-Align.ensures.inside, sym c.in-Align.ensures.kind)))
 
-pub type_names::specifier-structure-requires : goal.type_names::specifier-structure-requires
-type_names::specifier-structure-requires t c =
-    let opens = sym c.members_open.ensures ∙ c.if-members_open.true in
-    (omega (arith, c.decreases), (c.requires.size, (members_inside _ _ opens, opens)))
+pub type_names::specifier-braced-requires : goal.type_names::specifier-braced-requires
+type_names::specifier-braced-requires t c =
+    let opens = sym c.list_opens.ensures ∙ c.if-list_opens.true in
+    (omega (arith, c.decreases), (c.requires.size, (list_inside _ _ opens, opens)))
+
+pub type_names::braced-enumeration-requires : goal.type_names::braced-enumeration-requires
+type_names::braced-enumeration-requires t c = (
+  omega (arith, c.decreases),
+  (c.requires.size, (c.requires.inside, (sym c.in-Enum.ensures.kind, list_braces _ _ c.requires.opens))),
+)
+
+pub type_names::braced-structure-requires : goal.type_names::braced-structure-requires
+type_names::braced-structure-requires t c = (
+  omega (arith, c.decreases),
+  (
+    c.requires.size,
+    (
+      c.requires.inside,
+      (
+        tag_is _ (list_tags _ _ c.requires.opens) (λ k. c.in_default.not-Enum (c.kind_at.ensures.kind ∙ k)),
+        list_braces _ _ c.requires.opens,
+      ),
+    ),
+  ),
+)
 
 pub type_names::specifier-short_specifier-requires-clause-bare : goal.type_names::specifier-short_specifier-requires-clause-bare
-type_names::specifier-short_specifier-requires-clause-bare t c = sym c.members_open.ensures ∙ c.if-members_open.false
+type_names::specifier-short_specifier-requires-clause-bare t c = sym c.list_opens.ensures ∙ c.if-list_opens.false
 
 pub type_names::specifier-short_specifier-requires-clause-unaligned : goal.type_names::specifier-short_specifier-requires-clause-unaligned
 type_names::specifier-short_specifier-requires-clause-unaligned t c = λ k. c.in_default.not-Align (c.kind_at.ensures.kind ∙ k)
+
+pub enumerators::enumerator-returns-in_default-clause-only : goal.enumerators::enumerator-returns-in_default-clause-only
+enumerators::enumerator-returns-in_default-clause-only t c =
+    enumerating.unnamed _ _ (λ k. c.in_default.not-Identifier (c.kind_at.ensures.kind ∙ k)) 0
+
+pub enumerators::enumerator-returns-in_default-kind_at : goal.enumerators::enumerator-returns-in_default-kind_at
+enumerators::enumerator-returns-in_default-kind_at t c =
+    let only = enumerating.counted_same _ c.args.at (λ k. c.in_default-kind_at.not-Equals (c.kind_at-2.ensures.kind ∙ k)) in
+    record {
+      found =
+          subst
+          (λ x. FoundEnumerator c.args.kinds.now c.args.at x (c.args.at + 1))
+          (sym c.counted.ensures)
+          (enumerating.counted_found _ _ (sym c.in-Identifier.ensures.kind) c.in-Identifier.ensures.inside);
+      only = subst (λ x. enumerating.OnlyEnumerator c.args.kinds.now c.args.at x (c.args.at + 1)) (sym c.counted.ensures) only;
+    }
+
+pub enumerators::enumerator-returns-in-Ok : goal.enumerators::enumerator-returns-in-Ok
+enumerators::enumerator-returns-in-Ok t c =
+    let only = enumerating.given_same _ c.args.at (sym c.in-Equals.ensures.kind) _ _ c.in-Ok.ensures.only in
+    record {
+      found =
+          subst
+          (λ x. FoundEnumerator c.args.kinds.now c.args.at x c.in-Ok.end)
+          (sym c.given.ensures)
+          (enumerating.given_found _ _ (sym c.in-Identifier.ensures.kind) (sym c.in-Equals.ensures.kind) _ _ c.in-Ok.ensures.found);
+      only = subst (λ x. enumerating.OnlyEnumerator c.args.kinds.now c.args.at x c.in-Ok.end) (sym c.given.ensures) only;
+    }
+
+pub enumerators::enumerator-returns-in-Err : goal.enumerators::enumerator-returns-in-Err
+enumerators::enumerator-returns-in-Err t c =
+    record { found = tt; only = enumerating.given_fails _ _ (sym c.in-Equals.ensures.kind) _ c.in-Err.ensures.only }
+
+pub enumerators::more_enumerators-enumerators-init : goal.enumerators::more_enumerators-enumerators-init
+enumerators::more_enumerators-enumerators-init t c = enumerating.enumerating_start_with _ _ _ c.new-more.ensures.items c.requires.inside
+
+pub enumerators::more_enumerators-returns-in_default : goal.enumerators::more_enumerators-returns-in_default
+enumerators::more_enumerators-returns-in_default t c = record {
+  found = enumerating.enumerating_end _ _ _ _ c.enumerators.invariant;
+  only = enumerating.enumerating_only _ _ _ _ c.enumerators.invariant (λ k. c.in_default.not-Comma (c.kind_at.ensures.kind ∙ k));
+}
+
+pub enumerators::more_enumerators-returns-in-CloseBrace : goal.enumerators::more_enumerators-returns-in-CloseBrace
+enumerators::more_enumerators-returns-in-CloseBrace t c = record {
+  found = enumerating.enumerating_last _ _ _ _ c.enumerators.invariant (sym c.in-Comma.ensures.kind) c.in-Comma.ensures.inside;
+  only =
+      enumerating.enumerating_only_last _ _ _ _ c.enumerators.invariant (sym c.in-Comma.ensures.kind) (sym c.in-CloseBrace.ensures.kind);
+}
+
+pub enumerators::more_enumerators-returns-in-Err : goal.enumerators::more_enumerators-returns-in-Err
+enumerators::more_enumerators-returns-in-Err t c = record {
+  found = tt;
+  only =
+      enumerating.enumerating_fails
+      _
+      _
+      _
+      _
+      c.enumerators.invariant
+      (sym c.in-Comma.ensures.kind)
+      (λ k. c.in_default-kind_at.not-CloseBrace (c.kind_at-in-enumerators.ensures.kind ∙ k))
+      _
+      c.in-Err.ensures.only;
+}
+
+pub enumerators::more_enumerators-enumerators-preserved : goal.enumerators::more_enumerators-enumerators-preserved
+enumerators::more_enumerators-enumerators-preserved t c =
+    enumerating.enumerating_push
+    _
+    _
+    _
+    _
+    _
+    c.enumerators.invariant
+    (sym c.in-Comma.ensures.kind)
+    (λ k. c.in_default-kind_at.not-CloseBrace (c.kind_at-in-enumerators.ensures.kind ∙ k))
+    _
+    _
+    c.in-Ok.ensures.found
+    c.in-Ok.ensures.only
+    c.in-Ok-push.ensures.items
+
+pub enumerators::enumeration-tag_before-tag-requires-clause-braces : goal.enumerators::enumeration-tag_before-tag-requires-clause-braces
+enumerators::enumeration-tag_before-tag-requires-clause-braces t c = c.requires.braces
+
+pub enumerators::enumeration-enumerator-requires : goal.enumerators::enumeration-enumerator-requires
+enumerators::enumeration-enumerator-requires t c =
+    (omega (arith, c.decreases, c.tag_before-tag.ensures.forth, c.tag_before-tag.ensures.inside), (c.requires.size, omega (arith, c.tag_before-tag.ensures.inside)))
+
+pub enumerators::enumeration-returns-in-Err : goal.enumerators::enumeration-returns-in-Err
+enumerators::enumeration-returns-in-Err t c = record {
+  found = tt;
+  fails =
+      enumeration_fails
+      _
+      _
+      _
+      c.requires.kind
+      c.requires.braces
+      _
+      _
+      c.tag_before-tag.ensures
+      _
+      (enumerating.first_fails _ _ _ c.in-Err.ensures.only);
+}
+
+pub enumerators::enumeration-returns-in-Err-more_enumerators : goal.enumerators::enumeration-returns-in-Err-more_enumerators
+enumerators::enumeration-returns-in-Err-more_enumerators t c = record {
+  found = tt;
+  fails =
+      enumeration_fails
+      _
+      _
+      _
+      c.requires.kind
+      c.requires.braces
+      _
+      _
+      c.tag_before-tag.ensures
+      _
+      (enumerating.rest_fails _ _ _ _ c.in-Ok.ensures.only _ c.in-Err-more_enumerators.ensures.only);
+}
+
+pub enumerators::enumeration-returns-in_default : goal.enumerators::enumeration-returns-in_default
+enumerators::enumeration-returns-in_default t c = record {
+  found = tt;
+  fails =
+      enumeration_fails
+      _
+      _
+      _
+      c.requires.kind
+      c.requires.braces
+      _
+      _
+      c.tag_before-tag.ensures
+      _
+      (enumerating.list_unclosed
+      _
+      _
+      _
+      _
+      c.in-Ok.ensures.only
+      _
+      _
+      _
+      c.in-Ok-more_enumerators.ensures.only
+      (λ k. c.in_default.not-CloseBrace (c.kind_at.ensures.kind ∙ k))
+      c.args.at);
+}
+
+pub enumerators::enumeration-returns-in-Ok-enumerators : goal.enumerators::enumeration-returns-in-Ok-enumerators
+enumerators::enumeration-returns-in-Ok-enumerators t c = record {
+  found =
+      enumeration_found
+      _
+      _
+      _
+      _
+      _
+      _
+      _
+      _
+      _
+      _
+      _
+      c.requires.kind
+      c.in-Ok-enumerators.ensures
+      c.tag_before-tag.ensures
+      c.in-Ok.ensures.found
+      c.in-Ok-more_enumerators.ensures.found
+      (sym c.in-CloseBrace.ensures.kind)
+      c.in-CloseBrace.ensures.inside;
+  fails = tt;
+}

@@ -1,6 +1,7 @@
 use Rattle.std.proofs.Common.{◌+◌, ◌-◌, ◌*◌, length}
-use Rattle.tree_data.specs.Seen.{tree_of, operands_of, suffixes_of, choices_of, lefts_of, pieces_of, designators_of, associations_of, prefixes_of, specifiers_of, derivings_of, parameter_row_of, fields_of, members_of}
+use Rattle.tree_data.specs.Seen.{tree_of, operands_of, suffixes_of, choices_of, lefts_of, pieces_of, designators_of, associations_of, prefixes_of, specifiers_of, derivings_of, parameter_row_of, fields_of, members_of, enumerators_of}
 use Rattle.c_parser.specs.Beginnings.{start_of}
+use Rattle.c_parser.proofs.EnumeratorLists.{Enumerating}
 use Rattle.c_parser.proofs.Fronts.{Fore}
 use Rattle.c_parser.proofs.Generics.{Choices, Steps}
 use Rattle.c_parser.proofs.Initials.{Row, Path}
@@ -253,8 +254,11 @@ decreases-type_names::alignment l = 64 * (length l.kinds.now - l.at) + 41
 abbrev pub decreases-type_names::aligned_as : goal.decreases-type_names::aligned_as
 decreases-type_names::aligned_as l = 64 * (length l.kinds.now - l.at) + 40
 
+abbrev pub decreases-type_names::braced : goal.decreases-type_names::braced
+decreases-type_names::braced l = 64 * (length l.kinds.now - l.at) + 41
+
 abbrev pub decreases-type_names::structure : goal.decreases-type_names::structure
-decreases-type_names::structure l = 64 * (length l.kinds.now - l.at) + 41
+decreases-type_names::structure l = 64 * (length l.kinds.now - l.at) + 40
 
 abbrev pub decreases-members::direct : goal.decreases-members::direct
 decreases-members::direct l = 64 * (length l.kinds.now - l.at) + 38
@@ -297,3 +301,18 @@ invariant-members::members-members l = Membering l.kinds l.fn.at (members_of l.m
 
 abbrev pub decreases-members::members-members : goal.decreases-members::members-members
 decreases-members::members-members l = length l.kinds - l.end
+
+abbrev pub decreases-enumerators::enumeration : goal.decreases-enumerators::enumeration
+decreases-enumerators::enumeration l = 64 * (length l.kinds.now - l.at) + 40
+
+abbrev pub decreases-enumerators::enumerator : goal.decreases-enumerators::enumerator
+decreases-enumerators::enumerator l = 64 * (length l.kinds.now - l.at) + 41
+
+abbrev pub decreases-enumerators::more_enumerators : goal.decreases-enumerators::more_enumerators
+decreases-enumerators::more_enumerators l = 64 * (length l.kinds.now - l.at) + 42
+
+abbrev pub invariant-enumerators::more_enumerators-enumerators : goal.invariant-enumerators::more_enumerators-enumerators
+invariant-enumerators::more_enumerators-enumerators l = Enumerating l.kinds l.fn.at (enumerators_of l.more.items) l.end
+
+abbrev pub decreases-enumerators::more_enumerators-enumerators : goal.decreases-enumerators::more_enumerators-enumerators
+decreases-enumerators::more_enumerators-enumerators l = length l.kinds - l.end
