@@ -15,7 +15,7 @@ use Rattle.stmt_parser.specs.Balance.{Pairs, No_token, Token_then, Pair_then, Ar
 use Rattle.stmt_parser.specs.Externals.{is_semicolon, is_open_brace, is_close_paren, AreQuiet, IsQuiet, DeclarationIsQuiet, HeadsAreQuiet}
 use Rattle.stmt_parser.proofs.Balances as statements
 use Rattle.stmt_parser.proofs.Cuts.{shaded_at, quiet_forth, pairs_forth}
-use Rattle.stmt_parser.proofs.PartBalances.{plain, opener, AreMatched, AreCalm, Calm, join, nothing, token, mark, pair, plain_bracket, opener_opens, tree_calm, initial_calm, specifyings_calm, naming_calm, declarator_calm, members_matched, tag_calm, texts_calm}
+use Rattle.stmt_parser.proofs.PartBalances.{plain, opener, AreMatched, AreCalm, Calm, join, nothing, token, mark, pair, plain_bracket, opener_opens, tree_calm, initial_calm, specifyings_calm, naming_calm, declarator_calm, members_matched, tag_calm, texts_calm, comma_calm, enumerator_calm, enumerators_calm}
 
 -- balanced
 plain_semicolon : (s : Bool) → (k : Kind) → plain s k ≡ true → is_semicolon k ≡ false
@@ -411,7 +411,16 @@ specifying_strict ks y (Members_of k g o ms c) a b h =
     let one : a + 1 ≤ o = calm_forth true ks front.pairs (a + 1) o front.are in
     let two : o + 1 ≤ c = matched_forth ks inner.pairs (o + 1) c inner.are in
     omega (arith, one, two, h.7)
-specifying_strict ks y (Enumerators_of k g o e es t c) a b h = absurd h
+specifying_strict ks y (Enumerators_of k g o e es t c) a b h =
+    let front = tag_calm ks g (a + 1) o h.4 in
+    let first = enumerator_calm e ks (o + 1) h.0 h.6 in
+    let more = enumerators_calm es ks h.0 h.1 h.7 in
+    let last = comma_calm ks t h.1 c h.8 in
+    let one : a + 1 ≤ o = calm_forth true ks front.pairs (a + 1) o front.are in
+    let two : o + 1 ≤ h.0 = calm_forth false ks first.pairs (o + 1) h.0 first.are in
+    let three : h.0 ≤ h.1 = calm_forth false ks more.pairs h.0 h.1 more.are in
+    let four : h.1 ≤ c = calm_forth false ks last.pairs h.1 c last.are in
+    omega (arith, one, two, three, four, h.10)
 
 some_strict : (ks : List Kind) → (ss : Specifyings) → (a m : ℕ) → AreSome ss → HoldSpecifyings ks false ss a m → a + 1 ≤ m
 some_strict ks No_specifiers a m s h = absurd s

@@ -1,16 +1,16 @@
 -- Brackets are balanced in expressions, initializers, names of types and heads, and outside of them no `;` stands there.
 use Rattle.std.proofs.Common.{◌≡◌, refl, ap, sym, ◌∙◌, subst, ℕ, zero, suc, ◌+◌, ◌-◌, ◌≤◌, arith, Bool, true, false, true≢false, not, ◌&&◌, ◌||◌, ◌==◌, List, [], ◌∷◌, map, Option, None, Some}
 use Rattle.std.specs.Prelude.{if◌then◌else◌}
-use Rattle.tree_data.specs.Trees.{Tree, Name_of, Constant_of, Text_of, Paren_of, Postfix_of, Unary_of, Binary_of, Conditional_of, Assign_of, Of_type, Compound_of, Generic_of, Offset_of, Behind, Operand_of, Index_of, Call_of, Call_with_of, Member_of, Step_of, Behinds, None_behind, Behind_then, Front, Operator_of, Cast_of, Choice_of, Left_of, Fronts, None_before, Front_then, Braces, Braces_of, Initial, Value_of, List_of, Piece, Plain_of, Designated_of, Pieces, No_pieces, Piece_then, Designator, Element_of, Field_of, Designators, No_designators, Designator_then, Association, Typed_of, Default_of, Associations, No_associations, Association_then, Specifying, Word_of, Typedef_of, Tag_of, Atomic_of, Specifyings, No_specifiers, Specifier_then, Naming, Type_of, Declaring, Declaring_of, Grouping, No_group, Named_of, Group_of, Deriving, Array_of, Function_of, Derivings, No_derivings, Deriving_then, Parameters, No_parameters, Fixed_of, Variadic_of, Names_of, Row, No_more, Parameter_then, Bound, Unsized_of, Any_size_of, Sized_of, Static_sized_of, Sized_static_of, Aligned_as_of, Aligned_of, Members_of, Enumerators_of, Member, Bare_of, Fields_of, Asserted_of, Members, No_members, Member_then, Field, Declared_of, Bits_of, Padding_of, Fields, No_fields, Field_then, Assertion, Assertion_of}
+use Rattle.tree_data.specs.Trees.{Tree, Name_of, Constant_of, Text_of, Paren_of, Postfix_of, Unary_of, Binary_of, Conditional_of, Assign_of, Of_type, Compound_of, Generic_of, Offset_of, Behind, Operand_of, Index_of, Call_of, Call_with_of, Member_of, Step_of, Behinds, None_behind, Behind_then, Front, Operator_of, Cast_of, Choice_of, Left_of, Fronts, None_before, Front_then, Braces, Braces_of, Initial, Value_of, List_of, Piece, Plain_of, Designated_of, Pieces, No_pieces, Piece_then, Designator, Element_of, Field_of, Designators, No_designators, Designator_then, Association, Typed_of, Default_of, Associations, No_associations, Association_then, Specifying, Word_of, Typedef_of, Tag_of, Atomic_of, Specifyings, No_specifiers, Specifier_then, Naming, Type_of, Declaring, Declaring_of, Grouping, No_group, Named_of, Group_of, Deriving, Array_of, Function_of, Derivings, No_derivings, Deriving_then, Parameters, No_parameters, Fixed_of, Variadic_of, Names_of, Row, No_more, Parameter_then, Bound, Unsized_of, Any_size_of, Sized_of, Static_sized_of, Sized_static_of, Aligned_as_of, Aligned_of, Members_of, Enumerators_of, Member, Bare_of, Fields_of, Asserted_of, Members, No_members, Member_then, Field, Declared_of, Bits_of, Padding_of, Fields, No_fields, Field_then, Enumerator, Counted_of, Given_of, Enumerators, No_enumerators, Enumerator_then, Assertion, Assertion_of}
 use Rattle.c_parser.specs.declared.kinds.Kind.{Kind}
 use Rattle.c_parser.specs.declared.kinds.Kind.TheVariants as kind
-use Rattle.c_parser.specs.declared.kinds.Kind.TheVariants.{Identifier, TypeName, OpenParen, CloseParen, OpenBracket, CloseBracket, OpenBrace, CloseBrace, Semicolon, Equals, Comma, Or, And, Bar, Caret, Ampersand, Equality, Relation, Shift, Sign, Star, Quotient, Assignment, Question, Colon, Dot, Ellipsis, Constant, Text, Tag, Atomic, Static, Generic, OffsetOf, Default, Align, Assert}
+use Rattle.c_parser.specs.declared.kinds.Kind.TheVariants.{Identifier, TypeName, OpenParen, CloseParen, OpenBracket, CloseBracket, OpenBrace, CloseBrace, Semicolon, Equals, Comma, Or, And, Bar, Caret, Ampersand, Equality, Relation, Shift, Sign, Star, Quotient, Assignment, Question, Colon, Dot, Ellipsis, Constant, Text, Tag, Enum, Atomic, Static, Generic, OffsetOf, Default, Align, Assert}
 use Rattle.c_parser.specs.declared.kinds.Named.{Named}
 use Rattle.c_parser.specs.declared.kinds.Named.TheVariants.{Never, Plainly, Freely}
 use Rattle.c_parser.specs.Brackets.{closes, opens}
 use Rattle.c_parser.specs.Grammar.{past, name_by}
 use Rattle.c_parser.specs.Kinds.{kind_at, level_of, is_word, is_identifier, is_size, is_prefix, is_member, is_dot, is_equals, is_typedef, is_qualifier, is_specifying, is_atomic, is_opening, atomic_at, specifies_at, qualifies_at, may_name, hide, hide_kind, hide_word, hidden_one, is_tagging, names_it, plain_behind}
-use Rattle.c_parser.specs.Reading.{HoldTexts, HoldsComma, HoldQualifiers, HoldNames, HoldPointers, Holds, HoldsBehind, HoldBehinds, HoldsFront, HoldFronts, HoldBraces, HoldsInitial, HoldsPiece, HoldPieces, HoldsDesignator, HoldDesignators, HoldsAssociation, HoldAssociations, HoldSpecifying, HoldSpecifyings, HoldsNaming, HoldsDeclaring, HoldsGrouping, HoldsDeriving, HoldDerivings, HoldParameters, HoldRow, HoldsBound, HoldsTag, HoldsMember, HoldMembers, HoldsField, HoldFields, HoldsAssertion, HoldsDeclarator, HoldsDirect}
+use Rattle.c_parser.specs.Reading.{HoldTexts, HoldsComma, HoldQualifiers, HoldNames, HoldPointers, Holds, HoldsBehind, HoldBehinds, HoldsFront, HoldFronts, HoldBraces, HoldsInitial, HoldsPiece, HoldPieces, HoldsDesignator, HoldDesignators, HoldsAssociation, HoldAssociations, HoldSpecifying, HoldSpecifyings, HoldsNaming, HoldsDeclaring, HoldsGrouping, HoldsDeriving, HoldDerivings, HoldParameters, HoldRow, HoldsBound, HoldsTag, HoldsMember, HoldMembers, HoldsField, HoldFields, HoldsEnumerator, HoldEnumerators, HoldsAssertion, HoldsDeclarator, HoldsDirect}
 use Rattle.stmt_parser.specs.Balance.{Pairs, No_token, Token_then, Pair_then}
 use Rattle.stmt_parser.specs.Externals.{is_close_paren}
 
@@ -330,7 +330,7 @@ pub texts_calm : (ks : List Kind) → (ns : List ℕ) → (a b : ℕ) → HoldTe
 texts_calm ks [] a b h = nothing false ks a b h.0
 texts_calm ks (n ∷ ns) a b h = join false ks a (a + 1) b (mark false ks a (a + 1) Text h.1 refl refl) (texts_calm ks ns (a + 1) b h.2)
 
-comma_calm : (ks : List Kind) → (t : Option ℕ) → (a b : ℕ) → HoldsComma ks t a b → Calm false ks a b
+pub comma_calm : (ks : List Kind) → (t : Option ℕ) → (a b : ℕ) → HoldsComma ks t a b → Calm false ks a b
 comma_calm ks None a b h = nothing false ks a b h
 comma_calm ks (Some o) a b h = mark false ks a b Comma h.1 refl h.2
 
@@ -357,8 +357,9 @@ front_of : (a : ℕ) → (a + 1) - 1 ≡ a
 front_of a = omega arith
 
 -- in front of the `{` of members stands their keyword, or their tag
-no_paren : (ks : List Kind) → (g : Option ℕ) → (a o : ℕ) → kind_at ks a ≡ Tag → HoldsTag ks g (a + 1) o → is_close_paren (kind_at ks (o - 1)) ≡ false
-no_paren ks None a o k h = ap (λ i. is_close_paren (kind_at ks i)) (ap (λ i. i - 1) h ∙ front_of a) ∙ ap is_close_paren k
+no_paren : (ks : List Kind) → (g : Option ℕ) → (a o : ℕ) → is_close_paren (kind_at ks a) ≡ false → HoldsTag ks g (a + 1) o
+    → is_close_paren (kind_at ks (o - 1)) ≡ false
+no_paren ks None a o k h = ap (λ i. is_close_paren (kind_at ks i)) (ap (λ i. i - 1) h ∙ front_of a) ∙ k
 no_paren ks (Some n) a o k h =
     ap (λ i. is_close_paren (kind_at ks i)) (ap (λ i. i - 1) h.2 ∙ front_of (a + 1)) ∙ word_paren_not (kind_at ks (a + 1)) h.1
 
@@ -503,8 +504,26 @@ mutual
   specifying_calm (Members_of k g o ms c) ks y a b h =
       join true ks a (a + 1) b (mark true ks a (a + 1) Tag h.1 refl refl)
       (join true ks (a + 1) o b (tag_calm ks g (a + 1) o h.2)
-      (braces true ks o c b (no_paren ks g a o h.1 h.2) h.3 (members_matched ms ks (o + 1) c h.5) h.6 h.7))
-  specifying_calm (Enumerators_of k g o e es t c) ks y a b h = absurd h
+      (braces true ks o c b (no_paren ks g a o (ap is_close_paren h.1) h.2) h.3 (members_matched ms ks (o + 1) c h.5) h.6 h.7))
+  specifying_calm (Enumerators_of k g o e es t c) ks y a b h =
+      join true ks a (a + 1) b (mark true ks a (a + 1) Enum h.3 refl refl)
+      (join true ks (a + 1) o b (tag_calm ks g (a + 1) o h.4)
+      (braces true ks o c b (no_paren ks g a o (ap is_close_paren h.3) h.4) h.5
+      (matched false ks (o + 1) c
+      (join false ks (o + 1) h.0 c (enumerator_calm e ks (o + 1) h.0 h.6)
+      (join false ks h.0 h.1 c (enumerators_calm es ks h.0 h.1 h.7) (comma_calm ks t h.1 c h.8)))) h.9 h.10))
+
+  pub enumerator_calm : (e : Enumerator) → (ks : List Kind) → (a b : ℕ) → HoldsEnumerator ks e a b → Calm false ks a b
+  enumerator_calm (Counted_of n) ks a b h = mark false ks a b Identifier h.1 refl h.2
+  enumerator_calm (Given_of n q t) ks a b h =
+      join false ks a q b (mark false ks a q Identifier h.1 refl h.2)
+      (join false ks q (q + 1) b (token false ks q (q + 1) (equals_plain (kind_at ks q) h.3) refl) (tree_calm t ks (q + 1) b h.5))
+
+  pub enumerators_calm : (es : Enumerators) → (ks : List Kind) → (a b : ℕ) → HoldEnumerators ks es a b → Calm false ks a b
+  enumerators_calm No_enumerators ks a b h = nothing false ks a b h
+  enumerators_calm (Enumerator_then o e es) ks a b h =
+      join false ks a (a + 1) b (mark false ks a (a + 1) Comma h.2 refl refl)
+      (join false ks (a + 1) h.0 b (enumerator_calm e ks (a + 1) h.0 h.3) (enumerators_calm es ks h.0 b h.4))
 
   member_matched : (x : Member) → (ks : List Kind) → (a b : ℕ) → HoldsMember ks x a b → Matched ks a b
   member_matched (Bare_of ss e) ks a b h =
