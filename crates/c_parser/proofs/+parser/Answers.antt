@@ -2,7 +2,7 @@ use Rattle.c_parser.proofs.ParameterLists.{parameter_row_found, parameter_row_sa
 use Rattle.c_parser.proofs.Abstract.{no_group, group_fails, group_left_open, group_found, group_same, static_fails, static_found, static_same, unsized_found, unsized_same, last_static_fails, last_static_found, last_static_same, sized_fails, sized_found, sized_same, any_found, any_same, array_fails, array_left_open, array_found, found_deriving_only, nothing_derives, derivings_found, derivings_same, derivings_fail, derivings_unnamed, derivings_push, group_missing, derivings_missing, declaring_found, declaring_same, name_found, name_same, function_found, function_fails, function_left_open}
 use Rattle.c_parser.proofs.HeadDeclarators as named
 use Rattle.c_parser.proofs.HeadWholes as asserts
-use Rattle.c_parser.proofs.MemberLists.{OnlyField, padding_found, padding_same, padding_fails, no_declarator, declared_found, declared_same, bits_found, bits_same, width_fails, fielding_start_with, fielding_end, fielding_only, fielding_fails, fielding_push, first_fails, rest_fails, list_unended, list_found, specs_fail, no_specs, bare_found, list_missing, fields_found, asserted_found, asserted_fails, membering_start_with, membering_fails, members_end, membering_push}
+use Rattle.c_parser.proofs.MemberLists.{OnlyField, padding_found, padding_same, padding_fails, no_declarator, declared_found, declared_same, bits_found, bits_same, width_fails, fielding_start_with, fielding_end, fielding_only, fielding_fails, fielding_push, first_fails as first_field_fails, rest_fails, list_unended, list_found, specs_fail, no_specs, bare_found, list_missing, fields_found, asserted_found, asserted_fails, membering_start_with, membering_fails, members_end, membering_push}
 use Rattle.c_parser.specs.HeadsFound.{FoundDirect, FoundDeclarator, FoundAssertion}
 use Rattle.c_parser.specs.MembersFound.{FoundField, FoundMember}
 use Rattle.c_parser.specs.EnumeratorsFound.{FoundEnumerator}
@@ -2014,7 +2014,7 @@ members::more_fields-fields-preserved t c =
     c.in-Ok-push.ensures.items
 
 pub members::fields-returns-in-Err : goal.members::fields-returns-in-Err
-members::fields-returns-in-Err t c = record { found = tt; fails = first_fails _ _ _ _ c.in-Err.ensures.only }
+members::fields-returns-in-Err t c = record { found = tt; fails = first_field_fails _ _ _ _ c.in-Err.ensures.only }
 
 pub members::fields-returns-in-Err-more_fields : goal.members::fields-returns-in-Err-more_fields
 members::fields-returns-in-Err-more_fields t c =
