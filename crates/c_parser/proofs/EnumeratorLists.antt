@@ -1,5 +1,5 @@
 -- Enumerators as the code reads them one behind another.
-use Rattle.std.proofs.Common.{◌≡◌, refl, ap, sym, ◌∙◌, subst, ℕ, ◌+◌, ◌<◌, ◌≤◌, List, [], ◌∷◌, ◌++◌, length, arith, true, Option, Some, None}
+use Rattle.std.proofs.Common.{◌≡◌, refl, ap, sym, ◌∙◌, subst, ℕ, ◌+◌, ◌<◌, ◌≤◌, List, [], ◌∷◌, ◌++◌, length, arith, Bool, true, Option, Some, None}
 use Rattle.std.proofs.lemmas.List.{map-append}
 use Rattle.tree_data.specs.declared.members.Enumerator as code
 use Rattle.tree_data.specs.Seen.{enumerator_of, enumerators_of}
@@ -7,16 +7,18 @@ use Rattle.tree_data.specs.Trees.{Tree, Enumerator, Counted_of, Given_of, Enumer
 use Rattle.c_parser.specs.declared.answers.Stop.{Stop}
 use Rattle.c_parser.specs.declared.answers.Stop.TheVariants as stop
 use Rattle.c_parser.specs.declared.kinds.Kind.{Kind}
-use Rattle.c_parser.specs.declared.kinds.Kind.TheVariants.{Identifier, Equals, Comma, CloseBrace}
+use Rattle.c_parser.specs.declared.kinds.Kind.TheVariants.{Identifier, Enum, Equals, Comma, CloseBrace}
 use Rattle.c_parser.specs.EnumeratorsFound.{FoundEnumerator, FoundEnumerators, ends_enumerator}
-use Rattle.c_parser.specs.Kinds.{kind_at, is_equals}
+use Rattle.c_parser.specs.Kinds.{kind_at, is_equals, braces_at}
+use Rattle.c_parser.specs.MembersFound.{FoundTag}
 use Rattle.c_parser.specs.Reading.{Holds, HoldsEnumerator, HoldEnumerators, HoldsComma, Found, IsWant}
+use Rattle.c_parser.specs.TypeNames.{FailsSpecifying}
 use Rattle.c_parser.proofs.Initials.{comma_goes, equals_is}
 use Rattle.c_parser.proofs.Marks.{clash}
 use Rattle.c_parser.proofs.MemberReading.{OnlyList, enumerator_stops, enumerators_end, named_first, unequal}
 use Rattle.c_parser.proofs.Parsing.{Fails}
 use Rattle.c_parser.proofs.SameParts.{Only}
-use Rattle.c_parser.proofs.SpecifierLists.{FailsList, second}
+use Rattle.c_parser.proofs.SpecifierLists.{FailsList, second, enumeration_fails}
 
 abbrev pub OnlyEnumerator : List Kind → ℕ → Enumerator → ℕ → Type 0
 OnlyEnumerator ks a e b =
@@ -210,3 +212,9 @@ list_unclosed ks a x m only es t c more u n x' m' es' n' t' c' h g i l =
     let one = only x' m' h (enumerators_end ks es' t' m' n' c' g i l) in
     let two = more es' n' t' c' (subst (λ z. HoldEnumerators ks es' z n') (sym one.1) g) i l in
     u (ap (λ z. kind_at ks z) two.2 ∙ l)
+
+pub unclosed : (ks : List Kind) → (y : Bool) → (a : ℕ) → kind_at ks a ≡ Enum → braces_at ks (a + 1) ≡ true → (g : Option ℕ) → (o : ℕ)
+    → FoundTag ks (a + 1) g o → (x : Enumerator) → (m : ℕ) → OnlyEnumerator ks (o + 1) x m → (es : Enumerators) → (t : Option ℕ) → (c : ℕ)
+    → OnlyList ks m es t c → (kind_at ks c ≡ CloseBrace → ⊥) → (n : ℕ) → FailsSpecifying ks y a (stop.Syntax n)
+unclosed ks y a k b g o tag x m only es t c more u n =
+    enumeration_fails ks y a k b g o tag (stop.Syntax n) (list_unclosed ks (o + 1) x m only es t c more u n)

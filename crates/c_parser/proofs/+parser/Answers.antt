@@ -2464,7 +2464,7 @@ pub enumerators::enumeration-returns-in_default : goal.enumerators::enumeration-
 enumerators::enumeration-returns-in_default t c = record {
   found = tt;
   fails =
-      enumeration_fails
+      enumerating.unclosed
       _
       _
       _
@@ -2474,10 +2474,6 @@ enumerators::enumeration-returns-in_default t c = record {
       _
       c.tag_before-tag.ensures
       _
-      (enumerating.list_unclosed
-      _
-      _
-      _
       _
       c.in-Ok.ensures.only
       _
@@ -2485,7 +2481,7 @@ enumerators::enumeration-returns-in_default t c = record {
       _
       c.in-Ok-more_enumerators.ensures.only
       (λ k. c.in_default.not-CloseBrace (c.kind_at.ensures.kind ∙ k))
-      c.args.at);
+      c.args.at;
 }
 
 pub enumerators::enumeration-returns-in-Ok-enumerators : goal.enumerators::enumeration-returns-in-Ok-enumerators
