@@ -3,16 +3,23 @@ use Rattle.std.proofs.Common.{◌≡◌, refl, ap, sym, ◌∙◌, subst, ℕ, �
 use Rattle.tree_data.specs.Statements.{Statement, Statement_of, Core, Block_of, Expression_of, Goto_of, Continue_of, Break_of, Return_of, Do_of, Lead, Label_of, Case_of, Default_label_of, If_of, If_else_of, Switch_of, While_of, For_of, For_declaring_of, Leads, No_leads, Lead_then, Item, Declared_of, Stated_of, Items, No_items, Item_then}
 use Rattle.tree_data.specs.Trees.{Tree}
 use Rattle.c_parser.specs.declared.kinds.Kind.{Kind}
-use Rattle.c_parser.specs.declared.kinds.Kind.TheVariants.{Identifier, TypeName, Colon, Semicolon, If, Else, Switch, Case, Default, While, Do, For, Goto, Continue, Break, Return}
+use Rattle.c_parser.specs.declared.kinds.Kind.TheVariants.{Identifier, TypeName, OpenParen, OpenBracket, OpenBrace, Colon, Semicolon, If, Else, Switch, Case, Default, While, Do, For, Goto, Continue, Break, Return}
 use Rattle.c_parser.specs.Brackets.{opens, closes}
 use Rattle.c_parser.specs.Kinds.{is_word}
 use Rattle.c_parser.specs.Parts.{PartsLaw, past_tree, past_declaration}
 use Rattle.c_parser.specs.Words.{Words, kind_in}
-use Rattle.stmt_parser.specs.Balance.{Pairs, No_token, Token_then, Pair_then, ArePairs, AreBalanced, PartsAreBalanced, StatementsAreBalanced}
+use Rattle.stmt_parser.specs.Balance.{is_pair, Pairs, No_token, Token_then, Pair_then, ArePairs, AreBalanced, PartsAreBalanced, StatementsAreBalanced}
 use Rattle.stmt_parser.specs.Found.{Alike}
 use Rattle.stmt_parser.specs.InForce.{past_optional, inside, all_inside, past_item}
 use Rattle.stmt_parser.specs.Reading.{HoldsOptional, HoldsTest, HoldsStatement, HoldsCore, HoldsLead, HoldLeads, HoldsItem, HoldItems}
 use Rattle.stmt_parser.proofs.InForceLemmas.{optional_blind, inside_blind, all_inside_blind, item_blind}
+
+-- what closes a bracket is no name
+pub pair_blind : (k : Kind) → (n : ℕ) → is_pair k (TypeName n) ≡ is_pair k Identifier
+pair_blind OpenParen n = refl
+pair_blind OpenBracket n = refl
+pair_blind OpenBrace n = refl
+pair_blind _ n = refl
 
 -- one behind another
 joined : (w : Words) → (ps qs : Pairs) → (a m b : ℕ) → ArePairs w ps a m → ArePairs w qs m b → AreBalanced w a b
@@ -44,7 +51,7 @@ word_plain _ h = absurd (true≢false (sym h))
 word : (w : Words) → (a b : ℕ) → is_word (kind_in w a) ≡ true → b ≡ a + 1 → AreBalanced w a b
 word w a b h e = token w a b (word_plain (kind_in w a) h) e
 
-pub pair : (w : Words) → (a c b : ℕ) → opens (kind_in w a) ≡ true → AreBalanced w (a + 1) c → closes (kind_in w c) ≡ true → b ≡ c + 1
+pub pair : (w : Words) → (a c b : ℕ) → opens (kind_in w a) ≡ true → AreBalanced w (a + 1) c → is_pair (kind_in w a) (kind_in w c) ≡ true → b ≡ c + 1
     → AreBalanced w a b
 pair w a c b o x e f = record { pairs = Pair_then x.pairs No_token; are = (c, o, x.are, e, f) }
 
@@ -57,7 +64,9 @@ under v w alike (Pair_then inner ps) a b h = (
   h.0,
   sym (alike opens (λ n. refl) a) ∙ h.1,
   under v w alike inner (a + 1) h.0 h.2,
-  sym (alike closes (λ n. refl) h.0) ∙ h.3,
+  sym (alike (λ k. is_pair k (kind_in w h.0)) (λ n. refl) a)
+      ∙ sym (alike (is_pair (kind_in v a)) (pair_blind (kind_in v a)) h.0)
+      ∙ h.3,
   under v w alike ps (h.0 + 1) b h.4,
 )
 
@@ -71,7 +80,7 @@ optional_balanced parts w (Some t) a b h = parts.expression w 1 t a b h
 
 test_balanced : PartsAreBalanced → (w : Words) → (o : ℕ) → (t : Tree) → (c a b : ℕ) → HoldsTest w o t c a b → AreBalanced w a b
 test_balanced parts w o t c a b h =
-    pair w a c b (ap opens h.1) (parts.expression w 1 t (a + 1) c h.2) (ap closes h.3) h.4
+    pair w a c b (ap opens h.1) (parts.expression w 1 t (a + 1) c h.2) (λ i. is_pair (h.1 i) (h.3 i)) h.4
 
 from : (w : Words) → (a p b : ℕ) → p ≡ a → AreBalanced w p b → AreBalanced w a b
 from w a p b e x = subst (λ i. AreBalanced w i b) e x
@@ -84,7 +93,7 @@ mutual
 
   core_balanced : PartsLaw → PartsAreBalanced → (c : Core) → (w : Words) → (a b : ℕ) → HoldsCore w c a b → AreBalanced w a b
   core_balanced law parts (Block_of o is c) w a b h =
-      pair w a c b (ap opens h.1) (items_balanced law parts is w (a + 1) c h.2) (ap closes h.3) h.4
+      pair w a c b (ap opens h.1) (items_balanced law parts is w (a + 1) c h.2) (λ i. is_pair (h.1 i) (h.3 i)) h.4
   core_balanced law parts (Expression_of e m) w a b h = join w a m b (optional_balanced parts w e a m h.0) (mark w m b Semicolon h.1 refl h.2)
   core_balanced law parts (Goto_of k n m) w a b h =
       join w a n b (mark w a n Goto h.1 refl h.2) (join w n m b (word w n m h.3 h.4) (mark w m b Semicolon h.5 refl h.6))
@@ -126,7 +135,7 @@ mutual
       (join w (m + 1) n c (seen v w (λ f i q. optional_blind law f i w x q) (m + 1) n (optional_balanced parts v y (m + 1) n h.6))
       (join w n (n + 1) c (mark w n (n + 1) Semicolon h.7 refl refl)
       (seen u w (λ f i q. optional_blind law f i v y q ∙ optional_blind law f i w x q) (n + 1) c (optional_balanced parts u z (n + 1) c h.8))))))
-      (ap closes h.9) h.10)
+      (λ i. is_pair (h.3 i) (h.9 i)) h.10)
   lead_balanced law parts (For_declaring_of k o d y n z c) w a b h =
       let v : Words = past_declaration w d in
       let u : Words = past_optional v y in
@@ -136,7 +145,7 @@ mutual
       (join w h.0 n c (seen v w (λ f i q. law.declaration_blind f i w d q) h.0 n (optional_balanced parts v y h.0 n h.6))
       (join w n (n + 1) c (mark w n (n + 1) Semicolon h.7 refl refl)
       (seen u w (λ f i q. optional_blind law f i v y q ∙ law.declaration_blind f i w d q) (n + 1) c (optional_balanced parts u z (n + 1) c h.8)))))
-      (ap closes h.9) h.10)
+      (λ i. is_pair (h.4 i) (h.9 i)) h.10)
 
   leads_balanced : PartsLaw → PartsAreBalanced → (ls : Leads) → (w : Words) → (a b : ℕ) → HoldLeads w ls a b → AreBalanced w a b
   leads_balanced law parts No_leads w a b h = nothing w a b h

@@ -13,7 +13,7 @@ use Rattle.c_parser.specs.Kinds.{kind_at, is_equals}
 use Rattle.c_parser.specs.Parts.{PartsLaw, IsBlind}
 use Rattle.c_parser.specs.Scopes.{shade}
 use Rattle.c_parser.specs.Words.{Words, kind_in}
-use Rattle.stmt_parser.specs.Balance.{Pairs, No_token, Token_then, Pair_then, ArePairs, AreBalanced, PartsAreBalanced}
+use Rattle.stmt_parser.specs.Balance.{is_pair, Pairs, No_token, Token_then, Pair_then, ArePairs, AreBalanced, PartsAreBalanced}
 use Rattle.stmt_parser.specs.Bodies.{is_block, is_braced}
 use Rattle.stmt_parser.specs.Found.{Alike}
 use Rattle.stmt_parser.specs.Externals.{External, Declares_under, Defines_under, under, HoldsExternal, HoldExternals, is_semicolon, is_open_brace, is_close_brace, is_close_paren, IsSpelled, AreSpelled, AreQuiet, IsQuiet, DeclarationIsQuiet, HeadsAreQuiet, UnitsAreCut}
@@ -148,6 +148,12 @@ close_depth CloseParen h d = omega arith
 close_depth CloseBracket h d = omega arith
 close_depth CloseBrace h d = omega arith
 close_depth _ h d = absurd (true≢false (sym h))
+
+pair_closes : (k l : Kind) → is_pair k l ≡ true → closes l ≡ true
+pair_closes OpenParen CloseParen h = refl
+pair_closes OpenBracket CloseBracket h = refl
+pair_closes OpenBrace CloseBrace h = refl
+pair_closes _ _ h = absurd (true≢false (sym h))
 
 close_equals : (k : Kind) → closes k ≡ true → is_equals k ≡ false
 close_equals CloseParen h = refl
@@ -311,10 +317,11 @@ deep w start (Pair_then inner ps) a b h front (t ∷ ts) d c q y st sp le =
     let inside = deep w start inner (a + 1) h.0 h.2 (front ++ t ∷ []) ts (d + 1) (is_close_paren k) q y next sp.1 room in
     let first = walk_on w start front a t ts h.0 (d + 1 + 1) inside.closed q y (deep_goes front k t sp.0 (d + 1) (is_close_paren k) q y next) inside.walked in
     let far : h.0 + 1 ≤ h.0 + length first.ts' = omega (arith, le, two, first.left) in
-    let shut = shut_first w h.0 h.3 first.front' first.ts' (d + 1) inside.closed q y first.stands first.spelled far in
+    let shuts : closes (kind_in w h.0) ≡ true = pair_closes k (kind_in w h.0) h.3 in
+    let shut = shut_first w h.0 shuts first.front' first.ts' (d + 1) inside.closed q y first.stands first.spelled far in
     let next' =
     standing_as (first.front' ++ shut.token ∷ []) (deeper (kind_in w h.0) (d + 1 + 1)) (d + 1) (is_close_paren (kind_in w h.0)) q q y y
-    (close_depth (kind_in w h.0) h.3 (d + 1)) refl refl shut.stands in
+    (close_depth (kind_in w h.0) shuts (d + 1)) refl refl shut.stands in
     let here : IsSpelled (kind_in w h.0) shut.token = shut.spelled_so in
     let room' : b ≤ h.0 + 1 + length shut.behind = omega (arith, le, first.left, ap length shut.is, tail_length shut.token shut.behind) in
     let more =
@@ -395,16 +402,17 @@ quiet w start (Pair_then inner ps) a b c q c' q' h front (t ∷ ts) st sp le =
     let first =
     walk_on w start front a t ts h.0 (0 + 1) inside.closed q false (deep_goes front k t sp.0 0 (is_close_paren k) q false next) inside.walked in
     let far : h.0 + 1 ≤ h.0 + length first.ts' = omega (arith, le, two, first.left) in
-    let shut = shut_first w h.0 h.4 first.front' first.ts' 0 inside.closed q false first.stands first.spelled far in
+    let shuts : closes x ≡ true = pair_closes k x h.4 in
+    let shut = shut_first w h.0 shuts first.front' first.ts' 0 inside.closed q false first.stands first.spelled far in
     let next' =
-    standing_as (first.front' ++ shut.token ∷ []) (deeper x (0 + 1)) 0 (is_close_paren x) q q false false (close_depth x h.4 0) refl refl shut.stands in
+    standing_as (first.front' ++ shut.token ∷ []) (deeper x (0 + 1)) 0 (is_close_paren x) q q false false (close_depth x shuts 0) refl refl shut.stands in
     let room' : b ≤ h.0 + 1 + length shut.behind = omega (arith, le, first.left, ap length shut.is, tail_length shut.token shut.behind) in
     let more =
     quiet w start ps (h.0 + 1) b (is_close_paren x) q c' q' h.5 (first.front' ++ shut.token ∷ []) shut.behind next' shut.spelled room' in
     let last =
     subst (λ us. Walked w start first.front' h.0 us b 0 c' q' false) (sym shut.is)
     (walk_on w start first.front' h.0 shut.token shut.behind b 0 c' q' false
-    (item_is first.front' x shut.token shut.spelled_so 0 (is_close_paren x) q false next' ∙ no_item_here x (close_semicolon x h.4)) more) in
+    (item_is first.front' x shut.token shut.spelled_so 0 (is_close_paren x) q false next' ∙ no_item_here x (close_semicolon x shuts)) more) in
     walk_then w start front a (t ∷ ts) h.0 b 0 (0 + 1) c' q' false inside.closed q false first last
 
 -- one item is cut off

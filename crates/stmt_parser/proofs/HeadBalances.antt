@@ -11,7 +11,7 @@ use Rattle.c_parser.specs.Parts.{IsBlind, HoldsDeclaration, is_declaration}
 use Rattle.c_parser.specs.Grammar.{AreSome}
 use Rattle.c_parser.specs.Reading.{HoldSpecifying, HoldSpecifyings, HoldsAssertion}
 use Rattle.c_parser.specs.Words.{Words, shown, kind_in, declared_as}
-use Rattle.stmt_parser.specs.Balance.{Pairs, No_token, Token_then, Pair_then, ArePairs, AreBalanced, PartsAreBalanced}
+use Rattle.stmt_parser.specs.Balance.{is_pair, Pairs, No_token, Token_then, Pair_then, ArePairs, AreBalanced, PartsAreBalanced}
 use Rattle.stmt_parser.specs.Externals.{is_semicolon, is_open_brace, is_close_paren, AreQuiet, IsQuiet, DeclarationIsQuiet, HeadsAreQuiet}
 use Rattle.stmt_parser.proofs.Balances as statements
 use Rattle.stmt_parser.proofs.Cuts.{shaded_at, quiet_forth, pairs_forth}
@@ -178,7 +178,9 @@ matched_under v w e (Pair_then inner ps) a b h = (
   h.0,
   sym (as_shown opens (λ n. refl) v w e a) ∙ h.1,
   matched_under v w e inner (a + 1) h.0 h.2,
-  sym (as_shown closes (λ n. refl) v w e h.0) ∙ h.3,
+  sym (as_shown (λ k. is_pair k (kind_in w h.0)) (λ n. refl) v w e a)
+      ∙ sym (as_shown (is_pair (kind_in v a)) (statements.pair_blind (kind_in v a)) v w e h.0)
+      ∙ h.3,
   matched_under v w e ps (h.0 + 1) b h.4,
 )
 
@@ -192,7 +194,9 @@ calm_under s v w e (Pair_then inner ps) a b h = (
       ∙ sym (as_shown (opener (s && behind_paren v a)) (λ n. refl) v w e a)
       ∙ h.1,
   matched_under v w e inner (a + 1) h.0 h.2,
-  sym (as_shown closes (λ n. refl) v w e h.0) ∙ h.3,
+  sym (as_shown (λ k. is_pair k (kind_in w h.0)) (λ n. refl) v w e a)
+      ∙ sym (as_shown (is_pair (kind_in v a)) (statements.pair_blind (kind_in v a)) v w e h.0)
+      ∙ h.3,
   calm_under s v w e ps (h.0 + 1) b h.4,
 )
 

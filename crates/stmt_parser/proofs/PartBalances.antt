@@ -11,8 +11,9 @@ use Rattle.c_parser.specs.Brackets.{closes, opens}
 use Rattle.c_parser.specs.Grammar.{past, name_by}
 use Rattle.c_parser.specs.Kinds.{kind_at, level_of, is_word, is_identifier, is_size, is_prefix, is_member, is_dot, is_equals, is_typedef, is_qualifier, is_specifying, is_atomic, is_opening, atomic_at, specifies_at, qualifies_at, may_name, hide, hide_kind, hide_word, hidden_one, is_tagging, names_it, plain_behind}
 use Rattle.c_parser.specs.Reading.{HoldTexts, HoldsComma, HoldQualifiers, HoldNames, HoldPointers, Holds, HoldsBehind, HoldBehinds, HoldsFront, HoldFronts, HoldBraces, HoldsInitial, HoldsPiece, HoldPieces, HoldsDesignator, HoldDesignators, HoldsAssociation, HoldAssociations, HoldSpecifying, HoldSpecifyings, HoldsNaming, HoldsDeclaring, HoldsGrouping, HoldsDeriving, HoldDerivings, HoldParameters, HoldRow, HoldsBound, HoldsTag, HoldsMember, HoldMembers, HoldsField, HoldFields, HoldsEnumerator, HoldEnumerators, HoldsAssertion, HoldsDeclarator, HoldsDirect}
-use Rattle.stmt_parser.specs.Balance.{Pairs, No_token, Token_then, Pair_then}
+use Rattle.stmt_parser.specs.Balance.{is_pair, Pairs, No_token, Token_then, Pair_then}
 use Rattle.stmt_parser.specs.Externals.{is_close_paren}
+use Rattle.stmt_parser.proofs.Balances.{pair_blind}
 
 -- no bracket and no `;`, and where it is asked for no `=` either
 abbrev pub plain : Bool → Kind → Bool
@@ -38,7 +39,7 @@ abbrev pub AreMatched : List Kind → Pairs → ℕ → ℕ → Type 0
 AreMatched ks No_token a b = b ≡ a
 AreMatched ks (Token_then ps) a b = ((opens (kind_at ks a) || closes (kind_at ks a)) ≡ false) × AreMatched ks ps (a + 1) b
 AreMatched ks (Pair_then inner ps) a b =
-    (c : ℕ) × (opens (kind_at ks a) ≡ true) × AreMatched ks inner (a + 1) c × (closes (kind_at ks c) ≡ true) × AreMatched ks ps (c + 1) b
+    (c : ℕ) × (opens (kind_at ks a) ≡ true) × AreMatched ks inner (a + 1) c × (is_pair (kind_at ks a) (kind_at ks c) ≡ true) × AreMatched ks ps (c + 1) b
 
 pub record Matched (ks : List Kind) (a b : ℕ) : Type 0 where
   pub pairs : Pairs
@@ -64,7 +65,7 @@ AreCalm s ks No_token a b = b ≡ a
 AreCalm s ks (Token_then ps) a b = (plain s (kind_at ks a) ≡ true) × AreCalm s ks ps (a + 1) b
 AreCalm s ks (Pair_then inner ps) a b =
     (c : ℕ) × (opener (s && is_close_paren (kind_at ks (a - 1))) (kind_at ks a) ≡ true) × AreMatched ks inner (a + 1) c
-    × (closes (kind_at ks c) ≡ true) × AreCalm s ks ps (c + 1) b
+    × (is_pair (kind_at ks a) (kind_at ks c) ≡ true) × AreCalm s ks ps (c + 1) b
 
 pub record Calm (s : Bool) (ks : List Kind) (a b : ℕ) : Type 0 where
   pub pairs : Pairs
@@ -149,11 +150,11 @@ opener_weaker true false k h = opener_loose k h
 opener_weaker false p k h = h
 
 pub pair : (s : Bool) → (ks : List Kind) → (a c b : ℕ) → (k l : Kind) → kind_at ks a ≡ k → opener s k ≡ true → Calm false ks (a + 1) c
-    → kind_at ks c ≡ l → closes l ≡ true → b ≡ c + 1 → Calm s ks a b
+    → kind_at ks c ≡ l → is_pair k l ≡ true → b ≡ c + 1 → Calm s ks a b
 pair s ks a c b k l e o x f g q =
     record {
       pairs = Pair_then x.pairs No_token;
-      are = (c, opener_weaker s (is_close_paren (kind_at ks (a - 1))) (kind_at ks a) (ap (opener s) e ∙ o), matching false ks x.pairs (a + 1) c x.are, ap closes f ∙ g, q);
+      are = (c, opener_weaker s (is_close_paren (kind_at ks (a - 1))) (kind_at ks a) (ap (opener s) e ∙ o), matching false ks x.pairs (a + 1) c x.are, (λ i. is_pair (e i) (f i)) ∙ g, q);
     }
 
 -- a brace that is no body's, since no `)` stands in front of it
@@ -171,7 +172,7 @@ braces s ks a c b u e x f q =
         c,
         ap (opener (s && is_close_paren (kind_at ks (a - 1)))) e ∙ unclosed_opens s (is_close_paren (kind_at ks (a - 1))) u,
         x.are,
-        ap closes f,
+        λ i. is_pair (e i) (f i),
         q,
       );
     }
@@ -304,7 +305,9 @@ behind_matched ks o (Pair_then inner ps) a b h = (
   h.0,
   sym (past_same opens (λ n. refl) ks o a) ∙ h.1,
   behind_matched ks o inner (a + 1) h.0 h.2,
-  sym (past_same closes (λ n. refl) ks o h.0) ∙ h.3,
+  sym (past_same (λ k. is_pair k (kind_at ks h.0)) (λ n. refl) ks o a)
+      ∙ sym (past_same (is_pair (kind_at (hide ks o) a)) (pair_blind (kind_at (hide ks o) a)) ks o h.0)
+      ∙ h.3,
   behind_matched ks o ps (h.0 + 1) b h.4,
 )
 
@@ -318,7 +321,9 @@ behind_one s ks o (Pair_then inner ps) a b h = (
       ∙ sym (past_same (opener (s && is_close_paren (kind_at (hide ks o) (a - 1)))) (λ n. refl) ks o a)
       ∙ h.1,
   behind_matched ks o inner (a + 1) h.0 h.2,
-  sym (past_same closes (λ n. refl) ks o h.0) ∙ h.3,
+  sym (past_same (λ k. is_pair k (kind_at ks h.0)) (λ n. refl) ks o a)
+      ∙ sym (past_same (is_pair (kind_at (hide ks o) a)) (pair_blind (kind_at (hide ks o) a)) ks o h.0)
+      ∙ h.3,
   behind_one s ks o ps (h.0 + 1) b h.4,
 )
 

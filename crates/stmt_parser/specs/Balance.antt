@@ -1,12 +1,21 @@
 -- Brackets in pairs, one inside another or one behind another.
-use Rattle.std.specs.Prelude.{◌≡◌, ℕ, ◌+◌, ◌||◌, true, false}
+use Rattle.std.specs.Prelude.{◌≡◌, ℕ, ◌+◌, ◌||◌, Bool, true, false}
 use Rattle.tree_data.specs.Statements.{Statement}
 use Rattle.tree_data.specs.Trees.{Tree, Heading}
+use Rattle.c_parser.specs.declared.kinds.Kind.{Kind}
+use Rattle.c_parser.specs.declared.kinds.Kind.TheVariants.{OpenParen, CloseParen, OpenBracket, CloseBracket, OpenBrace, CloseBrace}
 use Rattle.c_parser.specs.Brackets.{opens, closes}
 use Rattle.c_parser.specs.Parts.{HoldsDeclaration}
 use Rattle.c_parser.specs.Reading.{Reads}
 use Rattle.c_parser.specs.Words.{Words, shown, kind_in}
 use Rattle.stmt_parser.specs.Reading.{HoldsStatement}
+
+-- the second bracket closes what the first one opens
+abbrev pub is_pair : Kind → Kind → Bool
+is_pair OpenParen CloseParen = true
+is_pair OpenBracket CloseBracket = true
+is_pair OpenBrace CloseBrace = true
+is_pair _ _ = false
 
 -- no token is left; one that is no bracket, and what stands behind it; a pair, with what stands in it and behind it
 pub data Pairs : Type 0 where
@@ -18,7 +27,7 @@ abbrev pub ArePairs : Words → Pairs → ℕ → ℕ → Type 0
 ArePairs w No_token a b = b ≡ a
 ArePairs w (Token_then ps) a b = (opens (kind_in w a) || closes (kind_in w a) ≡ false) × ArePairs w ps (a + 1) b
 ArePairs w (Pair_then inner ps) a b =
-    (c : ℕ) × (opens (kind_in w a) ≡ true) × ArePairs w inner (a + 1) c × (closes (kind_in w c) ≡ true) × ArePairs w ps (c + 1) b
+    (c : ℕ) × (opens (kind_in w a) ≡ true) × ArePairs w inner (a + 1) c × (is_pair (kind_in w a) (kind_in w c) ≡ true) × ArePairs w ps (c + 1) b
 
 -- brackets are balanced from a to b
 pub record AreBalanced (w : Words) (a b : ℕ) : Type 0 where

@@ -12,7 +12,7 @@ use Rattle.c_parser.specs.Heads.{HoldsHead}
 use Rattle.c_parser.specs.Kinds.{kind_at, is_equals}
 use Rattle.c_parser.specs.Parts.{HoldsDeclaration, is_declaration}
 use Rattle.c_parser.specs.Words.{Words, kind_in}
-use Rattle.stmt_parser.specs.Balance.{Pairs, No_token, Token_then, Pair_then, ArePairs}
+use Rattle.stmt_parser.specs.Balance.{is_pair, Pairs, No_token, Token_then, Pair_then, ArePairs}
 use Rattle.stmt_parser.specs.Bodies.{is_block}
 use Rattle.stmt_parser.specs.Reading.{HoldsStatement}
 
@@ -78,7 +78,7 @@ AreQuiet w (Token_then ps) a b closed assigned closed' assigned' =
     × AreQuiet w ps (a + 1) b false (assigned || is_equals (kind_in w a)) closed' assigned'
 AreQuiet w (Pair_then inner ps) a b closed assigned closed' assigned' =
     (c : ℕ) × (opens (kind_in w a) ≡ true) × ((is_open_brace (kind_in w a) && closed && not assigned) ≡ false)
-    × ArePairs w inner (a + 1) c × (closes (kind_in w c) ≡ true)
+    × ArePairs w inner (a + 1) c × (is_pair (kind_in w a) (kind_in w c) ≡ true)
     × AreQuiet w ps (c + 1) b (is_close_paren (kind_in w c)) assigned closed' assigned'
 
 pub record IsQuiet (w : Words) (a b : ℕ) (closed assigned : Bool) : Type 0 where
