@@ -24,12 +24,12 @@ use Rattle.elab_state.specs.Binds.{bound}
 use Rattle.elab_state.specs.declared.made.Made.{Made}
 use Rattle.elab_state.specs.Doings.{with_entity, with_fault}
 use Rattle.elab_state.specs.Names.{occurs}
-use Rattle.elab_state.specs.Tokens.{spelling, token}
+use Rattle.elab_state.specs.Tokens.{spelling}
 use Rattle.elab_core.specs.declared.shapes.Gathered.{Gathered}
 use Rattle.elab_core.specs.declared.shapes.Step.{Step}
 use Rattle.elab_core.specs.declared.shapes.Step.TheVariants as step
 use Rattle.elab_core.specs.declared.shapes.Typed.{Typed}
-use Rattle.elab_state.specs.Contexts.{Context}
+use Rattle.elab_state.specs.Contexts.{Context, own_token}
 use Rattle.elab_core.specs.Specifiers.{is_unset, no_type, typed}
 
 -- ---- their scope (6.2.1p4)
@@ -89,7 +89,7 @@ abbrev pub parts : Context → Gathered → ℕ → Option ℕ → Typed → Dec
 parts c g at own t = record {
   name = name_of c own;
   at = at;
-  tok = token c.file at;
+  tok = own_token c at;
   made = false;
   storage = g.storage;
   inline = g.inline;

@@ -23,11 +23,11 @@ use Rattle.elab_state.specs.declared.made.Made.{Made}
 use Rattle.elab_state.specs.Doings.{Doing, fault, follow, gives, with_entity, with_fault}
 use Rattle.elab_state.specs.Looks.{told, with_tag}
 use Rattle.elab_state.specs.Names.{denoted, occurs, used}
-use Rattle.elab_state.specs.Tokens.{own_tag, spelling, token}
+use Rattle.elab_state.specs.Tokens.{spelling}
 use Rattle.elab_core.specs.declared.shapes.Typed.{Typed}
 use Rattle.elab_core.specs.declared.tags.Mention.{Mention}
 use Rattle.elab_core.specs.declared.tags.Mention.TheVariants as mention
-use Rattle.elab_state.specs.Contexts.{Context}
+use Rattle.elab_state.specs.Contexts.{Context, own_tag, own_token}
 use Rattle.elab_core.specs.Specifiers.{typed}
 
 -- ---- typedef names
@@ -81,13 +81,13 @@ unknown_info k name = record { kind = k; name = Some name; members = None; layou
 abbrev pub tag_entity : Context → TagKind → ℕ → Entity
 tag_entity c k n = record {
   name = spelling c.tokens n;
-  kind = kind.Tag (own_tag c.item n) (unknown_info k (spelling c.tokens n));
-  ty = of_kind k (own_tag c.item n);
+  kind = kind.Tag (own_tag c n) (unknown_info k (spelling c.tokens n));
+  ty = of_kind k (own_tag c n);
   qual = unqualified;
   linkage = linkage.None;
   life = life.Without;
   value = None;
-  anchor = anchor.Local (token c.file n);
+  anchor = anchor.Local (own_token c n);
 }
 
 abbrev pub tag_binding : Entity → Binding
@@ -98,10 +98,10 @@ bound_tag e m = bound (tag_binding e) m
 
 -- 6.2.1p7: its scope begins here
 abbrev pub declared_tag : Context → TagKind → ℕ → Entity → Made → Made
-declared_tag c k n e m = with_entity e (with_tag (own_tag c.item n) (unknown_info k e.name) (bound_tag e (occurs c n e.anchor role.Declares m)))
+declared_tag c k n e m = with_entity e (with_tag (own_tag c n) (unknown_info k e.name) (bound_tag e (occurs c n e.anchor role.Declares m)))
 
 abbrev pub new_tag : Context → TagKind → ℕ → Made → Option Typed × Made
-new_tag c k n m = (Some (typed (of_kind k (own_tag c.item n)) unqualified), declared_tag c k n (tag_entity c k n) m)
+new_tag c k n m = (Some (typed (of_kind k (own_tag c n)) unqualified), declared_tag c k n (tag_entity c k n) m)
 
 abbrev pub tag_fault : ℕ → Context → ℕ → Made → Made
 tag_fault rule c n m = with_fault (fault rule n (spelling c.tokens n ∷ []) []) m

@@ -8,7 +8,7 @@ ghost use Rattle.type_data.specs.Types as types_of;
 use crate::shapes::{Gathered, Step, Typed};
 use crate::specifiers::{is_unset, no_type};
 use decl_rules::{DeclParts, declare_one};
-use elab_state::{Around, Made, bind, mark, name_at, token};
+use elab_state::{Around, Made, bind, mark, name_at, own_token};
 use init_rules::Stack;
 use scope_tables::{Anchor, Binding, Entity, Role, ScopeKind};
 use shared_text::Name;
@@ -113,7 +113,7 @@ fn parts(
     ensures { IfOk result (λ d. d ≡ spec.parts (context_of around.now) gathered.now at own typed) }
 {
     let name = own_name(alloc, around, own)?;
-    let tok = token(around.file, at)?;
+    let tok = own_token(around, at)?;
     Ok(DeclParts {
         name,
         at,

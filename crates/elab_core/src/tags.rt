@@ -3,15 +3,17 @@ ghost use Rattle.std.specs.Prelude.{◌≡◌, IfOk, OnOk, option_map};
 ghost use Rattle.elab_core.specs.Specifiers;
 ghost use Rattle.elab_core.specs.Tags as spec;
 ghost use Rattle.elab_state.specs.Comes.{Comes};
+ghost use Rattle.elab_state.specs.Contexts.{own_tag as own_tag_of};
 ghost use Rattle.elab_state.specs.Looks as looks;
 ghost use Rattle.elab_state.specs.Seen.{context_of, told_of};
-ghost use Rattle.elab_state.specs.Tokens.{own_tag as own_tag_of, spelling as spelling_of};
+ghost use Rattle.elab_state.specs.Tokens.{spelling as spelling_of};
 
 use crate::names::found_at;
 use crate::operators::keyword_kind;
 use crate::shapes::Typed;
 use elab_state::{
-    Around, Halt, Made, bind, denoted, mark, name_at, own_tag, spelling, tell, token, use_entity,
+    Around, Halt, Made, bind, denoted, mark, name_at, own_tag, own_token, spelling, tell,
+    use_entity,
 };
 use scope_tables::{Anchor, Binding, Entity, EntityKind, Life, Linkage, Role};
 use shared_list::Listing;
@@ -141,10 +143,10 @@ fn tag_entity(
     ensures { IfOk result (λ e. e ≡ spec.tag_entity (context_of around.now) kind at) }
 {
     let name = name_at(alloc, around.tokens, at)?;
-    let id = own_tag(around.item, at)?;
-    let ty = of_kind(kind, own_tag(around.item, at)?);
+    let id = own_tag(around, at)?;
+    let ty = of_kind(kind, own_tag(around, at)?);
     let info = unknown_info(kind, &name)?;
-    let tok = token(around.file, at)?;
+    let tok = own_token(around, at)?;
     Ok(Entity {
         name,
         kind: EntityKind::Tag(id, info),
@@ -180,9 +182,9 @@ fn know_tag(
     at: u32,
     name: &Name,
 ) -> Result<(), AllocError>
-    ensures { OnOk result (made.new ≡ looks.with_tag (own_tag_of (context_of around.now).item at) (spec.unknown_info kind name.now) made.old) }
+    ensures { OnOk result (made.new ≡ looks.with_tag (own_tag_of (context_of around.now) at) (spec.unknown_info kind name.now) made.old) }
 {
-    let id = own_tag(around.item, at)?;
+    let id = own_tag(around, at)?;
     let info = unknown_info(kind, name)?;
     made.tags.insert(id, info)?;
     Ok(())
@@ -215,7 +217,7 @@ fn new_tag(
     ensures { IfOk result (λ t. (t, made.new) ≡ spec.new_tag (context_of around.now) kind at made.old) }
 {
     let entity = tag_entity(alloc, around, kind, at)?;
-    let id = own_tag(around.item, at)?;
+    let id = own_tag(around, at)?;
     declare_tag(alloc, around, made, kind, at, entity)?;
     Ok(Some(typed(of_kind(kind, id))))
 }

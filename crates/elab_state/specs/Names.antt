@@ -11,9 +11,9 @@ use Rattle.scope_tables.specs.declared.entities.Role.{Role}
 use Rattle.scope_tables.specs.declared.entities.Role.TheVariants as role
 use Rattle.type_data.specs.declared.members.Space.{Space}
 use Rattle.elab_state.specs.declared.wants.Wanted.{Wanted}
-use Rattle.elab_state.specs.Contexts.{Context}
+use Rattle.elab_state.specs.Contexts.{Context, own_token}
 use Rattle.elab_state.specs.Doings.{Doing, Made, gives, with_occ, with_used}
-use Rattle.elab_state.specs.Tokens.{spelling, token}
+use Rattle.elab_state.specs.Tokens.{spelling}
 use Rattle.elab_state.specs.Wants.{wanted}
 
 -- in the scopes of the part, else in those round it
@@ -29,7 +29,7 @@ abbrev pub denoted : Context → Space → List ℕ → Made → Doing (Option E
 denoted c space name m = or_asked (visible c space name m) (wanted space name) m
 
 abbrev pub occ : Context → ℕ → Anchor → Role → Occ
-occ c n a r = record { tok = token c.file n; anchor = a; role = r }
+occ c n a r = record { tok = own_token c n; anchor = a; role = r }
 
 -- 6.4.2.2: `__func__`, declared or used, is no occurrence
 unfoldable pub occurs : Context → ℕ → Anchor → Role → Made → Made

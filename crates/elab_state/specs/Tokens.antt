@@ -6,7 +6,6 @@ use Rattle.tok_data.specs.declared.tokens.PpKind.{PpKind}
 use Rattle.tok_data.specs.declared.tokens.PpKind.TheVariants as pp
 use Rattle.tok_data.specs.Keywords.{is_keyword}
 use Rattle.type_data.specs.declared.names.ItemName.{ItemName}
-use Rattle.type_data.specs.declared.names.TagId.{TagId}
 
 abbrev pub spelled : Option OutToken → List ℕ
 spelled (Some t) = t.spelling
@@ -38,7 +37,3 @@ text_of item = item.label ++ (codes "#" ++ decimal item.nth)
 
 abbrev pub token : List ℕ → ℕ → TokId
 token file n = record { file = file; at = n }
-
--- a tag that the item declares first is told by its token there
-abbrev pub own_tag : ItemName → ℕ → TagId
-own_tag item n = record { item = item; at = n }

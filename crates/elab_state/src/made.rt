@@ -9,7 +9,8 @@ use shared_text::Name;
 use std::alloc::{AllocError, Global};
 use type_data::{Fault, Tags};
 
-/// What a judgement of a part of an item has made so far. Tokens are named by their numbers in the item.
+/// What a judgement of a part of an item has made so far. Tokens are named by their numbers in the item, those of faults by the numbers of
+/// trees.
 #[derive(Drop)]
 pub struct Made {
     /// The scopes of the part, the outermost of which it was begun with.
@@ -21,7 +22,7 @@ pub struct Made {
     /// What it declares, in every scope.
     pub entities: Grown<Entity>,
     pub occs: Grown<Occ>,
-    /// In the order in which they were found.
+    /// In the order in which they were found. Their tokens are numbered as trees number them.
     pub faults: Grown<Fault>,
     /// The names of entities with internal linkage, as often as they are used where that counts.
     pub used: Grown<Name>,

@@ -8,7 +8,8 @@ use crate::around::Around;
 use crate::halt::Halt;
 use crate::known::Known;
 use crate::made::Made;
-use crate::tokens::{spelling, token};
+use crate::numbers::own_token;
+use crate::tokens::spelling;
 use crate::wants::Wanted;
 use scope_tables::{Anchor, Entity, Linkage, Occ, Role};
 use shared_text::Name;
@@ -74,7 +75,7 @@ pub fn denoted<'a>(
 fn occ(around: &Around<'_>, at: u32, anchor: &Anchor, role: Role) -> Result<Occ, AllocError>
     ensures { IfOk result (λ o. o ≡ spec.occ (context_of around.now) at anchor.now role) }
 {
-    let tok = token(around.file, at)?;
+    let tok = own_token(around, at)?;
     let anchor = anchor.share()?;
     Ok(Occ { tok, anchor, role })
 }

@@ -5,7 +5,7 @@ ghost use Rattle.elab_state.specs.Tokens as spec;
 use shared_text::Name;
 use std::alloc::{AllocError, Global};
 use tok_data::{FileId, OutToken, PpKind, TokId, is_keyword};
-use type_data::{ItemName, TagId};
+use type_data::ItemName;
 
 /// The spelling of a token; empty where there is none of this number.
 pub fn spelling(tokens: &[OutToken], at: u32) -> &str
@@ -64,18 +64,4 @@ pub fn token(file: &FileId, at: u32) -> Result<TokId, AllocError>
 {
     let file = file.copy()?;
     Ok(TokId { file, at })
-}
-
-/// The tag that an item declares at a token.
-pub fn own_tag(item: &ItemName, at: u32) -> Result<TagId, AllocError>
-    ensures { IfOk result (λ id. id ≡ spec.own_tag item.now at) }
-{
-    let label = item.label.share()?;
-    Ok(TagId {
-        item: ItemName {
-            label,
-            nth: item.nth,
-        },
-        at,
-    })
 }
