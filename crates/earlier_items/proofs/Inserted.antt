@@ -1,0 +1,51 @@
+-- An answer that is put in is what its question is answered by from then on, and no other.
+use Rattle.std.proofs.Common.{rules, ◌≡◌, refl, sym, ap, ◌∙◌, Bool, true, false, List, [], ◌∷◌, Option, Some, None, cond, if◌then◌else◌}
+use Rattle.std.specs.Bool.{Decides}
+use Rattle.std.specs.Cmp.{IsEquivalence, decided}
+use Rattle.std.specs.Map.{lookup}
+use Rattle.indexmap.specs.IndexMap.{insert_entry}
+use Rattle.scope_tables.specs.declared.entities.Entity.{Entity}
+use Rattle.elab_state.specs.declared.wants.Wanted.{Wanted}
+use Rattle.elab_state.specs.Same.{same_wanted}
+use Rattle.elab_state.specs.Wants.{Told}
+use Rattle.earlier_items.specs.Before.{or_nothing, said}
+
+twice : {X : Type 0} → (b : Bool) → (x y z : X) → cond b x z ≡ cond b x (cond b y z)
+twice true x y z = refl
+twice false x y z = refl
+
+apart : {X : Type 0} → (a b : Bool) → (b ≡ true → a ≡ false) → (x y z : X) → cond a x (cond b y z) ≡ cond b y (cond a x z)
+apart true true h x y z = let bad : ⊥ = let no : true ≡ false = h refl in cc in absurd bad
+apart true false h x y z = refl
+apart false true h x y z = refl
+apart false false h x y z = refl
+
+module _ {K X : Type 0} {eq : K → K → Bool} (laws : IsEquivalence eq) (k q : K) (v : X) where
+  pub looked : (es : List (K × X)) → lookup (eq q) (insert_entry eq es k v) ≡ cond (eq k q) (Some v) (lookup (eq q) es)
+  looked [] = ap (λ b. cond b (Some v) None) (laws.symm q k)
+  looked (e ∷ es) = place (eq k e.0) refl (looked es)
+    where
+      place : (b : Bool) → eq k e.0 ≡ b → lookup (eq q) (insert_entry eq es k v) ≡ cond (eq k q) (Some v) (lookup (eq q) es)
+          → lookup (eq q) (if b then (e.0, v) ∷ es else e ∷ insert_entry eq es k v) ≡ cond (eq k q) (Some v) (cond (eq q e.0) (Some e.1) (lookup (eq q) es))
+      place true t later =
+          let is : eq q e.0 ≡ eq k q = laws.symm q e.0 ∙ sym (laws.congr k e.0 q t) in
+          ap (λ b. cond b (Some v) (lookup (eq q) es)) is
+          ∙ twice (eq k q) (Some v) (Some e.1) (lookup (eq q) es)
+          ∙ ap (λ b. cond (eq k q) (Some v) (cond b (Some e.1) (lookup (eq q) es))) (sym is)
+      place false n later =
+          ap (cond (eq q e.0) (Some e.1)) later
+          ∙ apart (eq q e.0) (eq k q) (λ y. sym (laws.congr k q e.0 y) ∙ n) (Some e.1) (Some v) (lookup (eq q) es)
+
+pub wanted_decides : (a b : Wanted) → Decides (same_wanted a b) (a ≡ b)
+wanted_decides a b = search rules
+
+nothing_of : (b : Bool) → (e : Entity) → (other : Option (Option Entity)) → or_nothing (cond b (Some (Some e)) other) ≡ cond b (Some e) (or_nothing other)
+nothing_of true e other = refl
+nothing_of false e other = refl
+
+pub said_then : (w q : Wanted) → (e : Entity) → (told : Told)
+    → said (insert_entry same_wanted told w (Some e)) q ≡ (if same_wanted w q then Some e else said told q)
+unfolding said
+said_then w q e told =
+    ap or_nothing (looked (decided same_wanted wanted_decides) w q (Some e) told)
+    ∙ nothing_of (same_wanted w q) e (lookup (same_wanted q) told)

@@ -1,0 +1,83 @@
+// The items in front of an item.
+ghost use Rattle.std.specs.Prelude.{◌≡◌, [], ◌∷◌, ◌++◌, List, IfOk, OnOk, option_map};
+ghost use Rattle.earlier_items.specs.Before.{AreBefore, said};
+ghost use Rattle.earlier_items.specs.Typedefs as types;
+ghost use Rattle.scope_tables.specs.declared.meanings.HeadMeaning.{HeadMeaning as Head};
+
+use crate::adding::{bind_all, note_tags, nothing, said_of};
+use crate::typedefs::typedef_names;
+use elab_state::{Known, Wanted};
+use scope_tables::{Binding, Entity, HeadMeaning};
+use shared_text::Name;
+use std::alloc::{AllocError, Global};
+use std::marker::Model;
+use tok_data::OutToken;
+
+/// What the items that were added, in their order, declare at file scope. What is asked of them is looked up at a constant cost. Contracts
+/// see the answers.
+#[derive(Drop)]
+pub struct Earlier {
+    known: Known,
+}
+
+impl Model for Earlier {
+    ghost use Rattle.std.specs.Prelude.{List, Option};
+    ghost use Rattle.std.specs.Coded.{codes};
+    ghost use Rattle.type_data.specs.contracts.types.CType as types;
+    ghost use Rattle.scope_tables.specs.declared.entities.Entity.{Entity};
+    ghost use Rattle.elab_state.specs.declared.wants.Wanted.{Wanted};
+
+    ghost Value = { List (Wanted × Option Entity) };
+
+    ghost coded = { Prim.hlevel (codes, types.the_row.coded) };
+
+    ghost view = { λ e. e.known };
+}
+
+impl Earlier {
+    /// No item was added.
+    pub fn new(alloc: Global) -> Earlier
+        ensures { AreBefore [] result }
+    {
+        Earlier {
+            known: nothing(alloc),
+        }
+    }
+
+    /// An item more, with this head. Its cost is linear in what the head declares. It fails for want of memory alone, and isn't used
+    /// again then.
+    pub fn add(&mut self, alloc: Global, head: &HeadMeaning) -> Result<(), AllocError>
+        ensures { OnOk result ((front : List Head) → AreBefore front self.old → AreBefore (front ++ head.now ∷ []) self.new) }
+    {
+        bind_all(alloc, &mut self.known, head.declared.as_slice())?;
+        note_tags(alloc, &mut self.known, head.entities.as_slice())?;
+        Ok(())
+    }
+
+    /// What a name denotes behind these items; for a tag's own name space under the empty name, the tag as they leave it.
+    pub fn get(&self, wanted: &Wanted) -> Option<&Entity>
+        ensures { option_map (λ e. e.now) result ≡ said self.now wanted.now }
+    {
+        said_of(&self.known, wanted)
+    }
+
+    /// All that they declare, as answers.
+    pub fn known(&self) -> &Known
+        ensures { result.now ≡ self.now }
+    {
+        &self.known
+    }
+
+    /// The typedef names among the identifiers of the tokens of an item behind these, each once, in the order of first tokens. In a body
+    /// the names that the function's parameters bind denote what these bind. Its cost is linear in the number of tokens and parameters.
+    pub fn typedef_names(
+        &self,
+        alloc: Global,
+        params: &[Binding],
+        tokens: &[OutToken],
+    ) -> Result<Vec<Name>, AllocError>
+        ensures { IfOk result (λ names. names.items ≡ types.typedef_names (said self.now) params.now tokens.now) }
+    {
+        typedef_names(alloc, &self.known, params, tokens)
+    }
+}
