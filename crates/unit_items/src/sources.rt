@@ -1,12 +1,11 @@
 // The tokens of items as tokens of texts.
 ghost use Rattle.std.specs.Prelude.{◌≡◌, ℕ, List, Some, None, bytes_eq, option_map, if◌then◌else◌, IfOk, OnOk};
 ghost use Rattle.std.specs.Option.{option_or};
-ghost use Rattle.elab_state.specs.Tokens.{text_of};
 ghost use Rattle.unit_items.specs.Maps.{start_at};
 ghost use Rattle.unit_items.specs.Sources as spec;
 
+use crate::files::item_file;
 use crate::items::Item;
-use elab_state::item_file;
 use scope_tables::{Anchor, Occ, Role};
 use std::alloc::{AllocError, Global};
 use std::collections::HashMap;
@@ -147,6 +146,13 @@ impl<'a> Sources<'a> {
             items,
             starts,
         })
+    }
+
+    /// The items.
+    pub fn items(&self) -> &[Item]
+        ensures { result.now ≡ self.now.items }
+    {
+        self.items
     }
 
     /// The output token that a token of an item is; None where the unit has no such item, or no token there.
