@@ -1,0 +1,3 @@
+mod Arms
+mod Chains
+mod Layers
