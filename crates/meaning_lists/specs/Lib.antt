@@ -1,0 +1,6 @@
+pub mod Bindings
+pub mod Entities
+pub mod Firsts
+pub mod Found
+pub mod Names
+pub mod Order

@@ -1,0 +1,14 @@
+-- The order of a meaning's lists: by the numbers of tokens. What has the same token stays in the order in which it was found.
+use Rattle.std.specs.Prelude.{ℕ, nat_lt, List, [], ◌∷◌, map, if◌then◌else◌}
+
+-- in front of all that stands further on
+abbrev pub put : {A : Type 0} → ℕ × A → List (ℕ × A) → List (ℕ × A)
+put p [] = p ∷ []
+put p (q ∷ qs) = if nat_lt p.0 q.0 then p ∷ q ∷ qs else q ∷ put p qs
+
+abbrev pub all_put : {A : Type 0} → List (ℕ × A) → List (ℕ × A) → List (ℕ × A)
+all_put done [] = done
+all_put done (p ∷ ps) = all_put (put p done) ps
+
+abbrev pub by_place : {A : Type 0} → List (ℕ × A) → List A
+by_place ps = map (λ p. p.1) (all_put [] ps)

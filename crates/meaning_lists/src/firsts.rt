@@ -1,0 +1,129 @@
+// Where things stand: by the first tokens that denote them.
+ghost use Rattle.std.specs.Prelude.{◌≡◌, map, IfOk, OnOk};
+ghost use Rattle.meaning_lists.specs.Firsts as spec;
+
+use indexmap::IndexMap;
+use scope_tables::{Anchor, Binding, Entity, Occ};
+use std::alloc::{AllocError, Global};
+use std::marker::Model;
+use type_data::Fault;
+
+// The first token of each anchor. Contracts see the list of what the first occurrences say.
+#[derive(Drop)]
+pub(crate) struct Firsts {
+    map: IndexMap<Anchor, u32>,
+}
+
+impl Model for Firsts {
+    ghost use Rattle.std.specs.Prelude.{List, ℕ};
+    ghost use Rattle.scope_tables.specs.declared.entities.Anchor.{Anchor};
+
+    ghost Value = { List (Anchor × ℕ) };
+
+    ghost view = { λ f. f.map.entries };
+}
+
+impl Firsts {
+    fn new(alloc: Global) -> Firsts
+        ensures { result ≡ spec.none_first }
+    {
+        Firsts {
+            map: IndexMap::new(alloc),
+        }
+    }
+
+    fn note(&mut self, occ: &Occ) -> Result<(), AllocError>
+        ensures { OnOk result (self.new ≡ spec.with_occ self.old occ.now) }
+    {
+        if self.map.get(&occ.anchor).is_some() {
+            return Ok(());
+        }
+        let anchor = occ.anchor.share()?;
+        self.map.insert(anchor, occ.tok.at)?;
+        Ok(())
+    }
+
+    fn of(&self, anchor: &Anchor) -> u32
+        ensures { result ≡ spec.first_of self.now anchor.now }
+    {
+        match self.map.get(anchor) {
+            Some(at) => *at,
+            None => own_place(anchor),
+        }
+    }
+}
+
+fn own_place(anchor: &Anchor) -> u32
+    ensures { result ≡ spec.own_place anchor.now }
+{
+    match anchor {
+        Anchor::Local(tok) => tok.at,
+        Anchor::Made(tok, _) => tok.at,
+        Anchor::External(_) => 0,
+        Anchor::Macro(_) => 0,
+    }
+}
+
+// By occurrences in order.
+pub(crate) fn first_places(alloc: Global, occs: &[Occ]) -> Result<Firsts, AllocError>
+    ensures { IfOk result (λ f. f ≡ spec.firsts occs.now) }
+{
+    let mut firsts = Firsts::new(alloc);
+    let mut rest = occs;
+    'occs: while let Some((occ, others)) = rest.split_first() {
+        firsts.note(occ)?;
+        rest = others;
+    }
+    Ok(firsts)
+}
+
+pub(crate) fn placed_occs(alloc: Global, occs: Vec<Occ>) -> Result<Vec<(u32, Occ)>, AllocError>
+    ensures { IfOk result (λ v. v.items ≡ map spec.placed_occ occs.items) }
+{
+    let mut out = Vec::new(alloc);
+    'occs: for occ in occs {
+        out.push((occ.tok.at, occ))?;
+    }
+    Ok(out)
+}
+
+pub(crate) fn placed_faults(
+    alloc: Global,
+    faults: Vec<Fault>,
+) -> Result<Vec<(u32, Fault)>, AllocError>
+    ensures { IfOk result (λ v. v.items ≡ map spec.placed_fault faults.items) }
+{
+    let mut out = Vec::new(alloc);
+    'faults: for fault in faults {
+        out.push((fault.at, fault))?;
+    }
+    Ok(out)
+}
+
+pub(crate) fn placed_entities(
+    alloc: Global,
+    firsts: &Firsts,
+    entities: Vec<Entity>,
+) -> Result<Vec<(u32, Entity)>, AllocError>
+    ensures { IfOk result (λ v. v.items ≡ map (spec.placed_entity firsts.now) entities.items) }
+{
+    let mut out = Vec::new(alloc);
+    'entities: for entity in entities {
+        out.push((firsts.of(&entity.anchor), entity))?;
+    }
+    Ok(out)
+}
+
+pub(crate) fn placed_bindings(
+    alloc: Global,
+    firsts: &Firsts,
+    bindings: Vec<Binding>,
+) -> Result<Vec<(u32, Binding)>, AllocError>
+    ensures { IfOk result (λ v. v.items ≡ map (spec.placed_binding firsts.now) bindings.items) }
+{
+    let mut out = Vec::new(alloc);
+    'bindings: for binding in bindings {
+        out.push((firsts.of(&binding.entity.anchor), binding))?;
+    }
+    Ok(out)
+}
