@@ -1,0 +1,12 @@
+pub mod Lists
+pub mod Sites
+pub mod Order
+pub mod Faults
+pub mod Occurrences
+pub mod Entities
+pub mod Tags
+pub mod Symbols
+pub mod Exports
+pub mod Meanings
+pub mod Kept
+pub mod Seen

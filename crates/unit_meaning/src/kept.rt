@@ -1,0 +1,103 @@
+// What a unit says of its names, found at a constant cost.
+ghost use Rattle.std.specs.Prelude.{◌≡◌, IfOk, is_some, option_map};
+ghost use Rattle.unit_meaning.specs.Exports as spec;
+
+use crate::firsts::{first_tokens, token_of};
+use crate::marks::HeadMarks;
+use crate::statements::{Asked, first_stated, outside};
+use scope_tables::{HeadMeaning, Occ};
+use shared_text::Name;
+use std::alloc::{AllocError, Global};
+use std::collections::HashMap;
+use std::marker::Model;
+use tok_data::TokId;
+
+/// The occurrences and heads of a unit, of which each question on a name is answered at a constant cost. Contracts see these.
+#[derive(Drop)]
+pub(crate) struct Kept<'a> {
+    occs: &'a [Occ],
+    heads: &'a [HeadMeaning],
+    marks: &'a [HeadMarks],
+    firsts: HashMap<Name, TokId>,
+    defined: HashMap<Name, TokId>,
+    tentative: HashMap<Name, TokId>,
+    outside: HashMap<Name, TokId>,
+}
+
+impl<'a> Model for Kept<'a> {
+    ghost use Rattle.std.specs.Coded.{codes};
+    ghost use Rattle.type_data.specs.contracts.types.CType as types;
+    ghost use Rattle.unit_meaning.specs.Kept.{AreKept, Named, at};
+
+    ghost Value = { Named };
+
+    ghost coded = { Prim.hlevel (codes, types.the_row.coded) };
+
+    ghost view = { λ k. record { occs = k.occs.now; heads = k.heads.now; marks = k.marks.now } };
+
+    ghost invariant = { λ k. AreKept (record { occs = k.occs.now; heads = k.heads.now; marks = k.marks.now }) (at k.firsts) (at k.defined) (at k.tentative) (at k.outside) };
+}
+
+impl<'a> Kept<'a> {
+    pub(crate) fn new(
+        alloc: Global,
+        occs: &'a [Occ],
+        heads: &'a [HeadMeaning],
+        marks: &'a [HeadMarks],
+    ) -> Result<Kept<'a>, AllocError>
+        ensures { IfOk result (λ k. k ≡ record { occs = occs.now; heads = heads.now; marks = marks.now }) }
+    {
+        let firsts = first_tokens(alloc, occs)?;
+        let defined = first_stated(alloc, Asked::Defined, heads)?;
+        let tentative = first_stated(alloc, Asked::Tentative, heads)?;
+        let outside = outside(alloc, heads, marks)?;
+        Ok(Kept {
+            occs,
+            heads,
+            marks,
+            firsts,
+            defined,
+            tentative,
+            outside,
+        })
+    }
+
+    /// The first token of a name with external linkage.
+    pub(crate) fn first_token(&self, name: &Name) -> Option<&TokId>
+        ensures { option_map (λ t. t.now) result ≡ spec.first_token name.now self.now.occs }
+    {
+        token_of(&self.firsts, name)
+    }
+
+    /// Some head defines it tentatively.
+    pub(crate) fn is_tentative(&self, name: &Name) -> bool
+        ensures { result ≡ is_some (spec.first_stated spec.is_tentative name.now self.now.heads) }
+    {
+        token_of(&self.tentative, name).is_some()
+    }
+
+    fn is_outside(&self, name: &Name) -> bool
+        ensures { result ≡ is_some (spec.outside name.now self.now.heads self.now.marks) }
+    {
+        token_of(&self.outside, name).is_some()
+    }
+
+    fn defining(&self, name: &Name) -> Option<&TokId>
+        ensures { option_map (λ t. t.now) result ≡ spec.either (spec.first_stated spec.defines name.now self.now.heads) (spec.first_stated spec.is_tentative name.now self.now.heads) }
+    {
+        match token_of(&self.defined, name) {
+            Some(tok) => Some(tok),
+            None => token_of(&self.tentative, name),
+        }
+    }
+
+    /// The token that defines it for other units.
+    pub(crate) fn definition(&self, name: &Name) -> Option<&TokId>
+        ensures { option_map (λ t. t.now) result ≡ spec.definition name.now self.now.heads self.now.marks }
+    {
+        if !self.is_outside(name) {
+            return None;
+        }
+        self.defining(name)
+    }
+}

@@ -1,0 +1,20 @@
+// What a unit means, by what the heads and bodies of its items mean (ISO C11 5.1.1.1, 6.2, 6.9).
+#![tactic(auto)]
+
+mod elaborated;
+mod entities;
+mod exports;
+mod faults;
+mod firsts;
+mod kept;
+mod marks;
+mod meaning;
+mod occurrences;
+mod order;
+mod sites;
+mod statements;
+mod symbols;
+mod tags;
+
+pub use marks::{HeadMarks, HeadSymbol};
+pub use meaning::meaning_of;

@@ -1,0 +1,129 @@
+// What a unit means.
+ghost use Rattle.std.specs.Prelude.{◌≡◌, IfOk};
+ghost use Rattle.unit_meaning.specs.Entities.{entities as declared};
+ghost use Rattle.unit_meaning.specs.Meanings as spec;
+ghost use Rattle.unit_meaning.specs.Occurrences as denoted;
+ghost use Rattle.unit_meaning.specs.Seen.{elaborated_of};
+ghost use Rattle.unit_meaning.specs.Tags.{tags as known};
+
+use crate::elaborated::Elaborated;
+use crate::entities::entities;
+use crate::exports::names;
+use crate::faults::{Showing, add_pairs, of_items};
+use crate::kept::Kept;
+use crate::marks::HeadMarks;
+use crate::occurrences::{in_items, of_unit};
+use crate::sites::all_reached;
+use crate::symbols::symbols;
+use crate::tags::tags;
+use scope_tables::{BodyMeaning, Entity, Exports, HeadMeaning, Occ, UnitMeaning};
+use shared_list::Listing;
+use std::alloc::{AllocError, Global};
+use tok_data::{FileId, OutToken, ShownFault, TokId};
+use type_data::{Fault, ItemName, Tags};
+use unit_ends::end_faults;
+use unit_items::{Item, Sources};
+
+// The faults, with the tags of the unit.
+#[tactic(auto, unfolding(crate::specs::Meanings::faults))]
+fn faults(alloc: Global, unit: &Elaborated<'_>, tags: &Tags) -> Result<Vec<ShownFault>, AllocError>
+    requires tags { tags.now ≡ known (elaborated_of unit.now).heads (elaborated_of unit.now).bodies }
+    ensures { IfOk result (λ out. out.items ≡ spec.faults (elaborated_of unit.now)) }
+{
+    let showing = Showing {
+        sources: unit.sources,
+        reached: unit.reached,
+        tags,
+    };
+    let mut out = of_items(
+        alloc,
+        &showing,
+        unit.sources.items(),
+        unit.heads,
+        unit.bodies,
+        unit.refused,
+    )?;
+    let ends = end_faults(alloc, unit.heads, unit.bodies)?;
+    add_pairs(alloc, &mut out, &showing, &ends)?;
+    Ok(out)
+}
+
+#[tactic(auto, unfolding(crate::specs::Meanings::exports))]
+fn exports(
+    alloc: Global,
+    unit: &Elaborated<'_>,
+    occs: &[Occ],
+    entities: &[Entity],
+    tags: Tags,
+) -> Result<Exports, AllocError>
+    requires occs { occs.now ≡ denoted.in_items (elaborated_of unit.now).unit.items (elaborated_of unit.now).heads (elaborated_of unit.now).bodies }
+    requires entities { entities.now ≡ declared (elaborated_of unit.now).unit (elaborated_of unit.now).heads (elaborated_of unit.now).bodies }
+    requires tags { tags ≡ known (elaborated_of unit.now).heads (elaborated_of unit.now).bodies }
+    ensures { IfOk result (λ r. r ≡ spec.exports (elaborated_of unit.now)) }
+{
+    let kept = Kept::new(alloc, occs, unit.heads, unit.marks)?;
+    let names = names(alloc, unit.sources, unit.reached, &kept, entities)?;
+    Ok(Exports {
+        names: Listing::from_vec(names),
+        tags,
+    })
+}
+
+#[tactic(auto, unfolding(crate::specs::Meanings::meant))]
+fn meant(alloc: Global, unit: &Elaborated<'_>) -> Result<UnitMeaning, AllocError>
+    ensures { IfOk result (λ m. m ≡ spec.meant (elaborated_of unit.now)) }
+{
+    let items = unit.sources.items();
+    let tags = tags(alloc, unit.heads, unit.bodies)?;
+    let faults = faults(alloc, unit, &tags)?;
+    let told = in_items(alloc, items, unit.heads, unit.bodies)?;
+    let occs = of_unit(alloc, unit.sources, &told)?;
+    let entities = entities(alloc, unit.sources, items, unit.heads, unit.bodies)?;
+    let symbols = symbols(alloc, unit.sources, unit.heads, unit.marks)?;
+    let exports = exports(alloc, unit, &told, &entities, tags)?;
+    Ok(UnitMeaning {
+        faults: Listing::from_vec(faults),
+        occs: Listing::from_vec(occs),
+        entities: Listing::from_vec(entities),
+        symbols: Listing::from_vec(symbols),
+        exports,
+    })
+}
+
+/// What a unit means (ISO C11 5.1.1.1, 6.9), by its output tokens, its items, the texts that it entered, and what its items mean: `heads`
+/// with the `marks` of each, `bodies`, and in `refused` the faults of syntax, each of an item. These lists are in the order of the items;
+/// a head has one element of `marks`.
+///
+/// Faults: items after items, of each those of its head, of its body and of its syntax, and then those of the unit's end. A fault falls on
+/// the token of a text that led to its output token (6.10.3), and one in a library text on the directive by which the unit reached that.
+/// Occurrences: of each item those of the head and of the body, as they stand there. Entities: one for each anchor, in the order of the first
+/// ones, and of each the last one of the last item. Symbols: by `marks`; a token that was made is none. Exports: the names among the
+/// entities that have external linkage; an array of unknown size that a head defines tentatively has one element (6.9.2p2), and a function
+/// that every head states with `inline` and without `extern` isn't defined (6.7.4p7).
+///
+/// Its cost is linear in the tokens and in what the items mean. It fails for want of memory alone.
+pub fn meaning_of(
+    alloc: Global,
+    tokens: &[OutToken],
+    items: &[Item],
+    entered: &[(FileId, TokId)],
+    heads: &[HeadMeaning],
+    marks: &[HeadMarks],
+    bodies: &[BodyMeaning],
+    refused: &[(ItemName, Fault)],
+) -> Result<UnitMeaning, AllocError>
+    ensures { IfOk result (λ m. m ≡ spec.meaning (record { tokens = tokens.now; items = items.now }) entered.now heads.now marks.now bodies.now refused.now) }
+{
+    let reached = all_reached(alloc, entered)?;
+    let sources = Sources::new(alloc, tokens, items)?;
+    let unit = Elaborated {
+        sources: &sources,
+        reached: &reached,
+        heads,
+        marks,
+        bodies,
+        refused,
+    };
+    let meaning = meant(alloc, &unit)?;
+    Ok(meaning)
+}

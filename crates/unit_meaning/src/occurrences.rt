@@ -1,0 +1,98 @@
+// The occurrences of a unit.
+ghost use Rattle.std.specs.Prelude.{◌≡◌, ◌++◌, map, IfOk, OnOk};
+ghost use Rattle.unit_items.specs.Sources.{occurrence};
+ghost use Rattle.unit_meaning.specs.Occurrences as spec;
+
+use crate::order::{part_bodies, part_heads};
+use scope_tables::{BodyMeaning, HeadMeaning, Occ};
+use std::alloc::{AllocError, Global};
+use unit_items::{Item, Sources};
+
+fn share_occ(occ: &Occ) -> Result<Occ, AllocError>
+    ensures { IfOk result (λ copy. copy ≡ occ.now) }
+{
+    let tok = occ.tok.copy()?;
+    let anchor = occ.anchor.share()?;
+    Ok(Occ {
+        tok,
+        anchor,
+        role: occ.role,
+    })
+}
+
+fn add_all(out: &mut Vec<Occ>, occs: &[Occ]) -> Result<(), AllocError>
+    ensures { OnOk result (out.new.items ≡ out.old.items ++ occs.now) }
+{
+    let mut rest = occs;
+    'occs: while let Some((occ, behind)) = rest.split_first() {
+        rest = behind;
+        let copy = share_occ(occ)?;
+        out.push(copy)?;
+    }
+    Ok(())
+}
+
+fn add_heads(out: &mut Vec<Occ>, heads: &[HeadMeaning]) -> Result<(), AllocError>
+    ensures { OnOk result (out.new.items ≡ out.old.items ++ spec.in_heads heads.now) }
+{
+    let mut rest = heads;
+    'heads: while let Some((head, behind)) = rest.split_first() {
+        rest = behind;
+        add_all(out, head.occs.as_slice())?;
+    }
+    Ok(())
+}
+
+fn add_bodies(out: &mut Vec<Occ>, bodies: &[BodyMeaning]) -> Result<(), AllocError>
+    ensures { OnOk result (out.new.items ≡ out.old.items ++ spec.in_bodies bodies.now) }
+{
+    let mut rest = bodies;
+    'bodies: while let Some((body, behind)) = rest.split_first() {
+        rest = behind;
+        add_all(out, body.occs.as_slice())?;
+    }
+    Ok(())
+}
+
+/// The occurrences in the items of a unit, as these tell them, in the order of output tokens.
+pub(crate) fn in_items(
+    alloc: Global,
+    items: &[Item],
+    heads: &[HeadMeaning],
+    bodies: &[BodyMeaning],
+) -> Result<Vec<Occ>, AllocError>
+    ensures { IfOk result (λ out. out.items ≡ spec.in_items items.now heads.now bodies.now) }
+{
+    let mut out = Vec::new(alloc);
+    let mut later_heads = heads;
+    let mut later_bodies = bodies;
+    let mut rest = items;
+    'items: while let Some((item, behind)) = rest.split_first() {
+        rest = behind;
+        let (own_heads, behind_heads) = part_heads(later_heads, &item.name);
+        later_heads = behind_heads;
+        add_heads(&mut out, own_heads)?;
+        let (own_bodies, behind_bodies) = part_bodies(later_bodies, &item.name);
+        later_bodies = behind_bodies;
+        add_bodies(&mut out, own_bodies)?;
+    }
+    Ok(out)
+}
+
+/// The same as the unit tells them.
+pub(crate) fn of_unit(
+    alloc: Global,
+    sources: &Sources<'_>,
+    occs: &[Occ],
+) -> Result<Vec<Occ>, AllocError>
+    ensures { IfOk result (λ out. out.items ≡ spec.of_unit sources.now occs.now) }
+{
+    let mut out = Vec::new(alloc);
+    let mut rest = occs;
+    'occs: while let Some((occ, behind)) = rest.split_first() {
+        rest = behind;
+        let occ = sources.occurrence(occ)?;
+        out.push(occ)?;
+    }
+    Ok(out)
+}

@@ -1,0 +1,143 @@
+// The first statement of each name that is what is asked for.
+ghost use Rattle.std.specs.Prelude.{◌≡◌, ◌&&◌, ℕ, nat_eq, List, None, IfOk, OnOk};
+ghost use Rattle.std.specs.Cmp.Lexicographic.{pointwise};
+ghost use Rattle.std.specs.Option.{option_or};
+ghost use Rattle.unit_meaning.specs.Exports as spec;
+ghost use Rattle.unit_meaning.specs.Kept.{asks, at};
+
+use crate::firsts::{no_names, note};
+use crate::marks::HeadMarks;
+use crate::sites::token_in;
+use scope_tables::{HeadMeaning, How, Stated};
+use shared_text::Name;
+use std::alloc::{AllocError, Global};
+use std::collections::HashMap;
+use tok_data::TokId;
+use type_data::ItemName;
+
+/// What is asked of a statement.
+#[derive(Clone, Copy, Drop)]
+pub(crate) enum Asked {
+    /// Nothing: it states the name.
+    Any,
+    Defined,
+    Tentative,
+}
+
+fn defines(how: How) -> bool
+    ensures { result ≡ spec.defines how }
+{
+    match how {
+        How::Defines => true,
+        How::Tentative => false,
+        How::Refused => false,
+        How::Declares => false,
+    }
+}
+
+fn is_tentative(how: How) -> bool
+    ensures { result ≡ spec.is_tentative how }
+{
+    match how {
+        How::Tentative => true,
+        How::Defines => false,
+        How::Refused => false,
+        How::Declares => false,
+    }
+}
+
+fn is_asked(asked: Asked, how: How) -> bool
+    ensures { result ≡ asks asked how }
+{
+    match asked {
+        Asked::Any => true,
+        Asked::Defined => defines(how),
+        Asked::Tentative => is_tentative(how),
+    }
+}
+
+fn note_stated(
+    alloc: Global,
+    map: &mut HashMap<Name, TokId>,
+    asked: Asked,
+    item: &ItemName,
+    stated: &Stated,
+) -> Result<(), AllocError>
+    ensures { OnOk result ((q : List ℕ) → at map.new q ≡ option_or (at map.old q) (spec.if_stated (asks asked) q item.now stated.now)) }
+{
+    if !is_asked(asked, stated.how) {
+        return Ok(());
+    }
+    let tok = token_in(alloc, item, stated.at)?;
+    note(map, &stated.name, tok)
+}
+
+fn note_item(
+    alloc: Global,
+    map: &mut HashMap<Name, TokId>,
+    asked: Asked,
+    item: &ItemName,
+    list: &[Stated],
+) -> Result<(), AllocError>
+    ensures { OnOk result ((q : List ℕ) → at map.new q ≡ option_or (at map.old q) (spec.first_in (asks asked) q item.now list.now)) }
+{
+    let mut rest = list;
+    'stated: while let Some((stated, behind)) = rest.split_first() {
+        rest = behind;
+        note_stated(alloc, map, asked, item, stated)?;
+    }
+    Ok(())
+}
+
+/// Of each name the token of the first statement that is what is asked for, in its item.
+pub(crate) fn first_stated(
+    alloc: Global,
+    asked: Asked,
+    heads: &[HeadMeaning],
+) -> Result<HashMap<Name, TokId>, AllocError>
+    ensures { IfOk result (λ map. (q : List ℕ) → at map q ≡ spec.first_stated (asks asked) q heads.now) }
+{
+    let mut map = no_names(alloc);
+    let mut rest = heads;
+    'heads: while let Some((head, behind)) = rest.split_first() {
+        rest = behind;
+        note_item(alloc, &mut map, asked, &head.item, head.stated.as_slice())?;
+    }
+    Ok(map)
+}
+
+fn note_outside(
+    alloc: Global,
+    map: &mut HashMap<Name, TokId>,
+    head: &HeadMeaning,
+    mark: &HeadMarks,
+) -> Result<(), AllocError>
+    ensures { OnOk result ((q : List ℕ) → at map.new q ≡ option_or (at map.old q) (spec.outside_in q head.now mark.now)) }
+{
+    if mark.inline {
+        return Ok(());
+    }
+    note_item(alloc, map, Asked::Any, &head.item, head.stated.as_slice())
+}
+
+/// Of each name that some head states without `inline`, or with `extern`, a token that does.
+pub(crate) fn outside(
+    alloc: Global,
+    heads: &[HeadMeaning],
+    marks: &[HeadMarks],
+) -> Result<HashMap<Name, TokId>, AllocError>
+    ensures { IfOk result (λ map. (q : List ℕ) → at map q ≡ spec.outside q heads.now marks.now) }
+{
+    let mut map = no_names(alloc);
+    let mut later_marks = marks;
+    let mut rest = heads;
+    'heads: while let Some((head, behind)) = rest.split_first() {
+        rest = behind;
+        let Some((mark, later)) = later_marks.split_first() else {
+            return Ok(map);
+        };
+        later_marks = later;
+        note_outside(alloc, &mut map, head, mark)?;
+    }
+    Ok(map)
+}
