@@ -38,12 +38,7 @@ fn push_test(
     out.push_str(text.as_str())
 }
 
-fn push_name(
-    out: &mut String,
-    tokens: &[OutToken],
-    word: &str,
-    at: u32,
-) -> Result<(), AllocError> {
+fn push_name(out: &mut String, tokens: &[OutToken], word: &str, at: u32) -> Result<(), AllocError> {
     out.push_str(word)?;
     out.push_str(spelled(tokens, at))
 }
@@ -108,11 +103,7 @@ fn push_act(
 }
 
 /// Each step, `;` between two.
-pub fn shown(
-    alloc: Global,
-    tokens: &[OutToken],
-    acts: &[Act<'_>],
-) -> Result<String, AllocError> {
+pub fn shown(alloc: Global, tokens: &[OutToken], acts: &[Act<'_>]) -> Result<String, AllocError> {
     let mut out = String::new(alloc);
     let mut parted = "";
     for act in acts {
