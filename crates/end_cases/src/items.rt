@@ -173,6 +173,8 @@ impl Items {
             defines: none(alloc),
             used: Listing::from_vec(parts.used),
             stated: Listing::from_vec(parts.stated),
+            symbols: none(alloc),
+            inline: false,
         };
         let body = BodyMeaning {
             item: item_of(alloc, self.count)?,

@@ -1,4 +1,4 @@
--- Where things stand: an occurrence and a fault on their tokens, and an entity on the first token that denotes it.
+-- Where things stand: an occurrence, a fault and a symbol on their tokens, and an entity on the first token that denotes it.
 use Rattle.std.specs.Prelude.{ℕ, List, [], ◌∷◌, Option, Some, None, is_some, if◌then◌else◌}
 use Rattle.std.specs.Map.{lookup}
 use Rattle.indexmap.specs.IndexMap.{insert_entry}
@@ -7,6 +7,7 @@ use Rattle.scope_tables.specs.declared.entities.Anchor.{Anchor}
 use Rattle.scope_tables.specs.declared.entities.Anchor.TheVariants as anchor
 use Rattle.scope_tables.specs.declared.entities.Entity.{Entity}
 use Rattle.scope_tables.specs.declared.entities.Occ.{Occ}
+use Rattle.scope_tables.specs.declared.meanings.HeadSymbol.{HeadSymbol}
 use Rattle.scope_tables.specs.Occurrences.{same_anchor}
 use Rattle.type_data.specs.declared.judged.Fault.{Fault}
 
@@ -44,6 +45,9 @@ placed_occ o = (o.tok.at, o)
 
 abbrev pub placed_fault : Fault → ℕ × Fault
 placed_fault f = (f.at, f)
+
+abbrev pub placed_symbol : HeadSymbol → ℕ × HeadSymbol
+placed_symbol s = (s.at, s)
 
 abbrev pub placed_entity : List (Anchor × ℕ) → Entity → ℕ × Entity
 placed_entity ps e = (first_of ps e.anchor, e)

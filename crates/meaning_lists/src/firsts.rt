@@ -3,7 +3,7 @@ ghost use Rattle.std.specs.Prelude.{◌≡◌, map, IfOk, OnOk};
 ghost use Rattle.meaning_lists.specs.Firsts as spec;
 
 use indexmap::IndexMap;
-use scope_tables::{Anchor, Binding, Entity, Occ};
+use scope_tables::{Anchor, Binding, Entity, HeadSymbol, Occ};
 use std::alloc::{AllocError, Global};
 use std::marker::Model;
 use type_data::Fault;
@@ -96,6 +96,19 @@ pub(crate) fn placed_faults(
     let mut out = Vec::new(alloc);
     'faults: for fault in faults {
         out.push((fault.at, fault))?;
+    }
+    Ok(out)
+}
+
+pub(crate) fn placed_symbols(
+    alloc: Global,
+    symbols: Vec<HeadSymbol>,
+) -> Result<Vec<(u32, HeadSymbol)>, AllocError>
+    ensures { IfOk result (λ v. v.items ≡ map spec.placed_symbol symbols.items) }
+{
+    let mut out = Vec::new(alloc);
+    'symbols: for symbol in symbols {
+        out.push((symbol.at, symbol))?;
     }
     Ok(out)
 }

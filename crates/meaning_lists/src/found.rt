@@ -1,15 +1,17 @@
 // What a head or a body found, and its meaning.
 ghost use Rattle.std.specs.Prelude.{◌≡◌, IfOk, OnOk};
+ghost use Rattle.meaning_lists.specs.Filling as filling;
 ghost use Rattle.meaning_lists.specs.Found as spec;
 
 use crate::bindings::last_bindings;
 use crate::entities::last_entities;
 use crate::firsts::{
     Firsts, first_places, placed_bindings, placed_entities, placed_faults, placed_occs,
+    placed_symbols,
 };
 use crate::names::{defined, once};
 use crate::order::by_place;
-use scope_tables::{Binding, BodyMeaning, Entity, HeadMeaning, Occ, Stated};
+use scope_tables::{Binding, BodyMeaning, Entity, HeadMeaning, HeadSymbol, Occ, Stated};
 use shared_list::Listing;
 use shared_text::Name;
 use std::alloc::{AllocError, Global};
@@ -31,10 +33,14 @@ pub struct Found {
     pub used: Listing<Name>,
     /// What it states at file scope, a declarator after the other.
     pub stated: Listing<Stated>,
+    /// The tokens of a head that define or declare a name at file scope.
+    pub symbols: Listing<HeadSymbol>,
+    /// The head's specifiers have `inline`, and no `extern`.
+    pub inline: bool,
 }
 
 fn none<T>(alloc: Global) -> Listing<T>
-    ensures { result ≡ spec.none_of }
+    ensures { result ≡ filling.none_of }
 {
     Listing::from_vec(Vec::new(alloc))
 }
@@ -55,6 +61,18 @@ fn faults_in_order(alloc: Global, faults: Listing<Fault>) -> Result<Listing<Faul
     let placed = placed_faults(alloc, faults.into_vec())?;
     let faults = by_place(alloc, placed)?;
     Ok(Listing::from_vec(faults))
+}
+
+#[tactic(auto, unfolding(crate::specs::Found::symbols_in_order))]
+fn symbols_in_order(
+    alloc: Global,
+    symbols: Listing<HeadSymbol>,
+) -> Result<Listing<HeadSymbol>, AllocError>
+    ensures { IfOk result (λ l. l ≡ spec.symbols_in_order symbols) }
+{
+    let placed = placed_symbols(alloc, symbols.into_vec())?;
+    let symbols = by_place(alloc, placed)?;
+    Ok(Listing::from_vec(symbols))
 }
 
 #[tactic(auto, unfolding(crate::specs::Found::entities_in_order))]
@@ -102,7 +120,7 @@ fn definitions(alloc: Global, stated: &Listing<Stated>) -> Result<Listing<Name>,
 }
 
 fn empty_head(alloc: Global, item: ItemName) -> HeadMeaning
-    ensures { result ≡ spec.empty_head item }
+    ensures { result ≡ filling.empty_head item }
 {
     HeadMeaning {
         item,
@@ -114,6 +132,8 @@ fn empty_head(alloc: Global, item: ItemName) -> HeadMeaning
         defines: none(alloc),
         used: none(alloc),
         stated: none(alloc),
+        symbols: none(alloc),
+        inline: false,
     }
 }
 
@@ -124,8 +144,8 @@ fn place_head(
     firsts: &Firsts,
     found: &mut Found,
 ) -> Result<(), AllocError>
-    ensures meaning { OnOk result (meaning.new ≡ spec.with_places firsts.now found.old meaning.old) }
-    ensures rest { OnOk result (found.new ≡ spec.without_names found.old) }
+    ensures meaning { OnOk result (meaning.new ≡ filling.with_places firsts.now found.old meaning.old) }
+    ensures rest { OnOk result (found.new ≡ filling.without_names found.old) }
 {
     let declared = mem::replace(&mut found.declared, none(alloc));
     meaning.declared = bindings_in_order(alloc, firsts, declared)?;
@@ -137,7 +157,7 @@ fn place_head(
 }
 
 fn list_head(alloc: Global, meaning: &mut HeadMeaning, found: &mut Found) -> Result<(), AllocError>
-    ensures { OnOk result (meaning.new ≡ spec.with_lists found.old meaning.old) }
+    ensures { OnOk result (meaning.new ≡ filling.with_lists found.old meaning.old) }
 {
     let faults = mem::replace(&mut found.faults, none(alloc));
     meaning.faults = faults_in_order(alloc, faults)?;
@@ -145,11 +165,14 @@ fn list_head(alloc: Global, meaning: &mut HeadMeaning, found: &mut Found) -> Res
     let used = mem::replace(&mut found.used, none(alloc));
     meaning.used = each_once(alloc, used)?;
     meaning.stated = mem::replace(&mut found.stated, none(alloc));
+    let symbols = mem::replace(&mut found.symbols, none(alloc));
+    meaning.symbols = symbols_in_order(alloc, symbols)?;
+    meaning.inline = found.inline;
     Ok(())
 }
 
 fn fill_head(alloc: Global, meaning: &mut HeadMeaning, found: &mut Found) -> Result<(), AllocError>
-    ensures { OnOk result (meaning.new ≡ spec.filled_head found.old meaning.old) }
+    ensures { OnOk result (meaning.new ≡ filling.filled_head found.old meaning.old) }
 {
     let occs = mem::replace(&mut found.occs, none(alloc));
     meaning.occs = occs_in_order(alloc, occs)?;
@@ -175,7 +198,7 @@ pub fn head_meaning(
 }
 
 fn empty_body(alloc: Global, item: ItemName) -> BodyMeaning
-    ensures { result ≡ spec.empty_body item }
+    ensures { result ≡ filling.empty_body item }
 {
     BodyMeaning {
         item,
@@ -187,7 +210,7 @@ fn empty_body(alloc: Global, item: ItemName) -> BodyMeaning
 }
 
 fn fill_body(alloc: Global, meaning: &mut BodyMeaning, found: &mut Found) -> Result<(), AllocError>
-    ensures { OnOk result (meaning.new ≡ spec.filled_body found.old meaning.old) }
+    ensures { OnOk result (meaning.new ≡ filling.filled_body found.old meaning.old) }
 {
     let occs = mem::replace(&mut found.occs, none(alloc));
     meaning.occs = occs_in_order(alloc, occs)?;

@@ -1,3 +1,4 @@
+pub mod Files
 pub mod Levels
 pub mod Indexed
 pub mod Marks

@@ -3,6 +3,7 @@
 
 mod bindings;
 mod entities;
+mod files;
 mod index;
 mod meanings;
 mod scopes;
@@ -12,6 +13,7 @@ mod units;
 
 pub use bindings::Binding;
 pub use entities::{Anchor, Entity, EntityKind, Life, Linkage, Occ, Role, ScopeKind};
-pub use meanings::{BodyMeaning, HeadMeaning, How, Stated};
+pub use files::item_file;
+pub use meanings::{BodyMeaning, HeadMeaning, HeadSymbol, How, Stated};
 pub use scopes::Scopes;
 pub use units::{Export, Exports, Symbol, SymbolKind, UnitMeaning};

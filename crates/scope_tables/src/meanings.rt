@@ -1,6 +1,7 @@
 // What the head and the body of an item mean, as far as a unit needs it (ISO C11 6.7, 6.9).
 use crate::bindings::Binding;
 use crate::entities::{Entity, Occ};
+use crate::units::SymbolKind;
 use shared_list::Listing;
 use shared_text::Name;
 use type_data::{Fault, ItemName};
@@ -25,6 +26,15 @@ pub struct Stated {
     pub how: How,
 }
 
+/// A token of a head that defines or declares a name at file scope (6.2.1p4).
+#[derive(Debug, PartialEq, Eq, Drop)]
+pub struct HeadSymbol {
+    /// The token's number in the item.
+    pub at: u32,
+    /// The kind of what it declares there.
+    pub kind: SymbolKind,
+}
+
 /// What a head means. Each list is in the order of first tokens.
 #[derive(PartialEq, Eq, Drop)]
 pub struct HeadMeaning {
@@ -43,6 +53,10 @@ pub struct HeadMeaning {
     pub used: Listing<Name>,
     /// The objects and functions at file scope that it names, a declarator after the other.
     pub stated: Listing<Stated>,
+    /// Its tokens that define or declare a name at file scope.
+    pub symbols: Listing<HeadSymbol>,
+    /// Its specifiers have `inline`, and no `extern` (6.7.4p7).
+    pub inline: bool,
 }
 
 /// What a body means. Each list is in the order of first tokens.

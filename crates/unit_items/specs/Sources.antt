@@ -1,21 +1,17 @@
 -- What stands in an item, told by the tokens of the texts: an item names a token by its number in it, a unit by the text that spells it.
-use Rattle.std.specs.Prelude.{ℕ, ◌+◌, List, ◌++◌, codes, decimal, Option, None, Some, option_map, bytes_eq, slice_get}
+use Rattle.std.specs.Prelude.{ℕ, ◌+◌, List, Option, None, Some, option_map, bytes_eq, slice_get}
 use Rattle.std.specs.List.{find}
 use Rattle.scope_tables.specs.declared.entities.Anchor.{Anchor}
 use Rattle.scope_tables.specs.declared.entities.Anchor.TheVariants as anchor
 use Rattle.scope_tables.specs.declared.entities.Occ.{Occ}
 use Rattle.scope_tables.specs.declared.entities.Role.{Role}
 use Rattle.scope_tables.specs.declared.entities.Role.TheVariants as role
+use Rattle.scope_tables.specs.Files.{text_of}
 use Rattle.tok_data.specs.declared.sources.TokId.{TokId}
 use Rattle.tok_data.specs.declared.tokens.OutToken.{OutToken}
 use Rattle.tok_data.specs.declared.tokens.Spelt.{Spelt}
 use Rattle.tok_data.specs.declared.tokens.Spelt.TheVariants as spelt
-use Rattle.type_data.specs.declared.names.ItemName.{ItemName}
 use Rattle.unit_items.specs.declared.items.Item.{Item}
-
--- the text that an item's tokens are named by
-abbrev pub text_of : ItemName → List ℕ
-text_of item = item.label ++ (codes "#" ++ decimal item.nth)
 
 -- where the item begins whose tokens are named by this text
 unfoldable pub start_of : List Item → List ℕ → Option ℕ

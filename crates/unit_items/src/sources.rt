@@ -4,9 +4,8 @@ ghost use Rattle.std.specs.Option.{option_or};
 ghost use Rattle.unit_items.specs.Maps.{start_at};
 ghost use Rattle.unit_items.specs.Sources as spec;
 
-use crate::files::item_file;
 use crate::items::Item;
-use scope_tables::{Anchor, Occ, Role};
+use scope_tables::{Anchor, Occ, Role, item_file};
 use std::alloc::{AllocError, Global};
 use std::collections::HashMap;
 use std::marker::Model;

@@ -20,7 +20,6 @@ use Rattle.type_data.specs.Types.{Ty, Void_type, Basic_type, Enumerated_type, Ta
 use Rattle.unit_items.specs.Units.{Unit}
 use Rattle.unit_meaning.specs.Lists.{first_some, given}
 use Rattle.unit_meaning.specs.Sites.{Entry, fallen, token_in}
-use Rattle.unit_meaning.specs.declared.marks.HeadMarks.{HeadMarks}
 
 -- ---- the first token that denotes a name with external linkage, as its item tells it
 
@@ -68,20 +67,18 @@ abbrev pub any : How → Bool
 any h = true
 
 -- 6.7.4p7: a head states it without `inline`, or with `extern`; else its definition isn't external
-abbrev pub outside_in : List ℕ → HeadMeaning → HeadMarks → Option TokId
-outside_in name h m = if m.inline then None else first_in any name h.item h.stated
+abbrev pub outside_in : List ℕ → HeadMeaning → Option TokId
+outside_in name h = if h.inline then None else first_in any name h.item h.stated
 
-abbrev pub outside : List ℕ → List HeadMeaning → List HeadMarks → Option TokId
-outside name [] ms = None
-outside name (h ∷ hs) [] = None
-outside name (h ∷ hs) (m ∷ ms) = option_or (outside_in name h m) (outside name hs ms)
+abbrev pub outside : List ℕ → List HeadMeaning → Option TokId
+outside name hs = first_some (outside_in name) hs
 
 -- 6.9p5, 6.9.2p2: the first definition that isn't tentative, else the first tentative one
 abbrev pub either : Option TokId → Option TokId → Option TokId
 either definition tentative = option_or definition tentative
 
-abbrev pub definition : List ℕ → List HeadMeaning → List HeadMarks → Option TokId
-definition name hs ms = if is_some (outside name hs ms) then either (first_stated defines name hs) (first_stated is_tentative name hs) else None
+abbrev pub definition : List ℕ → List HeadMeaning → Option TokId
+definition name hs = if is_some (outside name hs) then either (first_stated defines name hs) (first_stated is_tentative name hs) else None
 
 -- ---- its type
 
@@ -107,25 +104,25 @@ type_of name hs t = if is_some (first_stated is_tentative name hs) then with_one
 -- ---- the names
 
 -- the items of a unit, as far as these are asked for
-abbrev pub made : Unit → List Entry → List HeadMeaning → List HeadMarks → List ℕ → Ty → TokId → Export
-made u reached hs ms name t tok = record {
+abbrev pub made : Unit → List Entry → List HeadMeaning → List ℕ → Ty → TokId → Export
+made u reached hs name t tok = record {
   name = name;
   ty = type_of name hs t;
   first = fallen u reached tok;
-  defined = option_map (fallen u reached) (definition name hs ms);
+  defined = option_map (fallen u reached) (definition name hs);
 }
 
-abbrev pub by_first : Unit → List Entry → List HeadMeaning → List HeadMarks → List ℕ → Ty → Option TokId → Option Export
-by_first u reached hs ms name t None = None
-by_first u reached hs ms name t (Some tok) = Some (made u reached hs ms name t tok)
+abbrev pub by_first : Unit → List Entry → List HeadMeaning → List ℕ → Ty → Option TokId → Option Export
+by_first u reached hs name t None = None
+by_first u reached hs name t (Some tok) = Some (made u reached hs name t tok)
 
-abbrev pub by_name : Unit → List Entry → List Occ → List HeadMeaning → List HeadMarks → Ty → Option (List ℕ) → Option Export
-by_name u reached os hs ms t None = None
-by_name u reached os hs ms t (Some name) = by_first u reached hs ms name t (first_token name os)
+abbrev pub by_name : Unit → List Entry → List Occ → List HeadMeaning → Ty → Option (List ℕ) → Option Export
+by_name u reached os hs t None = None
+by_name u reached os hs t (Some name) = by_first u reached hs name t (first_token name os)
 
-abbrev pub exported : Unit → List Entry → List Occ → List HeadMeaning → List HeadMarks → Entity → Option Export
-exported u reached os hs ms e = by_name u reached os hs ms e.ty (external_of e.anchor)
+abbrev pub exported : Unit → List Entry → List Occ → List HeadMeaning → Entity → Option Export
+exported u reached os hs e = by_name u reached os hs e.ty (external_of e.anchor)
 
-abbrev pub names : Unit → List Entry → List Occ → List HeadMeaning → List HeadMarks → List Entity → List Export
-names u reached os hs ms [] = []
-names u reached os hs ms (e ∷ es) = cons_option (exported u reached os hs ms e) (names u reached os hs ms es)
+abbrev pub names : Unit → List Entry → List Occ → List HeadMeaning → List Entity → List Export
+names u reached os hs [] = []
+names u reached os hs (e ∷ es) = cons_option (exported u reached os hs e) (names u reached os hs es)

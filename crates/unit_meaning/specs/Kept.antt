@@ -7,7 +7,6 @@ use Rattle.scope_tables.specs.declared.meanings.HeadMeaning.{HeadMeaning}
 use Rattle.scope_tables.specs.declared.meanings.How.{How}
 use Rattle.tok_data.specs.declared.sources.TokId.{TokId}
 use Rattle.unit_meaning.specs.Exports.{any, defines, first_stated, first_token, is_tentative, outside}
-use Rattle.unit_meaning.specs.declared.marks.HeadMarks.{HeadMarks}
 use Rattle.unit_meaning.specs.declared.statements.Asked.{Asked}
 use Rattle.unit_meaning.specs.declared.statements.Asked.TheVariants as asked
 
@@ -24,11 +23,10 @@ at map name = get (pointwise nat_eq) map name
 pub record Named : Type 0 where
   pub occs : List Occ
   pub heads : List HeadMeaning
-  pub marks : List HeadMarks
 
 -- what is kept says of each name what the unit says
 pub record AreKept (named : Named) (tokens definitions tentatives outsides : List ℕ → Option TokId) : Type 0 where
   pub firsts : (q : List ℕ) → tokens q ≡ first_token q named.occs
   pub defined : (q : List ℕ) → definitions q ≡ first_stated defines q named.heads
   pub tentative : (q : List ℕ) → tentatives q ≡ first_stated is_tentative q named.heads
-  pub outsiders : (q : List ℕ) → outsides q ≡ outside q named.heads named.marks
+  pub outsiders : (q : List ℕ) → outsides q ≡ outside q named.heads

@@ -16,15 +16,13 @@ use Rattle.unit_meaning.specs.Occurrences.{in_items, of_unit}
 use Rattle.unit_meaning.specs.Sites.{Entry, all_reached}
 use Rattle.unit_meaning.specs.Symbols.{symbols}
 use Rattle.unit_meaning.specs.Tags.{tags}
-use Rattle.unit_meaning.specs.declared.marks.HeadMarks.{HeadMarks}
 
--- a unit with the library texts that were reached, and what its items mean: their heads with the marks of each, their bodies, and what of
+-- a unit with the library texts that were reached, and what its items mean: their heads, their bodies, and what of
 -- their syntax is refused; each list in the order of the items
 pub record Elaborated : Type 0 where
   pub unit : Unit
   pub reached : List Entry
   pub heads : List HeadMeaning
-  pub marks : List HeadMarks
   pub bodies : List BodyMeaning
   pub refused : List (ItemName × Fault)
 
@@ -37,7 +35,7 @@ faults e = shown.of_items (showing e) e.unit.items e.heads e.bodies e.refused ++
 
 unfoldable pub exports : Elaborated → Exports
 exports e = record {
-  names = names e.unit e.reached (in_items e.unit.items e.heads e.bodies) e.heads e.marks (entities e.unit e.heads e.bodies);
+  names = names e.unit e.reached (in_items e.unit.items e.heads e.bodies) e.heads (entities e.unit e.heads e.bodies);
   tags = tags e.heads e.bodies;
 }
 
@@ -46,10 +44,10 @@ meant e = record {
   faults = faults e;
   occs = of_unit e.unit (in_items e.unit.items e.heads e.bodies);
   entities = entities e.unit e.heads e.bodies;
-  symbols = symbols e.unit e.heads e.marks;
+  symbols = symbols e.unit e.heads;
   exports = exports e;
 }
 
 -- the same with the texts that were entered
-abbrev pub meaning : Unit → List Entry → List HeadMeaning → List HeadMarks → List BodyMeaning → List (ItemName × Fault) → UnitMeaning
-meaning u entered hs ms bs refused = meant (record { unit = u; reached = all_reached [] entered; heads = hs; marks = ms; bodies = bs; refused = refused })
+abbrev pub meaning : Unit → List Entry → List HeadMeaning → List BodyMeaning → List (ItemName × Fault) → UnitMeaning
+meaning u entered hs bs refused = meant (record { unit = u; reached = all_reached [] entered; heads = hs; bodies = bs; refused = refused })

@@ -12,7 +12,6 @@ elaborated_of e = record {
   unit = e.sources.now;
   reached = e.reached.now;
   heads = e.heads.now;
-  marks = e.marks.now;
   bodies = e.bodies.now;
   refused = e.refused.now;
 }

@@ -5,7 +5,8 @@ use Rattle.std.specs.List.{list_any}
 use Rattle.tok_data.specs.declared.sources.TokId.{TokId}
 use Rattle.tok_data.specs.declared.tokens.OutToken.{OutToken}
 use Rattle.type_data.specs.declared.names.ItemName.{ItemName}
-use Rattle.unit_items.specs.Sources.{output, text_of}
+use Rattle.scope_tables.specs.Files.{text_of}
+use Rattle.unit_items.specs.Sources.{output}
 use Rattle.unit_items.specs.Units.{Unit}
 
 -- a text that was entered, and the token by which it was

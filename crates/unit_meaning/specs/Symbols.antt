@@ -3,6 +3,7 @@
 use Rattle.std.specs.Prelude.{ℕ, List, [], ◌∷◌, ◌++◌, Option, Some, None}
 use Rattle.std.specs.List.{cons_option}
 use Rattle.scope_tables.specs.declared.meanings.HeadMeaning.{HeadMeaning}
+use Rattle.scope_tables.specs.declared.meanings.HeadSymbol.{HeadSymbol}
 use Rattle.scope_tables.specs.declared.units.Symbol.{Symbol}
 use Rattle.scope_tables.specs.declared.units.SymbolKind.{SymbolKind}
 use Rattle.tok_data.specs.declared.sources.TokId.{TokId}
@@ -13,8 +14,6 @@ use Rattle.type_data.specs.declared.names.ItemName.{ItemName}
 use Rattle.unit_items.specs.Sources.{output}
 use Rattle.unit_items.specs.Units.{Unit}
 use Rattle.unit_meaning.specs.Sites.{token_in}
-use Rattle.unit_meaning.specs.declared.marks.HeadMarks.{HeadMarks}
-use Rattle.unit_meaning.specs.declared.marks.HeadSymbol.{HeadSymbol}
 
 abbrev pub spelt_as : Spelt → List ℕ → SymbolKind → Option Symbol
 spelt_as (spelt.At tok) name kind = Some (record { tok = tok; name = name; kind = kind })
@@ -31,8 +30,6 @@ abbrev pub of_item : Unit → ItemName → List HeadSymbol → List Symbol
 of_item u item [] = []
 of_item u item (s ∷ ss) = cons_option (symbol u item s) (of_item u item ss)
 
--- each head with its marks
-abbrev pub symbols : Unit → List HeadMeaning → List HeadMarks → List Symbol
-symbols u [] ms = []
-symbols u (h ∷ hs) [] = []
-symbols u (h ∷ hs) (m ∷ ms) = of_item u h.item m.symbols ++ symbols u hs ms
+abbrev pub symbols : Unit → List HeadMeaning → List Symbol
+symbols u [] = []
+symbols u (h ∷ hs) = of_item u h.item h.symbols ++ symbols u hs

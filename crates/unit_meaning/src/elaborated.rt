@@ -1,5 +1,4 @@
 // A unit, and what its items mean.
-use crate::marks::HeadMarks;
 use scope_tables::{BodyMeaning, HeadMeaning};
 use tok_data::{FileId, TokId};
 use type_data::{Fault, ItemName};
@@ -11,7 +10,6 @@ pub(crate) struct Elaborated<'a> {
     pub(crate) sources: &'a Sources<'a>,
     pub(crate) reached: &'a [(FileId, TokId)],
     pub(crate) heads: &'a [HeadMeaning],
-    pub(crate) marks: &'a [HeadMarks],
     pub(crate) bodies: &'a [BodyMeaning],
     pub(crate) refused: &'a [(ItemName, Fault)],
 }

@@ -75,7 +75,7 @@ fn made(
     ty: &CType,
     tok: &TokId,
 ) -> Result<Export, AllocError>
-    ensures { IfOk result (λ r. r ≡ spec.made sources.now reached.now kept.now.heads kept.now.marks name.now ty.now tok.now) }
+    ensures { IfOk result (λ r. r ≡ spec.made sources.now reached.now kept.now.heads name.now ty.now tok.now) }
 {
     let ty = type_of(alloc, kept, name, ty)?;
     let first = fallen(sources, reached, tok)?;
@@ -97,7 +97,7 @@ fn by_name(
     name: &Name,
     ty: &CType,
 ) -> Result<Option<Export>, AllocError>
-    ensures { IfOk result (λ r. r ≡ spec.by_first sources.now reached.now kept.now.heads kept.now.marks name.now ty.now (spec.first_token name.now kept.now.occs)) }
+    ensures { IfOk result (λ r. r ≡ spec.by_first sources.now reached.now kept.now.heads name.now ty.now (spec.first_token name.now kept.now.occs)) }
 {
     match kept.first_token(name) {
         Some(tok) => {
@@ -115,7 +115,7 @@ fn exported(
     kept: &Kept<'_>,
     entity: &Entity,
 ) -> Result<Option<Export>, AllocError>
-    ensures { IfOk result (λ r. r ≡ spec.exported sources.now reached.now kept.now.occs kept.now.heads kept.now.marks entity.now) }
+    ensures { IfOk result (λ r. r ≡ spec.exported sources.now reached.now kept.now.occs kept.now.heads entity.now) }
 {
     match external_of(&entity.anchor) {
         Some(name) => by_name(alloc, sources, reached, kept, name, &entity.ty),
@@ -131,7 +131,7 @@ pub(crate) fn names(
     kept: &Kept<'_>,
     entities: &[Entity],
 ) -> Result<Vec<Export>, AllocError>
-    ensures { IfOk result (λ out. out.items ≡ spec.names sources.now reached.now kept.now.occs kept.now.heads kept.now.marks entities.now) }
+    ensures { IfOk result (λ out. out.items ≡ spec.names sources.now reached.now kept.now.occs kept.now.heads entities.now) }
 {
     let mut out = Vec::new(alloc);
     let mut rest = entities;

@@ -3,7 +3,6 @@ ghost use Rattle.std.specs.Prelude.{◌≡◌, IfOk, is_some, option_map};
 ghost use Rattle.unit_meaning.specs.Exports as spec;
 
 use crate::firsts::{first_tokens, token_of};
-use crate::marks::HeadMarks;
 use crate::statements::{Asked, first_stated, outside};
 use scope_tables::{HeadMeaning, Occ};
 use shared_text::Name;
@@ -17,7 +16,6 @@ use tok_data::TokId;
 pub(crate) struct Kept<'a> {
     occs: &'a [Occ],
     heads: &'a [HeadMeaning],
-    marks: &'a [HeadMarks],
     firsts: HashMap<Name, TokId>,
     defined: HashMap<Name, TokId>,
     tentative: HashMap<Name, TokId>,
@@ -33,9 +31,9 @@ impl<'a> Model for Kept<'a> {
 
     ghost coded = { Prim.hlevel (codes, types.the_row.coded) };
 
-    ghost view = { λ k. record { occs = k.occs.now; heads = k.heads.now; marks = k.marks.now } };
+    ghost view = { λ k. record { occs = k.occs.now; heads = k.heads.now } };
 
-    ghost invariant = { λ k. AreKept (record { occs = k.occs.now; heads = k.heads.now; marks = k.marks.now }) (at k.firsts) (at k.defined) (at k.tentative) (at k.outside) };
+    ghost invariant = { λ k. AreKept (record { occs = k.occs.now; heads = k.heads.now }) (at k.firsts) (at k.defined) (at k.tentative) (at k.outside) };
 }
 
 impl<'a> Kept<'a> {
@@ -43,18 +41,16 @@ impl<'a> Kept<'a> {
         alloc: Global,
         occs: &'a [Occ],
         heads: &'a [HeadMeaning],
-        marks: &'a [HeadMarks],
     ) -> Result<Kept<'a>, AllocError>
-        ensures { IfOk result (λ k. k ≡ record { occs = occs.now; heads = heads.now; marks = marks.now }) }
+        ensures { IfOk result (λ k. k ≡ record { occs = occs.now; heads = heads.now }) }
     {
         let firsts = first_tokens(alloc, occs)?;
         let defined = first_stated(alloc, Asked::Defined, heads)?;
         let tentative = first_stated(alloc, Asked::Tentative, heads)?;
-        let outside = outside(alloc, heads, marks)?;
+        let outside = outside(alloc, heads)?;
         Ok(Kept {
             occs,
             heads,
-            marks,
             firsts,
             defined,
             tentative,
@@ -77,7 +73,7 @@ impl<'a> Kept<'a> {
     }
 
     fn is_outside(&self, name: &Name) -> bool
-        ensures { result ≡ is_some (spec.outside name.now self.now.heads self.now.marks) }
+        ensures { result ≡ is_some (spec.outside name.now self.now.heads) }
     {
         token_of(&self.outside, name).is_some()
     }
@@ -93,7 +89,7 @@ impl<'a> Kept<'a> {
 
     /// The token that defines it for other units.
     pub(crate) fn definition(&self, name: &Name) -> Option<&TokId>
-        ensures { option_map (λ t. t.now) result ≡ spec.definition name.now self.now.heads self.now.marks }
+        ensures { option_map (λ t. t.now) result ≡ spec.definition name.now self.now.heads }
     {
         if !self.is_outside(name) {
             return None;

@@ -7,7 +7,6 @@ mod exports;
 mod faults;
 mod firsts;
 mod kept;
-mod marks;
 mod meaning;
 mod occurrences;
 mod order;
@@ -16,5 +15,4 @@ mod statements;
 mod symbols;
 mod tags;
 
-pub use marks::{HeadMarks, HeadSymbol};
 pub use meaning::meaning_of;

@@ -11,7 +11,6 @@ use crate::entities::entities;
 use crate::exports::names;
 use crate::faults::{Showing, add_pairs, of_items};
 use crate::kept::Kept;
-use crate::marks::HeadMarks;
 use crate::occurrences::{in_items, of_unit};
 use crate::sites::all_reached;
 use crate::symbols::symbols;
@@ -61,7 +60,7 @@ fn exports(
     requires tags { tags ≡ known (elaborated_of unit.now).heads (elaborated_of unit.now).bodies }
     ensures { IfOk result (λ r. r ≡ spec.exports (elaborated_of unit.now)) }
 {
-    let kept = Kept::new(alloc, occs, unit.heads, unit.marks)?;
+    let kept = Kept::new(alloc, occs, unit.heads)?;
     let names = names(alloc, unit.sources, unit.reached, &kept, entities)?;
     Ok(Exports {
         names: Listing::from_vec(names),
@@ -79,7 +78,7 @@ fn meant(alloc: Global, unit: &Elaborated<'_>) -> Result<UnitMeaning, AllocError
     let told = in_items(alloc, items, unit.heads, unit.bodies)?;
     let occs = of_unit(alloc, unit.sources, &told)?;
     let entities = entities(alloc, unit.sources, items, unit.heads, unit.bodies)?;
-    let symbols = symbols(alloc, unit.sources, unit.heads, unit.marks)?;
+    let symbols = symbols(alloc, unit.sources, unit.heads)?;
     let exports = exports(alloc, unit, &told, &entities, tags)?;
     Ok(UnitMeaning {
         faults: Listing::from_vec(faults),
@@ -90,14 +89,13 @@ fn meant(alloc: Global, unit: &Elaborated<'_>) -> Result<UnitMeaning, AllocError
     })
 }
 
-/// What a unit means (ISO C11 5.1.1.1, 6.9), by its output tokens, its items, the texts that it entered, and what its items mean: `heads`
-/// with the `marks` of each, `bodies`, and in `refused` the faults of syntax, each of an item. These lists are in the order of the items;
-/// a head has one element of `marks`.
+/// What a unit means (ISO C11 5.1.1.1, 6.9), by its output tokens, its items, the texts that it entered, and what its items mean: `heads`,
+/// `bodies`, and in `refused` the faults of syntax, each of an item. These lists are in the order of the items.
 ///
 /// Faults: items after items, of each those of its head, of its body and of its syntax, and then those of the unit's end. A fault falls on
 /// the token of a text that led to its output token (6.10.3), and one in a library text on the directive by which the unit reached that.
 /// Occurrences: of each item those of the head and of the body, as they stand there. Entities: one for each anchor, in the order of the first
-/// ones, and of each the last one of the last item. Symbols: by `marks`; a token that was made is none. Exports: the names among the
+/// ones, and of each the last one of the last item. Symbols: those of the heads; a token that was made is none. Exports: the names among the
 /// entities that have external linkage; an array of unknown size that a head defines tentatively has one element (6.9.2p2), and a function
 /// that every head states with `inline` and without `extern` isn't defined (6.7.4p7).
 ///
@@ -108,11 +106,10 @@ pub fn meaning_of(
     items: &[Item],
     entered: &[(FileId, TokId)],
     heads: &[HeadMeaning],
-    marks: &[HeadMarks],
     bodies: &[BodyMeaning],
     refused: &[(ItemName, Fault)],
 ) -> Result<UnitMeaning, AllocError>
-    ensures { IfOk result (λ m. m ≡ spec.meaning (record { tokens = tokens.now; items = items.now }) entered.now heads.now marks.now bodies.now refused.now) }
+    ensures { IfOk result (λ m. m ≡ spec.meaning (record { tokens = tokens.now; items = items.now }) entered.now heads.now bodies.now refused.now) }
 {
     let reached = all_reached(alloc, entered)?;
     let sources = Sources::new(alloc, tokens, items)?;
@@ -120,7 +117,6 @@ pub fn meaning_of(
         sources: &sources,
         reached: &reached,
         heads,
-        marks,
         bodies,
         refused,
     };

@@ -2,10 +2,11 @@
 ghost use Rattle.std.specs.Prelude.{◌≡◌, [], IfOk, OnOk, option_map};
 ghost use Rattle.unit_meaning.specs.Sites as spec;
 
+use scope_tables::item_file;
 use std::alloc::{AllocError, Global};
 use tok_data::{FileId, OutToken, TokId};
 use type_data::ItemName;
-use unit_items::{Sources, item_file};
+use unit_items::Sources;
 
 fn is_library(file: &FileId) -> bool
     ensures { result ≡ spec.is_library file.now }

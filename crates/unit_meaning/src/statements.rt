@@ -6,7 +6,6 @@ ghost use Rattle.unit_meaning.specs.Exports as spec;
 ghost use Rattle.unit_meaning.specs.Kept.{asks, at};
 
 use crate::firsts::{no_names, note};
-use crate::marks::HeadMarks;
 use crate::sites::token_in;
 use scope_tables::{HeadMeaning, How, Stated};
 use shared_text::Name;
@@ -110,11 +109,10 @@ fn note_outside(
     alloc: Global,
     map: &mut HashMap<Name, TokId>,
     head: &HeadMeaning,
-    mark: &HeadMarks,
 ) -> Result<(), AllocError>
-    ensures { OnOk result ((q : List ℕ) → at map.new q ≡ option_or (at map.old q) (spec.outside_in q head.now mark.now)) }
+    ensures { OnOk result ((q : List ℕ) → at map.new q ≡ option_or (at map.old q) (spec.outside_in q head.now)) }
 {
-    if mark.inline {
+    if head.inline {
         return Ok(());
     }
     note_item(alloc, map, Asked::Any, &head.item, head.stated.as_slice())
@@ -124,20 +122,14 @@ fn note_outside(
 pub(crate) fn outside(
     alloc: Global,
     heads: &[HeadMeaning],
-    marks: &[HeadMarks],
 ) -> Result<HashMap<Name, TokId>, AllocError>
-    ensures { IfOk result (λ map. (q : List ℕ) → at map q ≡ spec.outside q heads.now marks.now) }
+    ensures { IfOk result (λ map. (q : List ℕ) → at map q ≡ spec.outside q heads.now) }
 {
     let mut map = no_names(alloc);
-    let mut later_marks = marks;
     let mut rest = heads;
     'heads: while let Some((head, behind)) = rest.split_first() {
         rest = behind;
-        let Some((mark, later)) = later_marks.split_first() else {
-            return Ok(map);
-        };
-        later_marks = later;
-        note_outside(alloc, &mut map, head, mark)?;
+        note_outside(alloc, &mut map, head)?;
     }
     Ok(map)
 }

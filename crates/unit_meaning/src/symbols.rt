@@ -2,9 +2,8 @@
 ghost use Rattle.std.specs.Prelude.{◌≡◌, ◌++◌, IfOk, OnOk, option_map};
 ghost use Rattle.unit_meaning.specs.Symbols as spec;
 
-use crate::marks::{HeadMarks, HeadSymbol};
 use crate::sites::token_in;
-use scope_tables::{HeadMeaning, Symbol, SymbolKind};
+use scope_tables::{HeadMeaning, HeadSymbol, Symbol, SymbolKind};
 use std::alloc::{AllocError, Global};
 use tok_data::{OutToken, Spelt};
 use type_data::ItemName;
@@ -36,12 +35,12 @@ fn symbol(
     alloc: Global,
     sources: &Sources<'_>,
     item: &ItemName,
-    mark: &HeadSymbol,
+    told: &HeadSymbol,
 ) -> Result<Option<Symbol>, AllocError>
-    ensures { IfOk result (λ r. r ≡ spec.symbol sources.now item.now mark.now) }
+    ensures { IfOk result (λ r. r ≡ spec.symbol sources.now item.now told.now) }
 {
-    let tok = token_in(alloc, item, mark.at)?;
-    let symbol = of_token(sources.output(&tok), mark.kind)?;
+    let tok = token_in(alloc, item, told.at)?;
+    let symbol = of_token(sources.output(&tok), told.kind)?;
     Ok(symbol)
 }
 
@@ -50,14 +49,14 @@ fn add_item(
     out: &mut Vec<Symbol>,
     sources: &Sources<'_>,
     item: &ItemName,
-    marks: &[HeadSymbol],
+    declared: &[HeadSymbol],
 ) -> Result<(), AllocError>
-    ensures { OnOk result (out.new.items ≡ out.old.items ++ spec.of_item sources.now item.now marks.now) }
+    ensures { OnOk result (out.new.items ≡ out.old.items ++ spec.of_item sources.now item.now declared.now) }
 {
-    let mut rest = marks;
-    'marks: while let Some((mark, behind)) = rest.split_first() {
+    let mut rest = declared;
+    'declared: while let Some((told, behind)) = rest.split_first() {
         rest = behind;
-        let one = symbol(alloc, sources, item, mark)?;
+        let one = symbol(alloc, sources, item, told)?;
         let Some(one) = one else {
             continue;
         };
@@ -66,30 +65,24 @@ fn add_item(
     Ok(())
 }
 
-/// The symbols of a unit, by its heads and the marks of each.
+/// The symbols of a unit, by its heads.
 pub(crate) fn symbols(
     alloc: Global,
     sources: &Sources<'_>,
     heads: &[HeadMeaning],
-    marks: &[HeadMarks],
 ) -> Result<Vec<Symbol>, AllocError>
-    ensures { IfOk result (λ out. out.items ≡ spec.symbols sources.now heads.now marks.now) }
+    ensures { IfOk result (λ out. out.items ≡ spec.symbols sources.now heads.now) }
 {
     let mut out = Vec::new(alloc);
-    let mut later_marks = marks;
     let mut rest = heads;
     'heads: while let Some((head, behind)) = rest.split_first() {
         rest = behind;
-        let Some((mark, later)) = later_marks.split_first() else {
-            return Ok(out);
-        };
-        later_marks = later;
         add_item(
             alloc,
             &mut out,
             sources,
             &head.item,
-            mark.symbols.as_slice(),
+            head.symbols.as_slice(),
         )?;
     }
     Ok(out)

@@ -1,6 +1,6 @@
 // The texts that the tokens of items are named by.
 ghost use Rattle.std.specs.Prelude.{◌≡◌, IfOk};
-ghost use Rattle.unit_items.specs.Sources as spec;
+ghost use Rattle.scope_tables.specs.Files as spec;
 
 use shared_text::Name;
 use std::alloc::{AllocError, Global};
