@@ -1,6 +1,6 @@
 -- The entities of a unit: one for each anchor that it declares, in the order of first tokens; of the last item that declares the anchor the
 -- last one with it, as that item leaves it (ISO C11 6.2.7p4).
-use Rattle.std.specs.Prelude.{Bool, List, [], ◌∷◌, map}
+use Rattle.std.specs.Prelude.{List, [], ◌∷◌}
 use Rattle.std.specs.Map.{values_of}
 use Rattle.indexmap.specs.IndexMap.{insert_entry}
 use Rattle.scope_tables.specs.Occurrences.{same_anchor}

@@ -1,6 +1,6 @@
 -- The faults of a unit, items after items: of each what its head and its body break, and what of its syntax is refused (ISO C11 6.5 to
 -- 6.9); behind them those of the unit's end.
-use Rattle.std.specs.Prelude.{ℕ, List, [], ◌∷◌, ◌++◌, map}
+use Rattle.std.specs.Prelude.{List, [], ◌∷◌, ◌++◌, map}
 use Rattle.std.specs.List.{flat_map}
 use Rattle.fault_texts.specs.Printed.{message}
 use Rattle.scope_tables.specs.declared.meanings.BodyMeaning.{BodyMeaning}

@@ -6,7 +6,6 @@ use Rattle.scope_tables.specs.declared.meanings.HeadMeaning.{HeadMeaning}
 use Rattle.scope_tables.specs.declared.meanings.HeadSymbol.{HeadSymbol}
 use Rattle.scope_tables.specs.declared.units.Symbol.{Symbol}
 use Rattle.scope_tables.specs.declared.units.SymbolKind.{SymbolKind}
-use Rattle.tok_data.specs.declared.sources.TokId.{TokId}
 use Rattle.tok_data.specs.declared.tokens.OutToken.{OutToken}
 use Rattle.tok_data.specs.declared.tokens.Spelt.{Spelt}
 use Rattle.tok_data.specs.declared.tokens.Spelt.TheVariants as spelt
