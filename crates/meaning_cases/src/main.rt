@@ -1,9 +1,9 @@
 // Meanings of units, case by case: reads units from the lines of standard input and prints what each means. A line is one of: `text FILE AT
 // WORD..`, tokens of a text from this number on, which are output tokens; `made FILE AT WORD`, an output token that was made and falls there;
 // `enter FILE FROM AT`, a text that was entered by this token; `head ITEM`, the head of the item of this number, and `inline ITEM`, one with
-// `inline` and without `extern`; `body ITEM`, its body; `refused ITEM RULE AT`, a fault of its syntax; of the head or body that was named
-// last, with numbers of tokens in the item: `occ AT ANCHOR ROLE`, `object NAME ANCHOR TYPE`, `tag NAME ANCHOR ITEM.AT MEMBERS`, `stated HOW
-// NAME AT`, `symbol KIND AT`, `fault RULE AT NAME TYPE`. An anchor is `=NAME` where it has external linkage, else `ITEM.AT`. `end` ends a unit.
+// `inline` and without `extern`; `body ITEM`, its body; of the head or body that was named last, with numbers of tokens in the item: `occ AT
+// ANCHOR ROLE`, `object NAME ANCHOR TYPE`, `tag NAME ANCHOR ITEM.AT MEMBERS`, `stated HOW NAME AT`, `symbol KIND AT`, `fault RULE AT NAME
+// TYPE`. An anchor is `=NAME` where it has external linkage, else `ITEM.AT`. `end` ends a unit.
 #![tactic(auto)]
 
 mod parts;

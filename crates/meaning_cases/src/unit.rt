@@ -3,10 +3,9 @@ use crate::parts::Part;
 use crate::shown::show;
 use crate::words::{number, out_token, share_item, token_id};
 use scope_tables::{BodyMeaning, HeadMeaning};
-use shared_list::Listing;
 use std::alloc::{AllocError, Global};
 use tok_data::{FileId, OutToken, Spelt, TokId};
-use type_data::{Fault, ItemName};
+use type_data::ItemName;
 use unit_items::{Item, items_of};
 use unit_meaning::meaning_of;
 
@@ -19,7 +18,6 @@ pub struct Unit {
     part: Option<Part>,
     heads: Vec<HeadMeaning>,
     bodies: Vec<BodyMeaning>,
-    refused: Vec<(ItemName, Fault)>,
 }
 
 impl Unit {
@@ -31,7 +29,6 @@ impl Unit {
             part: None,
             heads: Vec::new(alloc),
             bodies: Vec::new(alloc),
-            refused: Vec::new(alloc),
         }
     }
 
@@ -98,21 +95,6 @@ impl Unit {
         Ok(true)
     }
 
-    fn refuse(&mut self, alloc: Global, item: u32, rule: u16, at: u32) -> Result<bool, AllocError> {
-        self.cut(alloc)?;
-        let Some(name) = self.name(item)? else {
-            return Ok(false);
-        };
-        let fault = Fault {
-            rule,
-            at,
-            names: Listing::from_vec(Vec::new(alloc)),
-            types: Listing::from_vec(Vec::new(alloc)),
-        };
-        self.refused.push((name, fault))?;
-        Ok(true)
-    }
-
     fn read_part(&mut self, alloc: Global, line: &str) -> Result<bool, AllocError> {
         match &mut self.part {
             Some(part) => part.read(alloc, self.items.as_slice(), line),
@@ -153,10 +135,6 @@ impl Unit {
         if what == "head" || what == "inline" || what == "body" {
             return self.open(alloc, what, item);
         }
-        if what == "refused" {
-            let rule = second.parse::<u16>().unwrap_or(0);
-            return self.refuse(alloc, item, rule, number(Some(rest)));
-        }
         self.read_part(alloc, line)
     }
 
@@ -171,7 +149,6 @@ impl Unit {
             self.entered.as_slice(),
             self.heads.as_slice(),
             self.bodies.as_slice(),
-            self.refused.as_slice(),
         )?;
         show(alloc, &meaning)
     }

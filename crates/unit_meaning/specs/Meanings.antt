@@ -5,8 +5,6 @@ use Rattle.scope_tables.specs.declared.meanings.HeadMeaning.{HeadMeaning}
 use Rattle.scope_tables.specs.declared.units.Exports.{Exports}
 use Rattle.scope_tables.specs.declared.units.UnitMeaning.{UnitMeaning}
 use Rattle.tok_data.specs.declared.faults.ShownFault.{ShownFault}
-use Rattle.type_data.specs.declared.judged.Fault.{Fault}
-use Rattle.type_data.specs.declared.names.ItemName.{ItemName}
 use Rattle.unit_ends.specs.Ends.{ends}
 use Rattle.unit_items.specs.Units.{Unit}
 use Rattle.unit_meaning.specs.Entities.{entities}
@@ -17,21 +15,19 @@ use Rattle.unit_meaning.specs.Sites.{Entry, all_reached}
 use Rattle.unit_meaning.specs.Symbols.{symbols}
 use Rattle.unit_meaning.specs.Tags.{tags}
 
--- a unit with the library texts that were reached, and what its items mean: their heads, their bodies, and what of
--- their syntax is refused; each list in the order of the items
+-- a unit with the library texts that were reached, and what its items mean: their heads and their bodies, each list in the order of the items
 pub record Elaborated : Type 0 where
   pub unit : Unit
   pub reached : List Entry
   pub heads : List HeadMeaning
   pub bodies : List BodyMeaning
-  pub refused : List (ItemName × Fault)
 
 abbrev pub showing : Elaborated → shown.Showing
 showing e = record { unit = e.unit; reached = e.reached; tags = tags e.heads e.bodies }
 
 -- items after items, and then the end of the unit
 unfoldable pub faults : Elaborated → List ShownFault
-faults e = shown.of_items (showing e) e.unit.items e.heads e.bodies e.refused ++ shown.of_pairs (showing e) (ends e.heads e.bodies)
+faults e = shown.of_items (showing e) e.unit.items e.heads e.bodies ++ shown.of_pairs (showing e) (ends e.heads e.bodies)
 
 unfoldable pub exports : Elaborated → Exports
 exports e = record {
@@ -49,5 +45,5 @@ meant e = record {
 }
 
 -- the same with the texts that were entered
-abbrev pub meaning : Unit → List Entry → List HeadMeaning → List BodyMeaning → List (ItemName × Fault) → UnitMeaning
-meaning u entered hs bs refused = meant (record { unit = u; reached = all_reached [] entered; heads = hs; bodies = bs; refused = refused })
+abbrev pub meaning : Unit → List Entry → List HeadMeaning → List BodyMeaning → UnitMeaning
+meaning u entered hs bs = meant (record { unit = u; reached = all_reached [] entered; heads = hs; bodies = bs })

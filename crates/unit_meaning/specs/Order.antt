@@ -3,7 +3,6 @@ use Rattle.std.specs.Prelude.{ℕ, Bool, List, take, drop}
 use Rattle.std.specs.List.{prefix_len}
 use Rattle.scope_tables.specs.declared.meanings.BodyMeaning.{BodyMeaning}
 use Rattle.scope_tables.specs.declared.meanings.HeadMeaning.{HeadMeaning}
-use Rattle.type_data.specs.declared.judged.Fault.{Fault}
 use Rattle.type_data.specs.declared.names.ItemName.{ItemName}
 use Rattle.type_data.specs.contracts.names.ItemNamePartialEq.TheImpl as items
 
@@ -25,6 +24,3 @@ of_head h = h.item
 
 abbrev pub of_body : BodyMeaning → ItemName
 of_body b = b.item
-
-abbrev pub of_fault : ItemName × Fault → ItemName
-of_fault f = f.0

@@ -13,5 +13,4 @@ elaborated_of e = record {
   reached = e.reached.now;
   heads = e.heads.now;
   bodies = e.bodies.now;
-  refused = e.refused.now;
 }

@@ -1,7 +1,6 @@
 // A unit, and what its items mean.
 use scope_tables::{BodyMeaning, HeadMeaning};
 use tok_data::{FileId, TokId};
-use type_data::{Fault, ItemName};
 use unit_items::{Item, Sources};
 
 /// A unit with the library texts that were reached, and what its items mean.
@@ -11,5 +10,4 @@ pub(crate) struct Elaborated<'a> {
     pub(crate) reached: &'a [(FileId, TokId)],
     pub(crate) heads: &'a [HeadMeaning],
     pub(crate) bodies: &'a [BodyMeaning],
-    pub(crate) refused: &'a [(ItemName, Fault)],
 }

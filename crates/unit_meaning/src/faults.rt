@@ -3,7 +3,7 @@ ghost use Rattle.std.specs.Prelude.{◌≡◌, ◌++◌, map, IfOk, OnOk};
 ghost use Rattle.unit_meaning.specs.Faults as spec;
 ghost use Rattle.unit_meaning.specs.Seen.{showing_of};
 
-use crate::order::{part_bodies, part_faults, part_heads};
+use crate::order::{part_bodies, part_heads};
 use crate::sites::fallen_in;
 use fault_texts::message;
 use scope_tables::{BodyMeaning, HeadMeaning};
@@ -112,14 +112,12 @@ pub(crate) fn of_items(
     items: &[Item],
     heads: &[HeadMeaning],
     bodies: &[BodyMeaning],
-    refused: &[(ItemName, Fault)],
 ) -> Result<Vec<ShownFault>, AllocError>
-    ensures { IfOk result (λ out. out.items ≡ spec.of_items (showing_of showing.now) items.now heads.now bodies.now refused.now) }
+    ensures { IfOk result (λ out. out.items ≡ spec.of_items (showing_of showing.now) items.now heads.now bodies.now) }
 {
     let mut out = Vec::new(alloc);
     let mut later_heads = heads;
     let mut later_bodies = bodies;
-    let mut later_faults = refused;
     let mut rest = items;
     'items: while let Some((item, behind)) = rest.split_first() {
         rest = behind;
@@ -129,9 +127,6 @@ pub(crate) fn of_items(
         let (own_bodies, behind_bodies) = part_bodies(later_bodies, &item.name);
         later_bodies = behind_bodies;
         add_bodies(alloc, &mut out, showing, own_bodies)?;
-        let (own_faults, behind_faults) = part_faults(later_faults, &item.name);
-        later_faults = behind_faults;
-        add_pairs(alloc, &mut out, showing, own_faults)?;
     }
     Ok(out)
 }

@@ -19,7 +19,7 @@ use scope_tables::{BodyMeaning, Entity, Exports, HeadMeaning, Occ, UnitMeaning};
 use shared_list::Listing;
 use std::alloc::{AllocError, Global};
 use tok_data::{FileId, OutToken, ShownFault, TokId};
-use type_data::{Fault, ItemName, Tags};
+use type_data::Tags;
 use unit_ends::end_faults;
 use unit_items::{Item, Sources};
 
@@ -40,7 +40,6 @@ fn faults(alloc: Global, unit: &Elaborated<'_>, tags: &Tags) -> Result<Vec<Shown
         unit.sources.items(),
         unit.heads,
         unit.bodies,
-        unit.refused,
     )?;
     let ends = end_faults(alloc, unit.heads, unit.bodies)?;
     add_pairs(alloc, &mut out, &showing, &ends)?;
@@ -89,10 +88,10 @@ fn meant(alloc: Global, unit: &Elaborated<'_>) -> Result<UnitMeaning, AllocError
     })
 }
 
-/// What a unit means (ISO C11 5.1.1.1, 6.9), by its output tokens, its items, the texts that it entered, and what its items mean: `heads`,
-/// `bodies`, and in `refused` the faults of syntax, each of an item. These lists are in the order of the items.
+/// What a unit means (ISO C11 5.1.1.1, 6.9), by its output tokens, its items, the texts that it entered, and what its items mean: `heads` and
+/// `bodies`, in the order of the items.
 ///
-/// Faults: items after items, of each those of its head, of its body and of its syntax, and then those of the unit's end. A fault falls on
+/// Faults: items after items, of each those of its head and of its body, and then those of the unit's end. A fault falls on
 /// the token of a text that led to its output token (6.10.3), and one in a library text on the directive by which the unit reached that.
 /// Occurrences: of each item those of the head and of the body, as they stand there. Entities: one for each anchor, in the order of the first
 /// ones, and of each the last one of the last item. Symbols: those of the heads; a token that was made is none. Exports: the names among the
@@ -107,9 +106,8 @@ pub fn meaning_of(
     entered: &[(FileId, TokId)],
     heads: &[HeadMeaning],
     bodies: &[BodyMeaning],
-    refused: &[(ItemName, Fault)],
 ) -> Result<UnitMeaning, AllocError>
-    ensures { IfOk result (λ m. m ≡ spec.meaning (record { tokens = tokens.now; items = items.now }) entered.now heads.now bodies.now refused.now) }
+    ensures { IfOk result (λ m. m ≡ spec.meaning (record { tokens = tokens.now; items = items.now }) entered.now heads.now bodies.now) }
 {
     let reached = all_reached(alloc, entered)?;
     let sources = Sources::new(alloc, tokens, items)?;
@@ -118,7 +116,6 @@ pub fn meaning_of(
         reached: &reached,
         heads,
         bodies,
-        refused,
     };
     let meaning = meant(alloc, &unit)?;
     Ok(meaning)

@@ -3,7 +3,7 @@ ghost use Rattle.std.specs.Prelude.{◌≡◌, ◌≤◌, length};
 ghost use Rattle.unit_meaning.specs.Order as spec;
 
 use scope_tables::{BodyMeaning, HeadMeaning};
-use type_data::{Fault, ItemName};
+use type_data::ItemName;
 
 fn heads_of(heads: &[HeadMeaning], item: &ItemName) -> usize
     ensures count { result ≡ spec.count spec.of_head item.now heads.now }
@@ -17,13 +17,6 @@ fn bodies_of(bodies: &[BodyMeaning], item: &ItemName) -> usize
     ensures within { result ≤ length bodies.now }
 {
     bodies.iter().take_while(|body| body.item == *item).count()
-}
-
-fn faults_of(faults: &[(ItemName, Fault)], item: &ItemName) -> usize
-    ensures count { result ≡ spec.count spec.of_fault item.now faults.now }
-    ensures within { result ≤ length faults.now }
-{
-    faults.iter().take_while(|fault| fault.0 == *item).count()
 }
 
 /// The heads of this item, and those of the items behind it.
@@ -46,15 +39,4 @@ pub(crate) fn part_bodies<'a>(
     ensures behind { result.1.now ≡ spec.behind spec.of_body item.now bodies.now }
 {
     bodies.split_at(bodies_of(bodies, item))
-}
-
-/// The faults of this item, and those of the items behind it.
-pub(crate) fn part_faults<'a>(
-    faults: &'a [(ItemName, Fault)],
-    item: &ItemName,
-) -> (&'a [(ItemName, Fault)], &'a [(ItemName, Fault)])
-    ensures front { result.0.now ≡ spec.front spec.of_fault item.now faults.now }
-    ensures behind { result.1.now ≡ spec.behind spec.of_fault item.now faults.now }
-{
-    faults.split_at(faults_of(faults, item))
 }
