@@ -3,11 +3,12 @@ use Rattle.std.proofs.Common.{rules, ◌≡◌, refl, sym, ap, ◌∙◌, Bool, 
 use Rattle.std.specs.Bool.{Decides}
 use Rattle.std.specs.Cmp.{IsEquivalence, decided}
 use Rattle.std.specs.Map.{lookup}
+use Rattle.std.specs.Option.{option_or}
 use Rattle.indexmap.specs.IndexMap.{insert_entry}
 use Rattle.scope_tables.specs.declared.entities.Entity.{Entity}
 use Rattle.elab_state.specs.declared.wants.Wanted.{Wanted}
 use Rattle.elab_state.specs.Same.{same_wanted}
-use Rattle.elab_state.specs.Wants.{Told}
+use Rattle.elab_state.specs.Wants.{Told, answered}
 use Rattle.earlier_items.specs.Before.{or_nothing, said}
 
 twice : {X : Type 0} → (b : Bool) → (x y z : X) → cond b x z ≡ cond b x (cond b y z)
@@ -39,13 +40,25 @@ module _ {K X : Type 0} {eq : K → K → Bool} (laws : IsEquivalence eq) (k q :
 pub wanted_decides : (a b : Wanted) → Decides (same_wanted a b) (a ≡ b)
 wanted_decides a b = search rules
 
-nothing_of : (b : Bool) → (e : Entity) → (other : Option (Option Entity)) → or_nothing (cond b (Some (Some e)) other) ≡ cond b (Some e) (or_nothing other)
-nothing_of true e other = refl
-nothing_of false e other = refl
+nothing_of : (b : Bool) → (e : Entity) → (other others : Option (Option Entity))
+    → or_nothing (option_or (cond b (Some (Some e)) other) others) ≡ cond b (Some e) (or_nothing (option_or other others))
+nothing_of true e other others = refl
+nothing_of false e other others = refl
 
-pub said_then : (w q : Wanted) → (e : Entity) → (told : Told)
-    → said (insert_entry same_wanted told w (Some e)) q ≡ (if same_wanted w q then Some e else said told q)
+pub said_then : (w q : Wanted) → (e : Entity) → (old new : Told)
+    → new.entries ≡ insert_entry same_wanted old.entries w (Some e) → new.others ≡ old.others → said new q ≡ (if same_wanted w q then Some e else said old q)
 unfolding said
-said_then w q e told =
-    ap or_nothing (looked (decided same_wanted wanted_decides) w q (Some e) told)
-    ∙ nothing_of (same_wanted w q) e (lookup (same_wanted q) told)
+said_then w q e old new entries others =
+    ap (λ xs. or_nothing (option_or (lookup (same_wanted q) xs) new.others)) entries
+    ∙ ap (λ o. or_nothing (option_or (lookup (same_wanted q) (insert_entry same_wanted old.entries w (Some e))) o)) others
+    ∙ ap (λ r. or_nothing (option_or r old.others)) (looked (decided same_wanted wanted_decides) w q (Some e) old.entries)
+    ∙ nothing_of (same_wanted w q) e (lookup (same_wanted q) old.entries) old.others
+
+or_others : (r others : Option (Option Entity)) → others ≡ Some None → option_or r others ≡ Some (or_nothing (option_or r others))
+or_others (Some a) others e = refl
+or_others None others e = e ∙ sym (ap (λ o. Some (or_nothing o)) e)
+
+-- where all others have no entity, each question is answered by what is said of it
+pub all_said : (told : Told) → told.others ≡ Some None → (q : Wanted) → answered told q ≡ Some (said told q)
+unfolding said
+all_said told e q = or_others (lookup (same_wanted q) told.entries) told.others e

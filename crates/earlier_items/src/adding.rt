@@ -12,12 +12,13 @@ use scope_tables::{Binding, Entity, EntityKind};
 use std::alloc::{AllocError, Global};
 use type_data::Space;
 
-/// Nothing is said.
+/// Nothing is declared: each question is answered so.
 #[tactic(auto, unfolding(crate::specs::Before::said))]
 pub(crate) fn nothing(alloc: Global) -> Known
-    ensures { (q : Question) → said result q ≡ None }
+    ensures said { (q : Question) → said result q ≡ None }
+    ensures whole { result.others ≡ Some None }
 {
-    Known::new(alloc)
+    Known::whole(alloc)
 }
 
 /// What is said of a question.
@@ -42,7 +43,8 @@ fn borrowed(answer: &Option<Entity>) -> Option<&Entity>
 
 #[tactic(auto, unfolding(crate::specs::Before::said), using(crate::proofs::Inserted::said_then))]
 fn put(alloc: Global, known: &mut Known, wanted: Wanted, entity: &Entity) -> Result<(), AllocError>
-    ensures { OnOk result ((q : Question) → said known.new q ≡ (if same_wanted wanted q then Some entity.now else said known.old q)) }
+    ensures said { OnOk result ((q : Question) → said known.new q ≡ (if same_wanted wanted q then Some entity.now else said known.old q)) }
+    ensures others { known.new.others ≡ known.old.others }
 {
     let entity = entity.share(alloc)?;
     known.insert(wanted, Some(entity))
@@ -71,7 +73,8 @@ fn wanted_of(binding: &Binding) -> Result<Wanted, AllocError>
 }
 
 fn bind(alloc: Global, known: &mut Known, binding: &Binding) -> Result<(), AllocError>
-    ensures { OnOk result ((q : Question) → said known.new q ≡ or_outside (spec.if_it (wants.wanted binding.now.space binding.now.name) q binding.now.entity) (said known.old q)) }
+    ensures said { OnOk result ((q : Question) → said known.new q ≡ or_outside (spec.if_it (wants.wanted binding.now.space binding.now.name) q binding.now.entity) (said known.old q)) }
+    ensures others { known.new.others ≡ known.old.others }
 {
     let wanted = wanted_of(binding)?;
     put(alloc, known, wanted, &binding.entity)
@@ -83,7 +86,8 @@ pub(crate) fn bind_all(
     known: &mut Known,
     bindings: &[Binding],
 ) -> Result<(), AllocError>
-    ensures { OnOk result ((q : Question) → said known.new q ≡ or_outside (spec.bound q bindings.now) (said known.old q)) }
+    ensures said { OnOk result ((q : Question) → said known.new q ≡ or_outside (spec.bound q bindings.now) (said known.old q)) }
+    ensures others { known.new.others ≡ known.old.others }
 {
     let mut rest = bindings;
     'bindings: while let Some((binding, behind)) = rest.split_first() {
@@ -94,7 +98,8 @@ pub(crate) fn bind_all(
 }
 
 fn note_tag(alloc: Global, known: &mut Known, entity: &Entity) -> Result<(), AllocError>
-    ensures { OnOk result ((q : Question) → said known.new q ≡ or_outside (spec.tag_by q entity.now entity.now.kind) (said known.old q)) }
+    ensures said { OnOk result ((q : Question) → said known.new q ≡ or_outside (spec.tag_by q entity.now entity.now.kind) (said known.old q)) }
+    ensures others { known.new.others ≡ known.old.others }
 {
     match &entity.kind {
         EntityKind::Tag(id, _) => {
@@ -116,7 +121,8 @@ pub(crate) fn note_tags(
     known: &mut Known,
     entities: &[Entity],
 ) -> Result<(), AllocError>
-    ensures { OnOk result ((q : Question) → said known.new q ≡ or_outside (spec.tag q entities.now) (said known.old q)) }
+    ensures said { OnOk result ((q : Question) → said known.new q ≡ or_outside (spec.tag q entities.now) (said known.old q)) }
+    ensures others { known.new.others ≡ known.old.others }
 {
     let mut rest = entities;
     'entities: while let Some((entity, behind)) = rest.split_first() {

@@ -1,7 +1,9 @@
 // The items in front of an item.
-ghost use Rattle.std.specs.Prelude.{◌≡◌, [], ◌∷◌, ◌++◌, List, IfOk, OnOk, option_map};
+ghost use Rattle.std.specs.Prelude.{◌≡◌, [], ◌∷◌, ◌++◌, List, Some, IfOk, OnOk, option_map};
 ghost use Rattle.earlier_items.specs.Before.{AreBefore, said};
 ghost use Rattle.earlier_items.specs.Typedefs as types;
+ghost use Rattle.elab_state.specs.Wants.{answered};
+ghost use Rattle.elab_state.specs.declared.wants.Wanted.{Wanted as Question};
 ghost use Rattle.scope_tables.specs.declared.meanings.HeadMeaning.{HeadMeaning as Head};
 
 use crate::adding::{bind_all, note_tags, nothing, said_of};
@@ -21,17 +23,18 @@ pub struct Earlier {
 }
 
 impl Model for Earlier {
-    ghost use Rattle.std.specs.Prelude.{List, Option};
+    ghost use Rattle.std.specs.Prelude.{◌≡◌, None, Some};
     ghost use Rattle.std.specs.Coded.{codes};
     ghost use Rattle.type_data.specs.contracts.types.CType as types;
-    ghost use Rattle.scope_tables.specs.declared.entities.Entity.{Entity};
-    ghost use Rattle.elab_state.specs.declared.wants.Wanted.{Wanted};
+    ghost use Rattle.elab_state.specs.Wants.{Told};
 
-    ghost Value = { List (Wanted × Option Entity) };
+    ghost Value = { Told };
 
     ghost coded = { Prim.hlevel (codes, types.the_row.coded) };
 
     ghost view = { λ e. e.known };
+
+    ghost invariant = { λ e. e.known.others ≡ Some None };
 }
 
 impl Earlier {
@@ -61,9 +64,11 @@ impl Earlier {
         said_of(&self.known, wanted)
     }
 
-    /// All that they declare, as answers.
+    /// All that they declare, as answers: each question has one.
+    #[tactic(auto, using(crate::proofs::Inserted::all_said))]
     pub fn known(&self) -> &Known
-        ensures { result.now ≡ self.now }
+        ensures known { result.now ≡ self.now }
+        ensures whole { (q : Question) → answered result.now q ≡ Some (said self.now q) }
     {
         &self.known
     }

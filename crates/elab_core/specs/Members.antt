@@ -11,7 +11,8 @@ use Rattle.type_data.specs.Same.{same_tag}
 use Rattle.type_data.specs.Types.{Ty, Void_type, Basic_type, Enumerated_type, Tagged_type, Pointer_to, Array_of, Function_of, Bad_type}
 use Rattle.type_rel.specs.Inside.{inside_or, most_tags}
 use Rattle.type_rel.specs.Kinds.{Tagging}
-use Rattle.elab_state.specs.Tokens.{text_of, token}
+use Rattle.scope_tables.specs.Files.{text_of}
+use Rattle.elab_state.specs.Tokens.{token}
 
 abbrev pub of_type : (TagId → Option Member) → Ty → Option Member
 of_type enter (Tagged_type id) = enter id

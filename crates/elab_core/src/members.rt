@@ -2,8 +2,8 @@
 ghost use Rattle.std.specs.Prelude.{◌≡◌, IfOk, option_map};
 ghost use Rattle.elab_core.specs.Members as spec;
 
-use elab_state::{item_file, token};
-use scope_tables::Anchor;
+use elab_state::token;
+use scope_tables::{Anchor, item_file};
 use std::alloc::{AllocError, Global};
 use type_data::{CType, Member, Node, TagId, Tags};
 use type_rel::{deeper, is_inside, most_tags};

@@ -2,12 +2,14 @@
 use Rattle.std.proofs.Common.{rules, ◌≡◌, refl, sym, ap, ◌∙◌, subst, Bool, true, false, not, cond, ◌||◌, List, [], ◌∷◌, ◌++◌, append_assoc, append-nil, filter, Option, None, Some, is_some, T}
 use Rattle.std.specs.Bool.{Decides}
 use Rattle.std.specs.List.{list_any}
-use Rattle.asking.specs.Asking.{Asking, asks_all}
+use Rattle.asking.specs.Asking.{Answers, Asking, asks_all}
 use Rattle.asking.specs.LookUps.{LookUp, Looked, Needs, both, by_found, found_all, once, run_by, unanswered}
 use Rattle.indexmap.specs.IndexSet.{insert_key}
 use Rattle.scope_tables.specs.declared.entities.Entity.{Entity}
 use Rattle.elab_state.specs.declared.wants.Wanted.{Wanted}
 use Rattle.elab_state.specs.Same.{same_wanted}
+use Rattle.elab_state.specs.Answering.{or_nothing, with_answer, with_answered, with_answers}
+use Rattle.elab_state.specs.Doings.{Made}
 use Rattle.elab_state.specs.Wants.{wants}
 use Rattle.elab_state.specs.Asked.{all_noted, noted}
 
@@ -73,6 +75,29 @@ module _ {A : Type 0} (look : LookUp wants) where
   some_lack [] next h = absurd (h refl)
   some_lack (q ∷ qs) next h =
       lacking (unanswered wants look (q ∷ qs)) (run_by look next) (found_all wants look (q ∷ qs)) (λ s. ap (once wants) (filled look (q ∷ qs) s)) h
+
+-- ---- where all are told, what they are told stands as names
+
+module _ {X : Type 0} (look : LookUp wants) (ws : List Wanted) (next : Made → Looked wants X) where
+  -- one more, whose answer and those of the others are found
+  stands_with : (q : Wanted) (qs : List Wanted) (o : Option (Option Entity)) (p : Option (Answers wants qs)) (m : Made) → is_some (both o p) ≡ true →
+      ((now : Made) → is_some p ≡ true → by_found ws (λ answers. next (with_answers qs answers now)) p ≡ next (with_answered look qs now)) →
+      by_found ws (λ answers. next (with_answers (q ∷ qs) answers m)) (both o p) ≡ next (with_answered look qs (with_answer q (or_nothing o) m))
+  stands_with q qs None p m e h = absurd (subst T (sym e) tt)
+  stands_with q qs (Some a) None m e h = absurd (subst T (sym e) tt)
+  stands_with q qs (Some a) (Some answers) m e h = h (with_answer q a m) refl
+
+  stand : (qs : List Wanted) (m : Made) → is_some (found_all wants look qs) ≡ true →
+      by_found ws (λ answers. next (with_answers qs answers m)) (found_all wants look qs) ≡ next (with_answered look qs m)
+  stand [] m e = refl
+  stand (q ∷ qs) m e = stands_with q qs (look q) (found_all wants look qs) m e (stand qs)
+
+pub told_stand : {A : Type 0} (look : LookUp wants) (qs : List Wanted) (next : Made → Asking wants A) (m : Made) → unanswered wants look qs ≡ [] →
+    run_by look (asks_all qs (λ answers. next (with_answers qs answers m))) ≡ run_by look (next (with_answered look qs m))
+told_stand look [] next m e = refl
+told_stand look (q ∷ qs) next m e =
+    stand look (unanswered wants look (q ∷ qs)) (λ now. run_by look (next now)) (q ∷ qs) m
+    (all_found look (q ∷ qs) (none_once (filter (λ p. not (is_some (look p))) (q ∷ qs)) e))
 
 -- ---- noted one after another
 

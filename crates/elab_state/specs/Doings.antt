@@ -53,4 +53,4 @@ abbrev pub scope_kind : Made → ScopeKind
 scope_kind m = or_file (innermost_kind m.names)
 
 abbrev pub begun : ScopeKind → Tagging → Made
-begun kind tags = record { names = entered kind []; tags = tags; declared = []; entities = []; occs = []; faults = []; used = [] }
+begun kind tags = record { names = entered kind []; tags = tags; declared = []; entities = []; occs = []; faults = []; used = []; round = []; params = None }

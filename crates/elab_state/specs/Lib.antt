@@ -11,3 +11,4 @@ pub mod Looks
 pub mod Ties
 pub mod Words
 pub mod Asked
+pub mod Answering

@@ -1,11 +1,10 @@
 -- The tokens of an item, which are named by their numbers in it.
-use Rattle.std.specs.Prelude.{ℕ, Bool, true, false, not, List, [], ◌∷◌, ◌++◌, codes, decimal, Option, Some, None, slice_get}
+use Rattle.std.specs.Prelude.{ℕ, Bool, true, false, not, List, [], ◌∷◌, Option, Some, None, slice_get}
 use Rattle.tok_data.specs.declared.sources.TokId.{TokId}
 use Rattle.tok_data.specs.declared.tokens.OutToken.{OutToken}
 use Rattle.tok_data.specs.declared.tokens.PpKind.{PpKind}
 use Rattle.tok_data.specs.declared.tokens.PpKind.TheVariants as pp
 use Rattle.tok_data.specs.Keywords.{is_keyword}
-use Rattle.type_data.specs.declared.names.ItemName.{ItemName}
 
 abbrev pub spelled : Option OutToken → List ℕ
 spelled (Some t) = t.spelling
@@ -30,10 +29,6 @@ is_identifier t = is_name t.kind t.spelling
 abbrev pub first_number : List ℕ → ℕ
 first_number [] = 0
 first_number (n ∷ ns) = n
-
--- the text that an item's tokens are named by
-abbrev pub text_of : ItemName → List ℕ
-text_of item = item.label ++ (codes "#" ++ decimal item.nth)
 
 abbrev pub token : List ℕ → ℕ → TokId
 token file n = record { file = file; at = n }

@@ -2,6 +2,7 @@
 -- alignment are asked for under the empty name of its own name space.
 use Rattle.std.specs.Prelude.{ℕ, List, [], Option, Some, None, if◌then◌else◌}
 use Rattle.std.specs.Map.{lookup}
+use Rattle.std.specs.Option.{option_or}
 use Rattle.asking.specs.Asking.{Kind}
 use Rattle.asking.specs.LookUps.{LookUp}
 use Rattle.scope_tables.specs.declared.entities.Entity.{Entity}
@@ -24,9 +25,10 @@ reads q entry = if same_wanted q entry.0 then Some entry.1 else None
 abbrev pub wants : Kind
 wants = record { Question = Wanted; Answer = λ q. Option Entity; Entry = Wanted × Option Entity; reads = reads; same = same_wanted }
 
--- questions with their answers
-abbrev pub Told : Type 0
-Told = List (Wanted × Option Entity)
+-- questions with their answers, and the answer to all others, where they have one
+pub record Told : Type 0 where
+  pub entries : List (Wanted × Option Entity)
+  pub others : Option (Option Entity)
 
 abbrev pub answered : Told → LookUp wants
-answered told q = lookup (same_wanted q) told
+answered told q = option_or (lookup (same_wanted q) told.entries) told.others

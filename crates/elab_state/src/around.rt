@@ -17,9 +17,11 @@ pub struct Around<'a> {
     pub known: &'a Known,
 }
 
-/// Where an expression stands.
+/// Where an expression or a declarator stands.
 #[derive(Clone, Copy, Debug, PartialEq, Eq, Drop)]
 pub struct Where {
     /// Its names count as uses of what has internal linkage (ISO C11 6.9p3): it is no operand of `sizeof` or `_Alignof`.
     pub counted: bool,
+    /// It is the declarator of a function definition (6.9.1), and no parameter list stands round the place.
+    pub defining: bool,
 }

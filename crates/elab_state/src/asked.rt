@@ -55,7 +55,7 @@ impl Asked {
 }
 
 #[tactic(auto, unfolding(crate::specs::Asked::begins_tag))]
-fn begins_tag(text: &str) -> bool
+pub(crate) fn begins_tag(text: &str) -> bool
     ensures { result ≡ spec.begins_tag text.now }
 {
     text == "struct" || text == "union" || text == "enum"
@@ -67,7 +67,7 @@ fn space_behind(tag: bool) -> Space
     if tag { Space::Tags } else { Space::Ordinary }
 }
 
-fn wanted_by(tag: bool, token: &OutToken) -> Result<Wanted, AllocError>
+pub(crate) fn wanted_by(tag: bool, token: &OutToken) -> Result<Wanted, AllocError>
     ensures { IfOk result (λ one. one ≡ spec.wanted_by tag token.now) }
 {
     let name = token.spelling.share()?;

@@ -18,7 +18,7 @@ fn note(alloc: Global, made: &mut Made, binding: &Binding) -> Result<(), AllocEr
     Ok(())
 }
 
-fn put(made: &mut Made, binding: Binding) -> Result<(), AllocError>
+pub(crate) fn put(made: &mut Made, binding: Binding) -> Result<(), AllocError>
     ensures { OnOk result (made.new ≡ spec.put binding made.old) }
 {
     if made.names.depth() > 0 {

@@ -1,5 +1,5 @@
 // A list that grows at its end.
-ghost use Rattle.std.specs.Prelude.{◌≡◌, [], ◌∷◌, ◌++◌, IfOk, OnOk};
+ghost use Rattle.std.specs.Prelude.{◌≡◌, [], ◌∷◌, ◌++◌, ◌-◌, length, take, IfOk, OnOk};
 
 use shared_list::Listing;
 use std::alloc::{AllocError, Global};
@@ -44,6 +44,13 @@ impl<T: Drop> Grown<T> {
     {
         self.items.push(value)?;
         Ok(())
+    }
+
+    /// Drops the last value, where there is one.
+    pub fn pop(&mut self)
+        ensures { self.new ≡ take (length self.old - 1) self.old }
+    {
+        self.items.pop();
     }
 
     /// Its values.

@@ -2,6 +2,7 @@
 // found so far.
 #![tactic(auto)]
 
+mod answering;
 mod around;
 mod asked;
 mod binding;
@@ -21,6 +22,7 @@ mod tokens;
 mod wants;
 mod words;
 
+pub use answering::note_answers;
 pub use around::{Around, Where};
 pub use asked::unanswered;
 pub use binding::bind;
@@ -33,6 +35,7 @@ pub use made::Made;
 pub use names::{denoted, mark, note_use, use_entity};
 pub use noting::{fault_at, leave_out};
 pub use numbers::{number, own_tag, own_token};
-pub use tokens::{first_number, is_identifier, item_file, name_at, spelling, token};
+pub use sharing::share_binding;
+pub use tokens::{first_number, is_identifier, name_at, spelling, token};
 pub use wants::{Elab, Wanted};
 pub use words::{Word, word_of};

@@ -5,9 +5,10 @@ ghost use Rattle.elab_state.specs.Doings as spec;
 use crate::grown::Grown;
 use crate::kinds::or_file;
 use scope_tables::{Binding, Entity, Occ, ScopeKind, Scopes};
+use shared_list::Listing;
 use shared_text::Name;
 use std::alloc::{AllocError, Global};
-use type_data::{Fault, Tags};
+use type_data::{Fault, TagId, Tags};
 
 /// What a judgement of a part of an item has made so far. Tokens are named by their numbers in the item, those of faults by the numbers of
 /// trees.
@@ -26,6 +27,11 @@ pub struct Made {
     pub faults: Grown<Fault>,
     /// The names of entities with internal linkage, as often as they are used where that counts.
     pub used: Grown<Name>,
+    /// The tags whose bodies stand round the place that is judged, the innermost last (6.7.2.1, 6.7.2.2).
+    pub round: Grown<TagId>,
+    /// What the scope of the parameter list next to the name that a function definition declares has bound (6.9.1); none before such a
+    /// list.
+    pub params: Option<Listing<Binding>>,
 }
 
 impl Made {
@@ -43,6 +49,8 @@ impl Made {
             occs: Grown::new(alloc),
             faults: Grown::new(alloc),
             used: Grown::new(alloc),
+            round: Grown::new(alloc),
+            params: None,
         })
     }
 

@@ -19,7 +19,8 @@ pub(crate) fn share_space(space: &Space) -> Result<Space, AllocError>
     }
 }
 
-pub(crate) fn share_binding(alloc: Global, binding: &Binding) -> Result<Binding, AllocError>
+/// The same binding, whose texts and types are shared. Its cost is linear in the number of a tag's members.
+pub fn share_binding(alloc: Global, binding: &Binding) -> Result<Binding, AllocError>
     ensures { IfOk result (λ copy. copy ≡ binding.now) }
 {
     let space = share_space(&binding.space)?;

@@ -5,7 +5,6 @@ ghost use Rattle.elab_state.specs.Tokens as spec;
 use shared_text::Name;
 use std::alloc::{AllocError, Global};
 use tok_data::{FileId, OutToken, PpKind, TokId, is_keyword};
-use type_data::ItemName;
 
 /// The spelling of a token; empty where there is none of this number.
 pub fn spelling(tokens: &[OutToken], at: u32) -> &str
@@ -45,17 +44,6 @@ pub fn first_number(numbers: &[u32]) -> u32
         Some(number) => *number,
         None => 0,
     }
-}
-
-/// The text that the tokens of an item are named by: its label, `#`, and its number among the items with that label.
-pub fn item_file(alloc: Global, item: &ItemName) -> Result<FileId, AllocError>
-    ensures { IfOk result (λ file. file ≡ spec.text_of item.now) }
-{
-    let label = item.label.as_str();
-    let nth = item.nth;
-    let text = format!(in alloc; "{label}#{nth}")?;
-    let name = Name::from_str(alloc, text.as_str())?;
-    Ok(FileId::from_name(name))
 }
 
 /// A token of the item whose tokens are named by this text.
