@@ -18,7 +18,7 @@ after_bound : (d : ℕ) → (text : List ℕ) → depth_after d text ≤ d + 1
 unfolding depth_after
 after_bound d text = grind arith
 
-depth_bound : (d : ℕ) → (ts : List OutToken) → depth_from d ts ≤ d + length ts
+pub depth_bound : (d : ℕ) → (ts : List OutToken) → depth_from d ts ≤ d + length ts
 depth_bound d [] = omega arith
 depth_bound d (t ∷ ts) =
     let one : depth_after d t.spelling ≤ d + 1 = after_bound d t.spelling in
@@ -26,7 +26,7 @@ depth_bound d (t ∷ ts) =
     depth_bound (depth_after d t.spelling) ts in
     omega arith
 
-depth_of : (front : List OutToken) → (progress_of front).depth ≡ depth_from 0 front
+pub depth_of : (front : List OutToken) → (progress_of front).depth ≡ depth_from 0 front
 unfolding progress_of
 depth_of front = refl
 

@@ -59,3 +59,11 @@ items_from start front (t ∷ ts) =
 
 abbrev pub items : List OutToken → List (ℕ × ℕ)
 items = items_from 0 []
+
+-- the number of the `{` that opens the body; where none does, how many tokens there are
+abbrev pub body_from : List OutToken → List OutToken → ℕ
+body_from front [] = length front
+body_from front (t ∷ ts) = if opens_body front t.spelling then length front else body_from (front ++ t ∷ []) ts
+
+abbrev pub body_at : List OutToken → ℕ
+body_at = body_from []

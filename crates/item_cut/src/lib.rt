@@ -4,7 +4,9 @@
 mod cutting;
 mod labels;
 mod marks;
+mod openings;
 mod progress;
 
 pub use cutting::cut;
 pub use labels::label;
+pub use openings::body_start;

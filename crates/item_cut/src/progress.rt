@@ -48,7 +48,7 @@ impl Progress {
     }
 
     #[tactic(auto, unfolding(crate::specs::Progress::opens))]
-    fn opens(&self, text: &str) -> bool
+    pub fn opens(&self, text: &str) -> bool
         ensures { result ≡ steps.opens self.now text.now }
     {
         is_open_brace(text) && self.depth == 0 && self.closed && !self.assigned
