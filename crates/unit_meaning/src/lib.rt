@@ -16,3 +16,4 @@ mod symbols;
 mod tags;
 
 pub use meaning::meaning_of;
+pub use sites::{all_reached, moved};

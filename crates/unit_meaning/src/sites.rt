@@ -31,7 +31,9 @@ fn entry_of<'a>(reached: &'a [(FileId, TokId)], tok: &'a TokId) -> &'a TokId
     tok
 }
 
-fn moved(reached: &[(FileId, TokId)], tok: &TokId) -> Result<TokId, AllocError>
+/// Where a fault on a token falls: on itself, or, where it stands in a library text, on the directive by which the unit reached that. `reached`
+/// is what `all_reached` gives. It fails for want of memory alone.
+pub fn moved(reached: &[(FileId, TokId)], tok: &TokId) -> Result<TokId, AllocError>
     ensures { IfOk result (λ r. r ≡ spec.moved reached.now tok.now) }
 {
     if is_library(&tok.file) {
@@ -64,8 +66,9 @@ fn also_reached(
     Ok(())
 }
 
-/// The library texts that were reached, each with the first directive outside the library through which it was.
-pub(crate) fn all_reached(
+/// The library texts among those that were entered, each with the first directive outside the library through which it was. It fails for want of
+/// memory alone.
+pub fn all_reached(
     alloc: Global,
     entered: &[(FileId, TokId)],
 ) -> Result<Vec<(FileId, TokId)>, AllocError>
