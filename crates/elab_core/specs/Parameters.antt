@@ -8,6 +8,7 @@ use Rattle.scope_tables.specs.Scopes.{here}
 use Rattle.scope_tables.specs.declared.bindings.Binding.{Binding}
 use Rattle.scope_tables.specs.declared.entities.Anchor.{Anchor}
 use Rattle.scope_tables.specs.declared.entities.Entity.{Entity}
+use Rattle.scope_tables.specs.declared.entities.Role.{Role}
 use Rattle.scope_tables.specs.declared.entities.Role.TheVariants as role
 use Rattle.scope_tables.specs.declared.entities.ScopeKind.TheVariants as scope
 use Rattle.type_data.specs.declared.judged.CheckError.{CheckError}
@@ -85,8 +86,9 @@ abbrev pub name_of : Context → Option ℕ → List ℕ
 name_of c (Some n) = spelling c.tokens n
 name_of c None = []
 
-abbrev pub parts : Context → Gathered → ℕ → Option ℕ → Typed → DeclParts
-parts c g at own t = record {
+-- `body` says that it is one of a function definition (6.9.1)
+abbrev pub parts : Context → Bool → Gathered → ℕ → Option ℕ → Typed → DeclParts
+parts c body g at own t = record {
   name = name_of c own;
   at = at;
   tok = own_token c at;
@@ -100,7 +102,7 @@ parts c g at own t = record {
   qual = t.qual;
   scope = scope.Prototype;
   has_init = false;
-  has_body = false;
+  has_body = body;
 }
 
 -- 406 and 416 stand on the specifier
@@ -127,24 +129,28 @@ binding e = record { space = space.Ordinary; name = e.name; entity = e }
 abbrev pub bound_entity : Entity → Made → Made
 bound_entity e m = bound (binding e) m
 
--- 6.2.1p7: its scope begins behind its declarator
-abbrev pub declares : Context → ℕ → Entity → Made → Made
-declares c n e m = with_entity e (bound_entity e (occurs c n e.anchor role.Declares m))
+-- that of a definition defines its object
+abbrev pub role_in : Bool → Role
+role_in body = if body then role.Defines else role.Declares
 
-abbrev pub named : Context → Option ℕ → Entity → Made → Made
-named c (Some n) e m = declares c n e m
-named c None e m = m
+-- 6.2.1p7: its scope begins behind its declarator
+abbrev pub declared_by : Context → ℕ → Role → Entity → Made → Made
+declared_by c n r e m = with_entity e (bound_entity e (occurs c n e.anchor r m))
+
+abbrev pub named : Context → Option ℕ → Role → Entity → Made → Made
+named c (Some n) r e m = declared_by c n r e m
+named c None r e m = m
 
 -- a refused one leaves what its scope has under the name, of which its token is an occurrence all the same; else the name has no type
 abbrev pub without_type : DeclParts → DeclParts
 without_type d = record d { ty = Bad_type }
 
-abbrev pub refused_entity : Context → ℕ → Result Entity CheckError → Made → Made
-refused_entity c n (Ok e) m = declares c n e m
-refused_entity c n (Err error) m = m
+abbrev pub refused_entity : Context → ℕ → Role → Result Entity CheckError → Made → Made
+refused_entity c n r (Ok e) m = declared_by c n r e m
+refused_entity c n r (Err error) m = m
 
-abbrev pub declared_without_type : Context → DeclParts → ℕ → Made → Made
-declared_without_type c d n m = refused_entity c n (declared m.names (without_type d) m.tags) m
+abbrev pub declared_without_type : Context → Role → DeclParts → ℕ → Made → Made
+declared_without_type c r d n m = refused_entity c n r (declared m.names (without_type d) m.tags) m
 
 abbrev pub anchor_of : Option Entity → Option Anchor
 anchor_of (Some e) = Some e.anchor
@@ -153,31 +159,34 @@ anchor_of None = None
 abbrev pub anchor_here : List ℕ → Made → Option Anchor
 anchor_here name m = anchor_of (here space.Ordinary name m.names)
 
-abbrev pub refused_name : Context → DeclParts → ℕ → Option Anchor → Made → Made
-refused_name c d n (Some a) m = occurs c n a role.Declares m
-refused_name c d n None m = declared_without_type c d n m
+abbrev pub refused_name : Context → Role → DeclParts → ℕ → Option Anchor → Made → Made
+refused_name c r d n (Some a) m = occurs c n a r m
+refused_name c r d n None m = declared_without_type c r d n m
 
-abbrev pub refused : Context → DeclParts → Option ℕ → Made → Made
-refused c d (Some n) m = refused_name c d n (anchor_here d.name m) m
-refused c d None m = m
+abbrev pub refused : Context → Role → DeclParts → Option ℕ → Made → Made
+refused c r d (Some n) m = refused_name c r d n (anchor_here d.name m) m
+refused c r d None m = m
 
-abbrev pub refused_with : Context → DeclParts → Option ℕ → Fault → Made → Typed × Made
-refused_with c d own f m = (no_type, refused c d own (with_fault f m))
+abbrev pub refused_with : Context → Role → DeclParts → Option ℕ → Fault → Made → Typed × Made
+refused_with c r d own f m = (no_type, refused c r d own (with_fault f m))
 
-abbrev pub accepted : Context → Option ℕ → Qual → Entity → Made → Typed × Made
-accepted c own q e m = (typed e.ty q, named c own e m)
+abbrev pub accepted : Context → Role → Option ℕ → Qual → Entity → Made → Typed × Made
+accepted c r own q e m = (typed e.ty q, named c own r e m)
 
-abbrev pub by_answer : Context → Gathered → DeclParts → Option ℕ → Result Entity CheckError → Made → Typed × Made
-by_answer c g d own (Ok e) m = accepted c own d.qual e m
-by_answer c g d own (Err (Broken f)) m = refused_with c d own (placed g f) m
-by_answer c g d own (Err NoMemory) m = (no_type, m)
+abbrev pub by_answer : Context → Role → Gathered → DeclParts → Option ℕ → Result Entity CheckError → Made → Typed × Made
+by_answer c r g d own (Ok e) m = accepted c r own d.qual e m
+by_answer c r g d own (Err (Broken f)) m = refused_with c r d own (placed g f) m
+by_answer c r g d own (Err NoMemory) m = (no_type, m)
 
-abbrev pub declared_as : Context → Gathered → DeclParts → Option ℕ → Made → Typed × Made
-declared_as c g d own m = by_answer c g d own (declared m.names d m.tags) m
+abbrev pub declared_as : Context → Role → Gathered → DeclParts → Option ℕ → Made → Typed × Made
+declared_as c r g d own m = by_answer c r g d own (declared m.names d m.tags) m
 
 -- `at` is its name, or its first token
+abbrev pub parameter_of : Context → Bool → Gathered → ℕ → Option ℕ → Typed → Made → Typed × Made
+parameter_of c body g at own t m = declared_as c (role_in body) g (parts c body g at own t) own m
+
 abbrev pub parameter : Context → Gathered → ℕ → Option ℕ → Typed → Made → Typed × Made
-parameter c g at own t m = declared_as c g (parts c g at own t) own m
+parameter c g at own t m = parameter_of c false g at own t m
 
 abbrev pub given : Typed × Made → Option Typed × Made
 given r = (Some r.0, r.1)

@@ -2,6 +2,8 @@
 use Rattle.std.specs.Prelude.{ℕ, Bool, true, false, ◌||◌, ◌&&◌, not, is_none, List, [], ◌∷◌, codes, Option, Some, None, if◌then◌else◌}
 use Rattle.decl_rules.specs.declared.parts.Storage.{Storage}
 use Rattle.decl_rules.specs.declared.parts.Storage.TheVariants as storage
+use Rattle.head_rules.specs.Alignments.{unaligned}
+use Rattle.head_rules.specs.declared.parts.Specified.TheVariants as specified
 use Rattle.type_data.specs.declared.qualifiers.Qual.{Qual}
 use Rattle.type_data.specs.Types.{Ty, Void_type, Basic_type, Enumerated_type, Tagged_type, Pointer_to, Array_of, Function_of, Bad_type}
 use Rattle.type_rel.specs.Kinds.{unqualified}
@@ -44,6 +46,8 @@ nothing = record {
   inline = false;
   noreturn = false;
   function_at = None;
+  align = unaligned;
+  specified = specified.Other;
 }
 
 -- it has a fault, which was told
@@ -207,8 +211,8 @@ abbrev pub by_other : Option Typed → Gathered → Option Typed
 by_other (Some t) g = if has_words g then None else Some t
 by_other None g = of_words (combined g.base g.size g.sign)
 
-abbrev pub specified : Gathered → Option Typed
-specified g = if g.clashes then None else by_other g.other g
+abbrev pub type_of : Gathered → Option Typed
+type_of g = if g.clashes then None else by_other g.other g
 
 -- 6.7.3p2: a pointer to an object type, or (p9) an array whose elements are such; nothing is shown of a faulty type
 abbrev pub is_function : Ty → Bool
@@ -248,4 +252,4 @@ settled_as at None g m = (no_type, with_fault (fault 407 at [] []) m)
 
 -- `at` is the first of them
 abbrev pub settled : ℕ → Gathered → Made → Typed × Made
-settled at g m = if g.faulty then (no_type, m) else settled_as at (specified g) g m
+settled at g m = if g.faulty || g.align.faulty then (no_type, m) else settled_as at (type_of g) g m

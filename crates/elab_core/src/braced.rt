@@ -13,7 +13,7 @@ use std::alloc::{AllocError, Global};
 use type_data::{CType, CheckError, Judged, Node, Value};
 use type_rel::is_bad;
 
-fn is_file(kind: ScopeKind) -> bool
+pub(crate) fn is_file(kind: ScopeKind) -> bool
     ensures { result ≡ spec.is_file kind }
 {
     match kind {

@@ -52,7 +52,11 @@ pub fn constant(
     row(alloc, around, made, at, Form::Constant(literal), &[])
 }
 
-fn spellings(alloc: Global, tokens: &[OutToken], numbers: &[u32]) -> Result<Vec<Name>, AllocError>
+pub(crate) fn spellings(
+    alloc: Global,
+    tokens: &[OutToken],
+    numbers: &[u32],
+) -> Result<Vec<Name>, AllocError>
     ensures { IfOk result (λ names. names.items ≡ map (spelling tokens.now) numbers.now) }
 {
     let mut names = Vec::new(alloc);

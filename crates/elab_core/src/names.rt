@@ -14,7 +14,7 @@ use shared_text::Name;
 use std::alloc::{AllocError, Global};
 use type_data::{Judged, Space};
 
-fn share(alloc: Global, entity: Option<&Entity>) -> Result<Option<Entity>, AllocError>
+pub(crate) fn share(alloc: Global, entity: Option<&Entity>) -> Result<Option<Entity>, AllocError>
     ensures { IfOk result (λ copy. copy ≡ option_map (λ e. e.now) entity.entry) }
 {
     match entity {

@@ -1,5 +1,6 @@
 // Parameters (ISO C11 6.7.6.3), one after another, in a scope of their own.
 ghost use Rattle.std.specs.Prelude.{◌≡◌, Some, IfOk, OnOk};
+ghost use Rattle.decl_rules.specs.Declarations.{declared};
 ghost use Rattle.elab_core.specs.Parameters as spec;
 ghost use Rattle.elab_state.specs.Seen.{context_of};
 ghost use Rattle.expr_rules.specs.Kinds;
@@ -105,12 +106,13 @@ fn own_name(alloc: Global, around: &Around<'_>, own: Option<u32>) -> Result<Name
 fn parts(
     alloc: Global,
     around: &Around<'_>,
+    body: bool,
     gathered: &Gathered,
     at: u32,
     own: Option<u32>,
     typed: Typed,
 ) -> Result<DeclParts, AllocError>
-    ensures { IfOk result (λ d. d ≡ spec.parts (context_of around.now) gathered.now at own typed) }
+    ensures { IfOk result (λ d. d ≡ spec.parts (context_of around.now) body gathered.now at own typed) }
 {
     let name = own_name(alloc, around, own)?;
     let tok = own_token(around, at)?;
@@ -128,11 +130,11 @@ fn parts(
         qual: typed.qual,
         scope: ScopeKind::Prototype,
         has_init: false,
-        has_body: false,
+        has_body: body,
     })
 }
 
-fn or_at(place: Option<u32>, at: u32) -> u32
+pub(crate) fn or_at(place: Option<u32>, at: u32) -> u32
     ensures { result ≡ spec.or_at place at }
 {
     match place {
@@ -174,7 +176,7 @@ fn placed(gathered: &Gathered, fault: Fault) -> Fault
     }
 }
 
-fn bind_entity(alloc: Global, made: &mut Made, entity: &Entity) -> Result<(), AllocError>
+pub(crate) fn bind_entity(alloc: Global, made: &mut Made, entity: &Entity) -> Result<(), AllocError>
     ensures { OnOk result (made.new ≡ spec.bound_entity entity.now made.old) }
 {
     let name = entity.name.share()?;
@@ -190,16 +192,24 @@ fn bind_entity(alloc: Global, made: &mut Made, entity: &Entity) -> Result<(), Al
     )
 }
 
-fn declare(
+fn role_in(body: bool) -> Role
+    ensures { result ≡ spec.role_in body }
+{
+    if body { Role::Defines } else { Role::Declares }
+}
+
+/// The token denotes an entity, which is bound in the innermost scope from here on.
+pub(crate) fn declare_by(
     alloc: Global,
     around: &Around<'_>,
     made: &mut Made,
     at: u32,
+    role: Role,
     entity: Entity,
 ) -> Result<(), AllocError>
-    ensures { OnOk result (made.new ≡ spec.declares (context_of around.now) at entity made.old) }
+    ensures { OnOk result (made.new ≡ spec.declared_by (context_of around.now) at role entity made.old) }
 {
-    mark(around, made, at, &entity.anchor, Role::Declares)?;
+    mark(around, made, at, &entity.anchor, role)?;
     bind_entity(alloc, made, &entity)?;
     made.entities.push(entity)?;
     Ok(())
@@ -210,23 +220,26 @@ fn declare_if_named(
     around: &Around<'_>,
     made: &mut Made,
     own: Option<u32>,
+    role: Role,
     entity: Entity,
 ) -> Result<(), AllocError>
-    ensures { OnOk result (made.new ≡ spec.named (context_of around.now) own entity made.old) }
+    ensures { OnOk result (made.new ≡ spec.named (context_of around.now) own role entity made.old) }
 {
     match own {
-        Some(at) => declare(alloc, around, made, at, entity),
+        Some(at) => declare_by(alloc, around, made, at, role, entity),
         None => Ok(()),
     }
 }
 
-fn without_type(decl: DeclParts) -> DeclParts
-    ensures { result ≡ spec.without_type decl }
+fn without_type(decl: &DeclParts) -> Result<DeclParts, AllocError>
+    ensures { IfOk result (λ d. d ≡ spec.without_type decl.now) }
 {
-    DeclParts {
-        name: decl.name,
+    let name = decl.name.share()?;
+    let tok = decl.tok.copy()?;
+    Ok(DeclParts {
+        name,
         at: decl.at,
-        tok: decl.tok,
+        tok,
         made: decl.made,
         storage: decl.storage,
         inline: decl.inline,
@@ -238,6 +251,23 @@ fn without_type(decl: DeclParts) -> DeclParts
         scope: decl.scope,
         has_init: decl.has_init,
         has_body: decl.has_body,
+    })
+}
+
+fn declare_if_sound(
+    alloc: Global,
+    around: &Around<'_>,
+    made: &mut Made,
+    at: u32,
+    role: Role,
+    decl: &DeclParts,
+) -> Result<(), AllocError>
+    ensures { OnOk result (made.new ≡ spec.refused_entity (context_of around.now) at role (declared made.old.names decl.now made.old.tags) made.old) }
+{
+    match declare_one(alloc, &made.names, decl, &made.tags) {
+        Ok(entity) => declare_by(alloc, around, made, at, role, entity),
+        Err(CheckError::Broken(_)) => Ok(()),
+        Err(CheckError::NoMemory) => Err(AllocError),
     }
 }
 
@@ -247,19 +277,16 @@ fn declare_without_type(
     around: &Around<'_>,
     made: &mut Made,
     at: u32,
-    decl: DeclParts,
+    role: Role,
+    decl: &DeclParts,
 ) -> Result<(), AllocError>
-    ensures { OnOk result (made.new ≡ spec.declared_without_type (context_of around.now) decl at made.old) }
+    ensures { OnOk result (made.new ≡ spec.declared_without_type (context_of around.now) role decl.now at made.old) }
 {
-    let decl = without_type(decl);
-    match declare_one(alloc, &made.names, &decl, &made.tags) {
-        Ok(entity) => declare(alloc, around, made, at, entity),
-        Err(CheckError::Broken(_)) => Ok(()),
-        Err(CheckError::NoMemory) => Err(AllocError),
-    }
+    let decl = without_type(decl)?;
+    declare_if_sound(alloc, around, made, at, role, &decl)
 }
 
-fn anchor_here(made: &Made, name: &Name) -> Result<Option<Anchor>, AllocError>
+pub(crate) fn anchor_here(made: &Made, name: &Name) -> Result<Option<Anchor>, AllocError>
     ensures { IfOk result (λ a. a ≡ spec.anchor_here name.now made.now) }
 {
     match made.names.find_here(&Space::Ordinary, name.as_str()) {
@@ -271,21 +298,23 @@ fn anchor_here(made: &Made, name: &Name) -> Result<Option<Anchor>, AllocError>
     }
 }
 
-fn refuse(
+// What a declaration leaves that is refused.
+pub(crate) fn refuse(
     alloc: Global,
     around: &Around<'_>,
     made: &mut Made,
     own: Option<u32>,
-    decl: DeclParts,
+    role: Role,
+    decl: &DeclParts,
 ) -> Result<(), AllocError>
-    ensures { OnOk result (made.new ≡ spec.refused (context_of around.now) decl own made.old) }
+    ensures { OnOk result (made.new ≡ spec.refused (context_of around.now) role decl.now own made.old) }
 {
     let Some(at) = own else {
         return Ok(());
     };
     match anchor_here(made, &decl.name)? {
-        Some(anchor) => mark(around, made, at, &anchor, Role::Declares),
-        None => declare_without_type(alloc, around, made, at, decl),
+        Some(anchor) => mark(around, made, at, &anchor, role),
+        None => declare_without_type(alloc, around, made, at, role, decl),
     }
 }
 
@@ -294,13 +323,14 @@ fn refused(
     around: &Around<'_>,
     made: &mut Made,
     own: Option<u32>,
-    decl: DeclParts,
+    role: Role,
+    decl: &DeclParts,
     fault: Fault,
 ) -> Result<Typed, AllocError>
-    ensures { IfOk result (λ t. (t, made.new) ≡ spec.refused_with (context_of around.now) decl own fault made.old) }
+    ensures { IfOk result (λ t. (t, made.new) ≡ spec.refused_with (context_of around.now) role decl.now own fault made.old) }
 {
     made.faults.push(fault)?;
-    refuse(alloc, around, made, own, decl)?;
+    refuse(alloc, around, made, own, role, decl)?;
     Ok(no_type())
 }
 
@@ -309,13 +339,14 @@ fn accepted(
     around: &Around<'_>,
     made: &mut Made,
     own: Option<u32>,
+    role: Role,
     qual: Qual,
     entity: Entity,
 ) -> Result<Typed, AllocError>
-    ensures { IfOk result (λ t. (t, made.new) ≡ spec.accepted (context_of around.now) own qual entity made.old) }
+    ensures { IfOk result (λ t. (t, made.new) ≡ spec.accepted (context_of around.now) role own qual entity made.old) }
 {
     let ty = entity.ty.share()?;
-    declare_if_named(alloc, around, made, own, entity)?;
+    declare_if_named(alloc, around, made, own, role, entity)?;
     Ok(Typed { ty, qual })
 }
 
@@ -325,22 +356,40 @@ fn declare_parameter(
     made: &mut Made,
     gathered: &Gathered,
     own: Option<u32>,
-    decl: DeclParts,
+    role: Role,
+    decl: &DeclParts,
 ) -> Result<Typed, AllocError>
-    ensures { IfOk result (λ t. (t, made.new) ≡ spec.declared_as (context_of around.now) gathered.now decl own made.old) }
+    ensures { IfOk result (λ t. (t, made.new) ≡ spec.declared_as (context_of around.now) role gathered.now decl.now own made.old) }
 {
-    match declare_one(alloc, &made.names, &decl, &made.tags) {
-        Ok(entity) => accepted(alloc, around, made, own, decl.qual, entity),
+    match declare_one(alloc, &made.names, decl, &made.tags) {
+        Ok(entity) => accepted(alloc, around, made, own, role, decl.qual, entity),
         Err(CheckError::Broken(fault)) => {
             let fault = placed(gathered, fault);
-            refused(alloc, around, made, own, decl, fault)
+            refused(alloc, around, made, own, role, decl, fault)
         }
         Err(CheckError::NoMemory) => Err(AllocError),
     }
 }
 
-/// A parameter of this type after its adjustment, whose specifiers were read: `at` is its name, or its first token where it has none. What
-/// has a fault has no type; the fault is noted.
+/// A parameter of this type after its adjustment, whose specifiers were read: `at` is its name, or its first token where it has none; `body`
+/// says that it is one of a function definition. What has a fault has no type; the fault is noted.
+pub fn parameter_of(
+    alloc: Global,
+    around: &Around<'_>,
+    made: &mut Made,
+    body: bool,
+    gathered: &Gathered,
+    at: u32,
+    own: Option<u32>,
+    typed: Typed,
+) -> Result<Typed, AllocError>
+    ensures { IfOk result (λ t. (t, made.new) ≡ spec.parameter_of (context_of around.now) body gathered.now at own typed made.old) }
+{
+    let decl = parts(alloc, around, body, gathered, at, own, typed)?;
+    declare_parameter(alloc, around, made, gathered, own, role_in(body), &decl)
+}
+
+/// Likewise out of a function definition.
 pub fn parameter(
     alloc: Global,
     around: &Around<'_>,
@@ -352,8 +401,7 @@ pub fn parameter(
 ) -> Result<Typed, AllocError>
     ensures { IfOk result (λ t. (t, made.new) ≡ spec.parameter (context_of around.now) gathered.now at own typed made.old) }
 {
-    let decl = parts(alloc, around, gathered, at, own, typed)?;
-    declare_parameter(alloc, around, made, gathered, own, decl)
+    parameter_of(alloc, around, made, false, gathered, at, own, typed)
 }
 
 fn sound(alloc: Global, typed: Typed, list: Params) -> Result<Option<Params>, AllocError>

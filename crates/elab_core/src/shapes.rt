@@ -3,6 +3,7 @@ ghost use Rattle.std.specs.Prelude.{◌≡◌, IfOk};
 
 use crate::kinds::{Base, Sign, Size};
 use decl_rules::Storage;
+use head_rules::{Alignment, Specified};
 use init_rules::InitState;
 use std::alloc::AllocError;
 use type_data::{CType, Extent, Params, Proto, Qual};
@@ -36,6 +37,9 @@ pub struct Gathered {
     pub noreturn: bool,
     /// The first function specifier.
     pub function_at: Option<u32>,
+    pub align: Alignment,
+    /// The last tag among them, as a declaration without a declarator asks.
+    pub specified: Specified,
 }
 
 /// What a part of a declarator derives.

@@ -8,6 +8,7 @@ use crate::qualified::{both_quals, own_quals, qualified};
 use crate::shapes::{Gathered, Typed};
 use decl_rules::Storage;
 use elab_state::{Made, Word, fault_at, leave_out};
+use head_rules::{Alignment, Specified};
 use shared_list::Listing;
 use std::alloc::{AllocError, Global};
 use type_data::{CType, Fault, Node, Qual};
@@ -41,6 +42,8 @@ pub fn nothing() -> Gathered
         inline: false,
         noreturn: false,
         function_at: None,
+        align: Alignment::none(),
+        specified: Specified::Other,
     }
 }
 
@@ -380,7 +383,7 @@ fn by_other(gathered: &Gathered) -> Result<Option<Typed>, AllocError>
 }
 
 fn specified(gathered: &Gathered) -> Result<Option<Typed>, AllocError>
-    ensures { IfOk result (λ t. t ≡ spec.specified gathered.now) }
+    ensures { IfOk result (λ t. t ≡ spec.type_of gathered.now) }
 {
     if gathered.clashes {
         return Ok(None);
@@ -477,7 +480,7 @@ pub fn settled(
 ) -> Result<Typed, AllocError>
     ensures { IfOk result (λ t. (t, made.new) ≡ spec.settled at gathered.now made.old) }
 {
-    if gathered.faulty {
+    if gathered.faulty || gathered.align.faulty {
         return Ok(no_type());
     }
     match specified(gathered)? {

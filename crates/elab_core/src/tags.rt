@@ -22,7 +22,7 @@ use std::alloc::{AllocError, Global};
 use type_data::{CType, Fault, Node, Space, TagId, TagInfo, TagKind};
 use type_rel::{UNQUALIFIED, has_members};
 
-fn typed(ty: CType) -> Typed
+pub(crate) fn typed(ty: CType) -> Typed
     ensures { result ≡ Specifiers.unqualified_type ty }
 {
     Typed {
@@ -90,7 +90,7 @@ pub fn typedef_name(
     }
 }
 
-fn same_kind(a: TagKind, b: TagKind) -> bool
+pub(crate) fn same_kind(a: TagKind, b: TagKind) -> bool
     ensures { result ≡ spec.same_kind a b }
 {
     match a {
@@ -112,7 +112,7 @@ fn same_kind(a: TagKind, b: TagKind) -> bool
     }
 }
 
-fn of_kind(kind: TagKind, id: TagId) -> CType
+pub(crate) fn of_kind(kind: TagKind, id: TagId) -> CType
     ensures { result ≡ spec.of_kind kind id }
 {
     match kind {
@@ -134,7 +134,7 @@ fn unknown_info(kind: TagKind, name: &Name) -> Result<TagInfo, AllocError>
     })
 }
 
-fn tag_entity(
+pub(crate) fn tag_entity(
     alloc: Global,
     around: &Around<'_>,
     kind: TagKind,
@@ -159,7 +159,7 @@ fn tag_entity(
     })
 }
 
-fn bind_tag(alloc: Global, made: &mut Made, entity: &Entity) -> Result<(), AllocError>
+pub(crate) fn bind_tag(alloc: Global, made: &mut Made, entity: &Entity) -> Result<(), AllocError>
     ensures { OnOk result (made.new ≡ spec.bound_tag entity.now made.old) }
 {
     let name = entity.name.share()?;
@@ -175,7 +175,7 @@ fn bind_tag(alloc: Global, made: &mut Made, entity: &Entity) -> Result<(), Alloc
     )
 }
 
-fn know_tag(
+pub(crate) fn know_tag(
     around: &Around<'_>,
     made: &mut Made,
     kind: TagKind,
@@ -207,7 +207,7 @@ fn declare_tag(
     Ok(())
 }
 
-fn new_tag(
+pub(crate) fn new_tag(
     alloc: Global,
     around: &Around<'_>,
     made: &mut Made,
@@ -223,7 +223,7 @@ fn new_tag(
 }
 
 // A fault that prints the tag.
-fn note_tag(
+pub(crate) fn note_tag(
     alloc: Global,
     around: &Around<'_>,
     made: &mut Made,
@@ -369,7 +369,7 @@ fn mentioned_tag(
 
 // What a name denotes among tags, as far as it is asked.
 #[derive(Drop)]
-enum Mention {
+pub(crate) enum Mention {
     Nothing,
     // Something else.
     Other,
@@ -377,7 +377,7 @@ enum Mention {
     Tag(Anchor, TagId, TagKind),
 }
 
-fn mention_of(entity: Option<&Entity>) -> Result<Mention, AllocError>
+pub(crate) fn mention_of(entity: Option<&Entity>) -> Result<Mention, AllocError>
     ensures { IfOk result (λ mention. mention ≡ spec.mention_of (option_map (λ e. e.now) entity.entry)) }
 {
     let Some(entity) = entity else {

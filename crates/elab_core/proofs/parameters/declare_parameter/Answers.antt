@@ -7,7 +7,7 @@ use Rattle.elab_core.proofs.parameters.declare_parameter.Goals as goal
 
 pub returns-in-Ok : goal.returns-in-Ok
 returns-in-Ok c =
-    let is : declared c.args.made.now.names c.args.decl c.args.made.now.tags ≡ Ok c.in-Ok.entity = search rules in
+    let is : declared c.args.made.now.names c.args.decl.now c.args.made.now.tags ≡ Ok c.in-Ok.entity = search rules in
     subst (λ x. IfOk c.accepted.result (λ t. (t, c.accepted.new.made) ≡ x))
-    (sym (ap (λ r. by_answer (context_of c.args.around.now) c.args.gathered.now c.args.decl c.args.own r c.args.made.now) is))
+    (sym (ap (λ r. by_answer (context_of c.args.around.now) c.args.role c.args.gathered.now c.args.decl.now c.args.own r c.args.made.now) is))
     c.accepted.ensures

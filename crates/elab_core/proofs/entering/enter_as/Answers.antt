@@ -1,0 +1,17 @@
+use Rattle.std.proofs.Common.{rules, ◌≡◌, sym, ap, ◌∙◌}
+use Rattle.asking.specs.Asking.{Gives, and_then}
+use Rattle.asking.specs.LookUps.{Ends, run_by}
+use Rattle.elab_state.specs.Seen.{context_of, told_of}
+use Rattle.elab_state.specs.Wants.{answered}
+use Rattle.elab_state.proofs.Runs.{run_then, stops_on}
+use Rattle.elab_core.specs.Entering.{known, looked}
+use Rattle.elab_core.proofs.entering.enter_as.Goals as goal
+
+pub returns-in-Err : goal.returns-in-Err
+returns-in-Err c = stops_on (answered (told_of c.args.around.now)) (looked (context_of c.args.around.now) c.args.body c.args.typed c.args.made.now) (λ now. Gives (known (context_of c.args.around.now) c.args.body c.args.gathered.now c.args.at c.args.own c.args.typed now)) c.in-Err.halt c.in-Err.ensures
+
+pub returns-in-Ok-know : goal.returns-in-Ok-know
+returns-in-Ok-know c =
+    let first : run_by (answered (told_of c.args.around.now)) (looked (context_of c.args.around.now) c.args.body c.args.typed c.args.made.now) ≡ Ends c.look.new.made = search rules in
+    let is : (c.in-Ok-know.typed, c.know.new.made) ≡ known (context_of c.args.around.now) c.args.body c.args.gathered.now c.args.at c.args.own c.args.typed c.look.new.made = search rules in
+    run_then (answered (told_of c.args.around.now)) (looked (context_of c.args.around.now) c.args.body c.args.typed c.args.made.now) (λ now. Gives (known (context_of c.args.around.now) c.args.body c.args.gathered.now c.args.at c.args.own c.args.typed now)) c.look.new.made first ∙ ap (λ r. Ends r) (sym is)
