@@ -1,5 +1,6 @@
 mod Backward
 mod Downward
+mod Headings
 mod Lacking
 mod Lasts
 mod Layers

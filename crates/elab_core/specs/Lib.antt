@@ -5,6 +5,7 @@ pub mod Assertions
 pub mod Braced
 pub mod Casts
 pub mod Constants
+pub mod Declarations
 pub mod Declarators
 pub mod Ends
 pub mod Entering

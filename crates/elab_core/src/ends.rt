@@ -39,7 +39,7 @@ fn prefixes_begin(prefixes: &Vec<Prefix>) -> u32
 
 /// The first token of an expression.
 #[cycle(first)]
-pub(crate) fn first_of(expr: &Expr) -> u32
+pub fn first_of(expr: &Expr) -> u32
     ensures { result ≡ spec.first_of (tree_of expr.now) }
 {
     match expr {
