@@ -4,6 +4,7 @@ use Rattle.std.proofs.lemmas.List.{map-append}
 use Rattle.tree_data.specs.declared.types.Deriving as code
 use Rattle.tree_data.specs.Seen.{deriving_of, derivings_of}
 use Rattle.tree_data.specs.Trees.{Tree, Declaring, Declaring_of, Grouping, No_group, Named_of, Group_of, Parameters, Deriving, Array_of, Function_of, Derivings, No_derivings, Deriving_then, derivings, Bound, Unsized_of, Any_size_of, Sized_of, Static_sized_of, Sized_static_of, needs_name}
+use Rattle.c_parser.specs.Enumerations.{bars}
 use Rattle.c_parser.specs.declared.answers.Stop.{Stop}
 use Rattle.c_parser.specs.declared.answers.Stop.TheVariants as stop
 use Rattle.c_parser.specs.declared.kinds.Kind.{Kind}
@@ -204,10 +205,10 @@ group_same ks y a k n d b v by only (Group_of o d' b') m ds c h i q f =
 
 -- functions and arrays
 pub function_found : (ks : List Kind) → (a : ℕ) → kind_at ks a ≡ OpenParen → (ps : Parameters) → (c : ℕ) → FoundParameters ks (a + 1) ps c
-    → kind_at ks c ≡ CloseParen → c < length ks → FoundDeriving ks a (Function_of a ps c) (c + 1)
-function_found ks a k ps c found l i =
+    → kind_at ks c ≡ CloseParen → c < length ks → bars ks a c ≡ false → FoundDeriving ks a (Function_of a ps c) (c + 1)
+function_found ks a k ps c found l i n =
     let one : a + 1 ≤ c = found.forth in
-    record { reads = (refl, k, found.reads, l, refl); forth = omega arith; inside = omega arith }
+    record { reads = (refl, k, found.reads, l, refl, n); forth = omega arith; inside = omega arith }
 
 pub found_deriving_only : (ks : List Kind) → (a : ℕ) → (d : Deriving) → (b : ℕ) → FoundDeriving ks a d b → OnlyDeriving ks a d b
 found_deriving_only ks a d b found = deriving_only ks d a b (everywhere ks a) found.reads
@@ -220,6 +221,12 @@ pub function_left_open : (ks : List Kind) → (a : ℕ) → kind_at ks a ≡ Ope
     → (kind_at ks c ≡ CloseParen → ⊥) → (n : ℕ) → FailsDeriving ks a (stop.Syntax n)
 function_left_open ks a k ps c only u n (Array_of o x c') b h = clash (kind_at ks a) OpenBracket OpenParen h.1 k (λ y. omega (arith, y))
 function_left_open ks a k ps c only u n (Function_of o ps' c') b h = u (ap (λ y. kind_at ks y) (only ps' c' h.2 h.3).1 ∙ h.3)
+
+pub function_barred : (ks : List Kind) → (a : ℕ) → kind_at ks a ≡ OpenParen → (ps : Parameters) → (c : ℕ) → OnlyParameters ks (a + 1) ps c
+    → bars ks a c ≡ true → (n : ℕ) → FailsDeriving ks a (stop.Syntax n)
+function_barred ks a k ps c only u n (Array_of o x c') b h = clash (kind_at ks a) OpenBracket OpenParen h.1 k (λ y. omega (arith, y))
+function_barred ks a k ps c only u n (Function_of o ps' c') b h =
+    true≢false (sym u ∙ ap (λ y. bars ks a y) (only ps' c' h.2 h.3).1 ∙ ap (λ y. bars ks y c') (sym h.0) ∙ h.5)
 
 pub array_fails : (ks : List Kind) → (a : ℕ) → kind_at ks a ≡ OpenBracket → (e : Stop) → FailsBound ks (a + 1) e → FailsDeriving ks a e
 array_fails ks a k e fails (Array_of o x c) b h = fails x c h.2 h.3

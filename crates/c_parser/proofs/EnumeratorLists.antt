@@ -1,5 +1,5 @@
 -- Enumerators as the code reads them one behind another.
-use Rattle.std.proofs.Common.{◌≡◌, refl, ap, sym, ◌∙◌, subst, ℕ, ◌+◌, ◌<◌, ◌≤◌, List, [], ◌∷◌, ◌++◌, length, arith, Bool, true, Option, Some, None}
+use Rattle.std.proofs.Common.{◌≡◌, refl, ap, sym, ◌∙◌, subst, ℕ, ◌+◌, ◌<◌, ◌≤◌, List, [], ◌∷◌, ◌++◌, length, arith, Bool, true, false, true≢false, Option, Some, None}
 use Rattle.std.proofs.lemmas.List.{map-append}
 use Rattle.tree_data.specs.declared.members.Enumerator as code
 use Rattle.tree_data.specs.Seen.{enumerator_of, enumerators_of}
@@ -7,14 +7,15 @@ use Rattle.tree_data.specs.Trees.{Tree, Enumerator, Counted_of, Given_of, Enumer
 use Rattle.c_parser.specs.declared.answers.Stop.{Stop}
 use Rattle.c_parser.specs.declared.answers.Stop.TheVariants as stop
 use Rattle.c_parser.specs.declared.kinds.Kind.{Kind}
-use Rattle.c_parser.specs.declared.kinds.Kind.TheVariants.{Identifier, Enum, Equals, Comma, CloseBrace}
+use Rattle.c_parser.specs.declared.kinds.Kind.TheVariants.{Enum, Equals, Comma, CloseBrace}
 use Rattle.c_parser.specs.EnumeratorsFound.{FoundEnumerator, FoundEnumerators, ends_enumerator}
-use Rattle.c_parser.specs.Kinds.{kind_at, is_equals, braces_at}
+use Rattle.c_parser.specs.Kinds.{kind_at, is_equals, is_word, braces_at}
 use Rattle.c_parser.specs.MembersFound.{FoundTag}
 use Rattle.c_parser.specs.Reading.{Holds, HoldsEnumerator, HoldEnumerators, HoldsComma, Found, IsWant}
 use Rattle.c_parser.specs.TypeNames.{FailsSpecifying}
 use Rattle.c_parser.proofs.Initials.{comma_goes, equals_is}
 use Rattle.c_parser.proofs.Marks.{clash}
+use Rattle.c_parser.proofs.Words.{test_inside}
 use Rattle.c_parser.proofs.MemberReading.{OnlyList, enumerator_stops, enumerators_end, named_first, unequal}
 use Rattle.c_parser.proofs.Parsing.{Fails}
 use Rattle.c_parser.proofs.SameParts.{Only}
@@ -32,17 +33,19 @@ FailsEnumerators ks a e =
     (es : Enumerators) → (k : ℕ) → (t : Option ℕ) → (c : ℕ) → HoldEnumerators ks es a k → HoldsComma ks t k c → kind_at ks c ≡ CloseBrace → IsWant e
 
 -- one of them
-pub unnamed : (ks : List Kind) → (a : ℕ) → (kind_at ks a ≡ Identifier → ⊥) → (n : ℕ) → FailsEnumerator ks a (stop.Syntax n)
-unnamed ks a u n x b h f = u (named_first ks x a b h)
+pub unnamed : (ks : List Kind) → (a : ℕ) → is_word (kind_at ks a) ≡ false → (n : ℕ) → FailsEnumerator ks a (stop.Syntax n)
+unnamed ks a u n x b h f = true≢false (sym (named_first ks x a b h) ∙ u)
 
-pub counted_found : (ks : List Kind) → (a : ℕ) → kind_at ks a ≡ Identifier → a < length ks → FoundEnumerator ks a (Counted_of a) (a + 1)
-counted_found ks a k i = record { reads = (refl, k, refl); forth = omega arith; inside = omega (arith, i) }
+pub counted_found : (ks : List Kind) → (a : ℕ) → is_word (kind_at ks a) ≡ true → FoundEnumerator ks a (Counted_of a) (a + 1)
+counted_found ks a k =
+    let i : a < length ks = test_inside is_word refl ks a k in
+    record { reads = (refl, k, refl); forth = omega arith; inside = omega (arith, i) }
 
 pub counted_same : (ks : List Kind) → (a : ℕ) → (kind_at ks (a + 1) ≡ Equals → ⊥) → OnlyEnumerator ks a (Counted_of a) (a + 1)
 counted_same ks a u (Counted_of n) b h f = (ap Counted_of (sym h.0), sym h.2)
 counted_same ks a u (Given_of n q t) b h f = absurd (u (ap (λ x. kind_at ks x) (sym h.2) ∙ equals_is (kind_at ks q) h.3))
 
-pub given_found : (ks : List Kind) → (a : ℕ) → kind_at ks a ≡ Identifier → kind_at ks (a + 1) ≡ Equals → (t : Tree) → (b : ℕ) → Found ks 3 (a + 2) t b
+pub given_found : (ks : List Kind) → (a : ℕ) → is_word (kind_at ks a) ≡ true → kind_at ks (a + 1) ≡ Equals → (t : Tree) → (b : ℕ) → Found ks 3 (a + 2) t b
     → FoundEnumerator ks a (Given_of a (a + 1) t) b
 given_found ks a k q t b found =
     let one : a + 2 < b = found.forth in
@@ -175,7 +178,7 @@ last_left ks done at q n es No_enumerators k None c is h g l =
 last_left ks done at q n es No_enumerators k (Some o) c is h g l =
     (sym is, ap Some (sym (g.0 ∙ h)), sym (g.2 ∙ ap (λ x. x + 1) h))
 last_left ks done at q n es (Enumerator_then o x left) k t c is h g l =
-    clash (kind_at ks (at + 1)) CloseBrace Identifier n (named_first ks x (at + 1) h.0 h.3) (λ z. omega (arith, z))
+    absurd (true≢false (sym (named_first ks x (at + 1) h.0 h.3) ∙ ap is_word n))
 
 pub enumerating_only_last : (ks : List Kind) → (start : ℕ) → (done : List (ℕ × Enumerator)) → (at : ℕ) → Enumerating ks start done at
     → kind_at ks at ≡ Comma → kind_at ks (at + 1) ≡ CloseBrace → OnlyList ks start (enumerators done No_enumerators) (Some at) (at + 1)

@@ -177,8 +177,8 @@ mutual
   )
 
   pub formed_enumerator : (ks : List Kind) → (e : Enumerator) → (a b : ℕ) → HoldsEnumerator ks e a b → IsEnumerator ks e
-  formed_enumerator ks (Counted_of n) a b h = ap (λ x. kind_at ks x) h.0 ∙ h.1
-  formed_enumerator ks (Given_of n q t) a b h = (ap (λ x. kind_at ks x) h.0 ∙ h.1, h.3, h.4, formed ks t (q + 1) b h.5)
+  formed_enumerator ks (Counted_of n) a b h = ap (λ x. is_word (kind_at ks x)) h.0 ∙ h.1
+  formed_enumerator ks (Given_of n q t) a b h = (ap (λ x. is_word (kind_at ks x)) h.0 ∙ h.1, h.3, h.4, formed ks t (q + 1) b h.5)
 
   pub formed_enumerators : (ks : List Kind) → (es : Enumerators) → (a b : ℕ) → HoldEnumerators ks es a b → AreEnumerators ks es
   formed_enumerators ks No_enumerators a b h = tt
@@ -256,7 +256,7 @@ mutual
   formed_deriving ks (Array_of o x c) a b h =
       (ap (λ y. kind_at ks y) h.0 ∙ h.1, formed_bound ks x (a + 1) c h.2, h.3)
   formed_deriving ks (Function_of o ps c) a b h =
-      (ap (λ x. kind_at ks x) h.0 ∙ h.1, formed_parameters ks ps (a + 1) c h.2, h.3)
+      (ap (λ x. kind_at ks x) h.0 ∙ h.1, formed_parameters ks ps (a + 1) c h.2, h.3, h.5)
 
   pub formed_parameters : (ks : List Kind) → (ps : Parameters) → (a b : ℕ) → HoldParameters ks ps a b → AreParameters ks ps
   formed_parameters ks No_parameters a b h = tt

@@ -17,10 +17,10 @@ use Rattle.c_parser.specs.HeadsFound.{FoundFront, FoundDeclared, FoundAll, Found
 use Rattle.c_parser.specs.Kinds.{kind_at, starts_type, ends_specifiers}
 use Rattle.c_parser.specs.Reading.{Holds, HoldsAssertion, Found, HoldTexts, HoldSpecifyings, FoundTexts, IsWant, at_front, IsAtFront, IsRefused, IsDeep}
 use Rattle.c_parser.specs.TypeNames.{FoundSpecifiers}
-use Rattle.c_parser.specs.Words.{Words, shown}
+use Rattle.c_parser.specs.Words.{Words, shown, shown_from}
 use Rattle.c_parser.proofs.NamedReading.{declarator_next, declarator_starts, starts_declarator}
 use Rattle.c_parser.proofs.HeadLists.{Piece, OnlyAll, FailsAll}
-use Rattle.c_parser.proofs.HeadWords.{plain_at, shown_length}
+use Rattle.c_parser.proofs.HeadWords.{from_at, from_length, typed_from}
 use Rattle.c_parser.proofs.Marks.{clash, stops_at}
 use Rattle.c_parser.proofs.Parsing.{Fails}
 use Rattle.c_parser.proofs.SameParts.{Only, texts_only}
@@ -74,97 +74,97 @@ assert_is : (k : Kind) → is_assert k ≡ true → k ≡ Assert
 assert_is Assert h = refl
 assert_is _ h = absurd (true≢false (sym h))
 
-shown_semicolon : (w : Words) → (a : ℕ) → kind_at w.kinds a ≡ Semicolon → kind_at (shown w) a ≡ Semicolon
-shown_semicolon w a k = semicolon_is (kind_at (shown w) a) (plain_at is_semicolon (λ n. refl) w a ∙ ap is_semicolon k)
+shown_semicolon : (o : ℕ) → (w : Words) → (a : ℕ) → kind_at w.kinds a ≡ Semicolon → kind_at (shown_from w o) a ≡ Semicolon
+shown_semicolon o w a k = semicolon_is (kind_at (shown_from w o) a) (from_at is_semicolon (λ n. refl) w o a ∙ ap is_semicolon k)
 
-pub shown_assert : (w : Words) → (a : ℕ) → kind_at w.kinds a ≡ Assert → kind_at (shown w) a ≡ Assert
-shown_assert w a k = assert_is (kind_at (shown w) a) (plain_at is_assert (λ n. refl) w a ∙ ap is_assert k)
+pub shown_assert : (o : ℕ) → (w : Words) → (a : ℕ) → kind_at w.kinds a ≡ Assert → kind_at (shown_from w o) a ≡ Assert
+shown_assert o w a k = assert_is (kind_at (shown_from w o) a) (from_at is_assert (λ n. refl) w o a ∙ ap is_assert k)
 
-pub was_assert : (w : Words) → (a : ℕ) → kind_at (shown w) a ≡ Assert → kind_at w.kinds a ≡ Assert
-was_assert w a k = assert_is (kind_at w.kinds a) (sym (plain_at is_assert (λ n. refl) w a) ∙ ap is_assert k)
+pub was_assert : (o : ℕ) → (w : Words) → (a : ℕ) → kind_at (shown_from w o) a ≡ Assert → kind_at w.kinds a ≡ Assert
+was_assert o w a k = assert_is (kind_at w.kinds a) (sym (from_at is_assert (λ n. refl) w o a) ∙ ap is_assert k)
 
 -- declarators up to the end of the head
-abbrev pub OnlyDeclared : Words → Leading → ℕ → List Piece → Bool → ℕ → Type 0
-OnlyDeclared w s a ds body b =
-    (ds' : List Piece) → (body' : Bool) → (n : ℕ) → HoldAll w s ds' a n → Closes w.kinds ds' body' n → (ds ≡ ds') × (body ≡ body') × (b ≡ n + 1)
+abbrev pub OnlyDeclared : ℕ → Words → Leading → ℕ → List Piece → Bool → ℕ → Type 0
+OnlyDeclared o w s a ds body b =
+    (ds' : List Piece) → (body' : Bool) → (n : ℕ) → HoldAll w o s ds' a n → Closes w.kinds ds' body' n → (ds ≡ ds') × (body ≡ body') × (b ≡ n + 1)
 
-abbrev pub FailsDeclared : Words → Leading → ℕ → Stop → Type 0
-FailsDeclared w s a e = (ds : List Piece) → (body : Bool) → (n : ℕ) → HoldAll w s ds a n → Closes w.kinds ds body n → IsWant e
+abbrev pub FailsDeclared : ℕ → Words → Leading → ℕ → Stop → Type 0
+FailsDeclared o w s a e = (ds : List Piece) → (body : Bool) → (n : ℕ) → HoldAll w o s ds a n → Closes w.kinds ds body n → IsWant e
 
 pub closes_ends : (ks : List Kind) → (ds : List Piece) → (body : Bool) → (n : ℕ) → Closes ks ds body n → ends_all (kind_at ks n) ≡ true
 closes_ends ks ds false n c = ap ends_all c
 closes_ends ks ds true n c = ap ends_all c.0
 
-no_declarator : {A : Type 0} → (w : Words) → (s : Leading) → (a : ℕ) → kind_at w.kinds a ≡ Semicolon → (p : Piece) → (ps : List Piece) → (n : ℕ)
-    → HoldAll w s (p ∷ ps) a n → A
-no_declarator w s a k p ps n h =
+no_declarator : {A : Type 0} → (o : ℕ) → (w : Words) → (s : Leading) → (a : ℕ) → kind_at w.kinds a ≡ Semicolon → (p : Piece) → (ps : List Piece) → (n : ℕ)
+    → HoldAll w o s (p ∷ ps) a n → A
+no_declarator o w s a k p ps n h =
     absurd
     (true≢false
-    (sym (declarator_starts (shown w) (not s.typed) p.0 a h.1.0 h.1.1) ∙ plain_at starts_declarator (λ x. refl) w a ∙ ap starts_declarator k))
+    (sym (declarator_starts (shown_from w o) (not s.typed) p.0 a h.1.0 h.1.1) ∙ from_at starts_declarator (λ x. refl) w o a ∙ ap starts_declarator k))
 
-pub none_same : (w : Words) → (s : Leading) → (a : ℕ) → kind_at w.kinds a ≡ Semicolon → OnlyDeclared w s a [] false (a + 1)
-none_same w s a k [] false n h c = (refl, refl, ap (λ x. x + 1) (sym h))
-none_same w s a k [] true n h c = absurd (true≢false (sym c.1))
-none_same w s a k (p ∷ ps) body n h c = no_declarator w s a k p ps n h
+pub none_same : (o : ℕ) → (w : Words) → (s : Leading) → (a : ℕ) → kind_at w.kinds a ≡ Semicolon → OnlyDeclared o w s a [] false (a + 1)
+none_same o w s a k [] false n h c = (refl, refl, ap (λ x. x + 1) (sym h))
+none_same o w s a k [] true n h c = absurd (true≢false (sym c.1))
+none_same o w s a k (p ∷ ps) body n h c = no_declarator o w s a k p ps n h
 
-pub none_found : (w : Words) → (s : Leading) → (a : ℕ) → kind_at w.kinds a ≡ Semicolon → a < length w.kinds → FoundDeclared w s a [] false (a + 1)
-none_found w s a k i = record { last = a; reads = refl; closes = k; ends = refl; inside = omega (arith, i) }
+pub none_found : (o : ℕ) → (w : Words) → (s : Leading) → (a : ℕ) → kind_at w.kinds a ≡ Semicolon → a < length w.kinds → FoundDeclared w o s a [] false (a + 1)
+none_found o w s a k i = record { last = a; reads = refl; closes = k; ends = refl; inside = omega (arith, i) }
 
 none_ends : {A : Type 0} → (w : Words) → (a : ℕ) → (kind_at w.kinds a ≡ Semicolon → ⊥) → (body : Bool) → (n : ℕ) → n ≡ a → Closes w.kinds [] body n → A
 none_ends w a u false n e c = absurd (u (ap (λ x. kind_at w.kinds x) (sym e) ∙ c))
 none_ends w a u true n e c = absurd (true≢false (sym c.1))
 
-pub declared_fails : (w : Words) → (s : Leading) → (a : ℕ) → (kind_at w.kinds a ≡ Semicolon → ⊥) → (e : Stop) → FailsAll w s a e → FailsDeclared w s a e
-declared_fails w s a u e fails [] body n h c = none_ends w a u body n h c
-declared_fails w s a u e fails (p ∷ ps) body n h c = fails p ps n h (closes_ends w.kinds (p ∷ ps) body n c)
+pub declared_fails : (o : ℕ) → (w : Words) → (s : Leading) → (a : ℕ) → (kind_at w.kinds a ≡ Semicolon → ⊥) → (e : Stop) → FailsAll o w s a e → FailsDeclared o w s a e
+declared_fails o w s a u e fails [] body n h c = none_ends w a u body n h c
+declared_fails o w s a u e fails (p ∷ ps) body n h c = fails p ps n h (closes_ends w.kinds (p ∷ ps) body n c)
 
-pub semicolon_same : (w : Words) → (s : Leading) → (a : ℕ) → (kind_at w.kinds a ≡ Semicolon → ⊥) → (ds : List Piece) → (b : ℕ) → OnlyAll w s a ds b
-    → kind_at w.kinds b ≡ Semicolon → OnlyDeclared w s a ds false (b + 1)
-semicolon_same w s a u ds b only k [] body n h c = none_ends w a u body n h c
-semicolon_same w s a u ds b only k (p ∷ ps) false n h c =
+pub semicolon_same : (o : ℕ) → (w : Words) → (s : Leading) → (a : ℕ) → (kind_at w.kinds a ≡ Semicolon → ⊥) → (ds : List Piece) → (b : ℕ) → OnlyAll o w s a ds b
+    → kind_at w.kinds b ≡ Semicolon → OnlyDeclared o w s a ds false (b + 1)
+semicolon_same o w s a u ds b only k [] body n h c = none_ends w a u body n h c
+semicolon_same o w s a u ds b only k (p ∷ ps) false n h c =
     let same = only p ps n h (closes_ends w.kinds (p ∷ ps) false n c) in
     (same.0, refl, ap (λ x. x + 1) same.1)
-semicolon_same w s a u ds b only k (p ∷ ps) true n h c =
+semicolon_same o w s a u ds b only k (p ∷ ps) true n h c =
     let same = only p ps n h (closes_ends w.kinds (p ∷ ps) true n c) in
     clash (kind_at w.kinds n) Semicolon OpenBrace (ap (λ x. kind_at w.kinds x) (sym same.1) ∙ k) c.0 (λ x. omega (arith, x))
 
-pub brace_same : (w : Words) → (s : Leading) → (a : ℕ) → (kind_at w.kinds a ≡ Semicolon → ⊥) → (ds : List Piece) → (b : ℕ) → OnlyAll w s a ds b
-    → kind_at w.kinds b ≡ OpenBrace → OnlyDeclared w s a ds true (b + 1)
-brace_same w s a u ds b only k [] body n h c = none_ends w a u body n h c
-brace_same w s a u ds b only k (p ∷ ps) true n h c =
+pub brace_same : (o : ℕ) → (w : Words) → (s : Leading) → (a : ℕ) → (kind_at w.kinds a ≡ Semicolon → ⊥) → (ds : List Piece) → (b : ℕ) → OnlyAll o w s a ds b
+    → kind_at w.kinds b ≡ OpenBrace → OnlyDeclared o w s a ds true (b + 1)
+brace_same o w s a u ds b only k [] body n h c = none_ends w a u body n h c
+brace_same o w s a u ds b only k (p ∷ ps) true n h c =
     let same = only p ps n h (closes_ends w.kinds (p ∷ ps) true n c) in
     (same.0, refl, ap (λ x. x + 1) same.1)
-brace_same w s a u ds b only k (p ∷ ps) false n h c =
+brace_same o w s a u ds b only k (p ∷ ps) false n h c =
     let same = only p ps n h (closes_ends w.kinds (p ∷ ps) false n c) in
     clash (kind_at w.kinds n) Semicolon OpenBrace c (ap (λ x. kind_at w.kinds x) (sym same.1) ∙ k) (λ x. omega (arith, x))
 
-pub several_fail : (w : Words) → (s : Leading) → (a : ℕ) → (kind_at w.kinds a ≡ Semicolon → ⊥) → (ds : List Piece) → (b : ℕ) → OnlyAll w s a ds b
-    → kind_at w.kinds b ≡ OpenBrace → is_alone ds ≡ false → (at : ℕ) → FailsDeclared w s a (stop.Syntax at)
-several_fail w s a u ds b only k f at ds' body n h c =
-    let same = brace_same w s a u ds b only k ds' body n h c in
+pub several_fail : (o : ℕ) → (w : Words) → (s : Leading) → (a : ℕ) → (kind_at w.kinds a ≡ Semicolon → ⊥) → (ds : List Piece) → (b : ℕ) → OnlyAll o w s a ds b
+    → kind_at w.kinds b ≡ OpenBrace → is_alone ds ≡ false → (at : ℕ) → FailsDeclared o w s a (stop.Syntax at)
+several_fail o w s a u ds b only k f at ds' body n h c =
+    let same = brace_same o w s a u ds b only k ds' body n h c in
     several_by body same.1 ds' same.0 n c
   where
     several_by : (body : Bool) → true ≡ body → (ds' : List Piece) → ds ≡ ds' → (n : ℕ) → Closes w.kinds ds' body n → ⊥
     several_by false e ds' i n c = true≢false e
     several_by true e ds' i n c = true≢false (sym c.1 ∙ ap is_alone (sym i) ∙ f)
 
-pub unended_fail : (w : Words) → (s : Leading) → (a : ℕ) → (kind_at w.kinds a ≡ Semicolon → ⊥) → (ds : List Piece) → (b : ℕ) → OnlyAll w s a ds b
-    → (kind_at w.kinds b ≡ Semicolon → ⊥) → (kind_at w.kinds b ≡ OpenBrace → ⊥) → (at : ℕ) → FailsDeclared w s a (stop.Syntax at)
-unended_fail w s a u ds b only v x at [] body n h c = none_ends w a u body n h c
-unended_fail w s a u ds b only v x at (p ∷ ps) false n h c =
+pub unended_fail : (o : ℕ) → (w : Words) → (s : Leading) → (a : ℕ) → (kind_at w.kinds a ≡ Semicolon → ⊥) → (ds : List Piece) → (b : ℕ) → OnlyAll o w s a ds b
+    → (kind_at w.kinds b ≡ Semicolon → ⊥) → (kind_at w.kinds b ≡ OpenBrace → ⊥) → (at : ℕ) → FailsDeclared o w s a (stop.Syntax at)
+unended_fail o w s a u ds b only v x at [] body n h c = none_ends w a u body n h c
+unended_fail o w s a u ds b only v x at (p ∷ ps) false n h c =
     let same = only p ps n h (closes_ends w.kinds (p ∷ ps) false n c) in
     v (ap (λ y. kind_at w.kinds y) same.1 ∙ c)
-unended_fail w s a u ds b only v x at (p ∷ ps) true n h c =
+unended_fail o w s a u ds b only v x at (p ∷ ps) true n h c =
     let same = only p ps n h (closes_ends w.kinds (p ∷ ps) true n c) in
     x (ap (λ y. kind_at w.kinds y) same.1 ∙ c.0)
 
-pub semicolon_found : (w : Words) → (s : Leading) → (a : ℕ) → (ds : List Piece) → (b : ℕ) → FoundAll w s a ds b → kind_at w.kinds b ≡ Semicolon
-    → b < length w.kinds → FoundDeclared w s a ds false (b + 1)
-semicolon_found w s a ds b found k i = record { last = b; reads = found.reads; closes = k; ends = refl; inside = omega (arith, i) }
+pub semicolon_found : (o : ℕ) → (w : Words) → (s : Leading) → (a : ℕ) → (ds : List Piece) → (b : ℕ) → FoundAll w o s a ds b → kind_at w.kinds b ≡ Semicolon
+    → b < length w.kinds → FoundDeclared w o s a ds false (b + 1)
+semicolon_found o w s a ds b found k i = record { last = b; reads = found.reads; closes = k; ends = refl; inside = omega (arith, i) }
 
-pub brace_found : (w : Words) → (s : Leading) → (a : ℕ) → (ds : List Piece) → (b : ℕ) → FoundAll w s a ds b → kind_at w.kinds b ≡ OpenBrace
-    → is_alone ds ≡ true → b < length w.kinds → FoundDeclared w s a ds true (b + 1)
-brace_found w s a ds b found k f i = record { last = b; reads = found.reads; closes = (k, f); ends = refl; inside = omega (arith, i) }
+pub brace_found : (o : ℕ) → (w : Words) → (s : Leading) → (a : ℕ) → (ds : List Piece) → (b : ℕ) → FoundAll w o s a ds b → kind_at w.kinds b ≡ OpenBrace
+    → is_alone ds ≡ true → b < length w.kinds → FoundDeclared w o s a ds true (b + 1)
+brace_found o w s a ds b found k f i = record { last = b; reads = found.reads; closes = (k, f); ends = refl; inside = omega (arith, i) }
 
 -- a declaration or a function
 abbrev pub OnlyHead : Words → ℕ → Heading → ℕ → Type 0
@@ -176,48 +176,50 @@ FailsHead w a e = (h : Heading) → (b : ℕ) → HoldsHead w h a b → IsWant e
 pub asserts_first : (ks : List Kind) → (x : Assertion) → (a b : ℕ) → HoldsAssertion ks x a b → kind_at ks a ≡ Assert
 asserts_first ks (Assertion_of k o t c ns p e) a b h = h.1
 
-pub specifiers_end : (w : Words) → (ss : Specifyings) → (ds : List Piece) → (body : Bool) → (m n : ℕ) → HoldAll w (leading_of (shown w) ss) ds m n
-    → Closes w.kinds ds body n → ends_specifiers (kind_at (shown w) m) (typed_by (shown w) false ss) ≡ true
-specifiers_end w ss [] false m n h c =
+pub specifiers_end : (o : ℕ) → (w : Words) → (ss : Specifyings) → (ds : List Piece) → (body : Bool) → (m n : ℕ) → HoldAll w o (leading_of (shown w) ss) ds m n
+    → Closes w.kinds ds body n → ends_specifiers (kind_at (shown_from w o) m) (typed_by (shown_from w o) false ss) ≡ true
+specifiers_end o w ss [] false m n h c =
     ap
-    (λ k. ends_specifiers k (typed_by (shown w) false ss))
-    (shown_semicolon w m (ap (λ x. kind_at w.kinds x) (sym h) ∙ c))
-specifiers_end w ss [] true m n h c = absurd (true≢false (sym c.1))
-specifiers_end w ss (p ∷ ps) body m n h c = declarator_next (shown w) (typed_by (shown w) false ss) p.0 m h.1.0 h.1.1
+    (λ k. ends_specifiers k (typed_by (shown_from w o) false ss))
+    (shown_semicolon o w m (ap (λ x. kind_at w.kinds x) (sym h) ∙ c))
+specifiers_end o w ss [] true m n h c = absurd (true≢false (sym c.1))
+specifiers_end o w ss (p ∷ ps) body m n h c =
+    ap (ends_specifiers (kind_at (shown_from w o) m)) (typed_from w o false ss)
+    ∙ declarator_next (shown_from w o) (typed_by (shown w) false ss) p.0 m h.1.0 h.1.1
 
-pub front_missing : (w : Words) → (a : ℕ) → (kind_at w.kinds a ≡ Assert → ⊥) → (e : Stop) → FailsFront (shown w) a e → FailsHead w a e
-front_missing w a u e fails (Asserts_of x) b h = absurd (u (was_assert w a (asserts_first (shown w) x a b h)))
-front_missing w a u e fails (Declares_of ss ds body) b h = fails ss h.0 h.2 h.3 (specifiers_end w ss ds body h.0 h.1 h.4 h.5)
+pub front_missing : (w : Words) → (a : ℕ) → (kind_at w.kinds a ≡ Assert → ⊥) → (e : Stop) → FailsFront (shown_from w a) a e → FailsHead w a e
+front_missing w a u e fails (Asserts_of x) b h = absurd (u (was_assert a w a (asserts_first (shown_from w a) x a b h)))
+front_missing w a u e fails (Declares_of ss ds body) b h = fails ss h.0 h.2 h.3 (specifiers_end a w ss ds body h.0 h.1 h.4 h.5)
 
-declared_moved : (w : Words) → (t : Leading) → (ss ss' : Specifyings) → (ds : List Piece) → (m m' n : ℕ) → t ≡ leading_of (shown w) ss → ss ≡ ss' → m ≡ m'
-    → HoldAll w (leading_of (shown w) ss') ds m' n → HoldAll w t ds m n
-declared_moved w t ss ss' ds m m' n by e f h =
+declared_moved : (o : ℕ) → (w : Words) → (t : Leading) → (ss ss' : Specifyings) → (ds : List Piece) → (m m' n : ℕ) → t ≡ leading_of (shown w) ss → ss ≡ ss' → m ≡ m'
+    → HoldAll w o (leading_of (shown w) ss') ds m' n → HoldAll w o t ds m n
+declared_moved o w t ss ss' ds m m' n by e f h =
     subst
-    (λ x. HoldAll w x ds m n)
+    (λ x. HoldAll w o x ds m n)
     (sym (by ∙ ap (leading_of (shown w)) e))
-    (subst (λ x. HoldAll w (leading_of (shown w) ss') ds x n) (sym f) h)
+    (subst (λ x. HoldAll w o (leading_of (shown w) ss') ds x n) (sym f) h)
 
-pub declared_missing : (w : Words) → (a : ℕ) → (kind_at w.kinds a ≡ Assert → ⊥) → (ss : Specifyings) → (m : ℕ) → OnlyFront (shown w) a ss m → (t : Leading)
-    → t ≡ leading_of (shown w) ss → (e : Stop) → FailsDeclared w t m e → FailsHead w a e
-declared_missing w a u ss m only t by e fails (Asserts_of x) b h = absurd (u (was_assert w a (asserts_first (shown w) x a b h)))
+pub declared_missing : (w : Words) → (a : ℕ) → (kind_at w.kinds a ≡ Assert → ⊥) → (ss : Specifyings) → (m : ℕ) → OnlyFront (shown_from w a) a ss m → (t : Leading)
+    → t ≡ leading_of (shown w) ss → (e : Stop) → FailsDeclared a w t m e → FailsHead w a e
+declared_missing w a u ss m only t by e fails (Asserts_of x) b h = absurd (u (was_assert a w a (asserts_first (shown_from w a) x a b h)))
 declared_missing w a u ss m only t by e fails (Declares_of ss' ds body) b h =
-    let same = only ss' h.0 h.2 h.3 (specifiers_end w ss' ds body h.0 h.1 h.4 h.5) in
-    fails ds body h.1 (declared_moved w t ss ss' ds m h.0 h.1 by same.0 same.1 h.4) h.5
+    let same = only ss' h.0 h.2 h.3 (specifiers_end a w ss' ds body h.0 h.1 h.4 h.5) in
+    fails ds body h.1 (declared_moved a w t ss ss' ds m h.0 h.1 by same.0 same.1 h.4) h.5
 
-pub declares_found : (w : Words) → (a : ℕ) → (ss : Specifyings) → (m : ℕ) → FoundFront (shown w) a ss m → (t : Leading) → t ≡ leading_of (shown w) ss
-    → (ds : List Piece) → (body : Bool) → (b : ℕ) → FoundDeclared w t m ds body b → FoundHead w a (Declares_of ss ds body) b
+pub declares_found : (w : Words) → (a : ℕ) → (ss : Specifyings) → (m : ℕ) → FoundFront (shown_from w a) a ss m → (t : Leading) → t ≡ leading_of (shown w) ss
+    → (ds : List Piece) → (body : Bool) → (b : ℕ) → FoundDeclared w a t m ds body b → FoundHead w a (Declares_of ss ds body) b
 declares_found w a ss m x t by ds body b y =
     record {
-      reads = (m, y.last, x.some, x.reads, subst (λ k. HoldAll w k ds m y.last) by y.reads, y.closes, y.ends);
+      reads = (m, y.last, x.some, x.reads, subst (λ k. HoldAll w a k ds m y.last) by y.reads, y.closes, y.ends);
       inside = y.inside;
     }
 
-pub declares_same : (w : Words) → (a : ℕ) → (kind_at w.kinds a ≡ Assert → ⊥) → (ss : Specifyings) → (m : ℕ) → OnlyFront (shown w) a ss m → (t : Leading)
-    → t ≡ leading_of (shown w) ss → (ds : List Piece) → (body : Bool) → (b : ℕ) → OnlyDeclared w t m ds body b → OnlyHead w a (Declares_of ss ds body) b
-declares_same w a u ss m only t by ds body b more (Asserts_of x) b' h = absurd (u (was_assert w a (asserts_first (shown w) x a b' h)))
+pub declares_same : (w : Words) → (a : ℕ) → (kind_at w.kinds a ≡ Assert → ⊥) → (ss : Specifyings) → (m : ℕ) → OnlyFront (shown_from w a) a ss m → (t : Leading)
+    → t ≡ leading_of (shown w) ss → (ds : List Piece) → (body : Bool) → (b : ℕ) → OnlyDeclared a w t m ds body b → OnlyHead w a (Declares_of ss ds body) b
+declares_same w a u ss m only t by ds body b more (Asserts_of x) b' h = absurd (u (was_assert a w a (asserts_first (shown_from w a) x a b' h)))
 declares_same w a u ss m only t by ds body b more (Declares_of ss' ds' body') b' h =
-    let one = only ss' h.0 h.2 h.3 (specifiers_end w ss' ds' body' h.0 h.1 h.4 h.5) in
-    let two = more ds' body' h.1 (declared_moved w t ss ss' ds' m h.0 h.1 by one.0 one.1 h.4) h.5 in (
+    let one = only ss' h.0 h.2 h.3 (specifiers_end a w ss' ds' body' h.0 h.1 h.4 h.5) in
+    let two = more ds' body' h.1 (declared_moved a w t ss ss' ds' m h.0 h.1 by one.0 one.1 h.4) h.5 in (
       ap (λ x. Declares_of x ds body) one.0 ∙ ap (λ x. Declares_of ss' x body) two.0 ∙ ap (λ x. Declares_of ss' ds' x) two.1,
       two.2 ∙ sym h.6,
     )
@@ -318,22 +320,22 @@ pub some_starts : (ks : List Kind) → (y : Bool) → (ss : Specifyings) → (a 
 some_starts ks y No_specifiers a m i h = absurd i
 some_starts ks y (Specifier_then s ss) a m i h = starting ks y s a h.0 h.1
 
-starts_not : {A : Type 0} → (w : Words) → (a : ℕ) → kind_at w.kinds a ≡ Assert → (ss : Specifyings) → (m : ℕ) → AreSome ss → HoldSpecifyings (shown w) false ss a m → A
-starts_not w a k ss m i h = absurd (true≢false (sym (some_starts (shown w) false ss a m i h) ∙ ap starts_type (shown_assert w a k)))
+starts_not : {A : Type 0} → (w : Words) → (a : ℕ) → kind_at w.kinds a ≡ Assert → (ss : Specifyings) → (m : ℕ) → AreSome ss → HoldSpecifyings (shown_from w a) false ss a m → A
+starts_not w a k ss m i h = absurd (true≢false (sym (some_starts (shown_from w a) false ss a m i h) ∙ ap starts_type (shown_assert a w a k)))
 
-pub asserts_fail : (w : Words) → (a : ℕ) → kind_at w.kinds a ≡ Assert → (e : Stop) → FailsAssertion (shown w) a e → FailsHead w a e
+pub asserts_fail : (w : Words) → (a : ℕ) → kind_at w.kinds a ≡ Assert → (e : Stop) → FailsAssertion (shown_from w a) a e → FailsHead w a e
 asserts_fail w a k e fails (Asserts_of x) b h = fails x b h
 asserts_fail w a k e fails (Declares_of ss ds body) b h = starts_not w a k ss h.0 h.2 h.3
 
-pub asserts_same : (w : Words) → (a : ℕ) → kind_at w.kinds a ≡ Assert → (x : Assertion) → (b : ℕ) → OnlyAssertion (shown w) a x b
+pub asserts_same : (w : Words) → (a : ℕ) → kind_at w.kinds a ≡ Assert → (x : Assertion) → (b : ℕ) → OnlyAssertion (shown_from w a) a x b
     → OnlyHead w a (Asserts_of x) b
 asserts_same w a k x b only (Asserts_of x') b' h =
     let same = only x' b' h in
     (ap Asserts_of same.0, same.1)
 asserts_same w a k x b only (Declares_of ss ds body) b' h = starts_not w a k ss h.0 h.2 h.3
 
-pub asserts_found : (w : Words) → (a : ℕ) → (x : Assertion) → (b : ℕ) → FoundAssertion (shown w) a x b → FoundHead w a (Asserts_of x) b
-asserts_found w a x b found = record { reads = found.reads; inside = subst (λ n. b ≤ n) (shown_length w) found.inside }
+pub asserts_found : (w : Words) → (a : ℕ) → (x : Assertion) → (b : ℕ) → FoundAssertion (shown_from w a) a x b → FoundHead w a (Asserts_of x) b
+asserts_found w a x b found = record { reads = found.reads; inside = subst (λ n. b ≤ n) (from_length w a) found.inside }
 
 -- all tokens
 pub head_fails : (w : Words) → (e : Stop) → (r : ParseError) → r ≡ at_front e → FailsHead w 0 e → (u : Heading) → HoldsHead w u 0 (length w.kinds)

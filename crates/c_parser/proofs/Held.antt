@@ -7,7 +7,8 @@ use Rattle.c_parser.specs.Grammar.{spell, spell_behind, spell_behinds, spell_fro
 use Rattle.c_parser.specs.Kinds.{kind_at, level_at, is_prefix, is_size, casts_at, is_dot, is_member, specifies_at, named_by, grouped, behind_pointers, may_name, is_typedef, is_word, is_tagging, names_it, plain_behind}
 use Rattle.c_parser.specs.Levels.{behinds_level}
 use Rattle.c_parser.specs.Declarators.{spell_pointers}
-use Rattle.c_parser.proofs.Numbers.{Spans, spans_split, spans_forth}
+use Rattle.c_parser.specs.Numbers.{Spans}
+use Rattle.c_parser.proofs.Numbers.{spans_split, spans_forth}
 use Rattle.c_parser.proofs.NameLists.{names_held}
 use Rattle.c_parser.proofs.Types.{qualifiers_held, pointers_held}
 use Rattle.c_parser.specs.Reading.{HoldTexts, Holds, HoldsBehind, HoldBehinds, HoldsFront, HoldFronts, HoldsComma, HoldBraces, HoldsInitial, HoldsPiece, HoldPieces, HoldsDesignator, HoldDesignators, HoldsAssociation, HoldAssociations, HoldQualifiers, HoldSpecifying, HoldSpecifyings, HoldsNaming, HoldParameters, HoldRow, HoldsDeclaring, HoldsGrouping, HoldsDeriving, HoldDerivings, HoldsBound, HoldsTag, HoldsMember, HoldMembers, HoldsField, HoldFields, HoldsAssertion, HoldsDeclarator, HoldsDirect, HoldsEnumerator, HoldEnumerators}
@@ -387,10 +388,10 @@ mutual
       )
 
   pub held_enumerator : (ks : List Kind) → (e : Enumerator) → (a b : ℕ) → IsEnumerator ks e → Spans (spell_enumerator e) a b → HoldsEnumerator ks e a b
-  held_enumerator ks (Counted_of n) a b f s = (s.0, ap (λ x. kind_at ks x) (sym s.0) ∙ f, s.1)
+  held_enumerator ks (Counted_of n) a b f s = (s.0, ap (λ x. is_word (kind_at ks x)) (sym s.0) ∙ f, s.1)
   held_enumerator ks (Given_of n q t) a b f s = (
     s.0,
-    ap (λ x. kind_at ks x) (sym s.0) ∙ f.0,
+    ap (λ x. is_word (kind_at ks x)) (sym s.0) ∙ f.0,
     s.1.0,
     f.1,
     f.2,
@@ -564,6 +565,7 @@ mutual
         subst (λ x. HoldParameters ks ps (a + 1) x) (sym r.back.0) (held_parameters ks ps (a + 1) r.at f.1 r.front),
         f.2,
         r.back.1 ∙ ap (λ x. x + 1) (sym r.back.0),
+        f.3,
       )
 
   pub held_parameters : (ks : List Kind) → (ps : Parameters) → (a b : ℕ) → AreParameters ks ps → Spans (spell_parameters ps) a b → HoldParameters ks ps a b

@@ -9,7 +9,7 @@ mapped_length : (f : Kind → Kind) → (ks : List Kind) → length (map f ks) �
 mapped_length f [] = refl
 mapped_length f (k ∷ ks) = ap suc (mapped_length f ks)
 
-word_length : (ks : List Kind) → (w : ℕ) → length (hide_word ks w) ≡ length ks
+pub word_length : (ks : List Kind) → (w : ℕ) → length (hide_word ks w) ≡ length ks
 unfolding hide_word
 word_length ks w = mapped_length (hidden_one w) ks
 

@@ -1,5 +1,6 @@
 mod Abstract
 mod DeclaratorReading
+mod Enumerated
 mod EnumeratorLists
 mod FirstLemmas
 mod Formed
@@ -8,6 +9,7 @@ mod Fronts
 mod Generics
 mod HeadDeclarators
 mod HeadLists
+mod HeadRanges
 mod HeadWholes
 mod HeadWords
 mod Held

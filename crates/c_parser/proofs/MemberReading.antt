@@ -315,7 +315,7 @@ enumerator_only ks (Given_of n q t) a b w h f (Given_of n' q' t') b' h' f' =
     (h'.4, subst (λ x. Holds ks t' (x + 1) b') (sym one) h'.5) (enumerator_stops ks b' f') in
     (ap (λ x. Given_of x q t) (h.0 ∙ sym h'.0) ∙ ap (λ x. Given_of n' x t) one ∙ ap (λ x. Given_of n' q' x) two.0, two.1)
 
-pub named_first : (ks : List Kind) → (e : Enumerator) → (a b : ℕ) → HoldsEnumerator ks e a b → kind_at ks a ≡ Identifier
+pub named_first : (ks : List Kind) → (e : Enumerator) → (a b : ℕ) → HoldsEnumerator ks e a b → is_word (kind_at ks a) ≡ true
 named_first ks (Counted_of n) a b h = h.1
 named_first ks (Given_of n q t) a b h = h.1
 
@@ -342,7 +342,7 @@ none_on : {A : Type 0} → (ks : List Kind) → (t : Option ℕ) → (a c : ℕ)
     → kind_at ks a ≡ Comma → HoldsEnumerator ks e (a + 1) m → A
 none_on ks None a c h k e m g i = clash (kind_at ks a) CloseBrace Comma (ap (λ x. kind_at ks x) (sym h) ∙ k) g (λ x. omega (arith, x))
 none_on ks (Some o) a c h k e m g i =
-    clash (kind_at ks (a + 1)) CloseBrace Identifier (ap (λ x. kind_at ks x) (sym h.2) ∙ k) (named_first ks e (a + 1) m i) (λ x. omega (arith, x))
+    absurd (true≢false (sym (named_first ks e (a + 1) m i) ∙ ap (λ x. is_word (kind_at ks x)) (sym h.2) ∙ ap is_word k))
 
 abbrev pub OnlyList : List Kind → ℕ → Enumerators → Option ℕ → ℕ → Type 0
 OnlyList ks a es t c =

@@ -8,7 +8,7 @@ use Rattle.c_parser.specs.Kinds.{kind_at, is_identifier}
 use Rattle.c_parser.specs.Reading.{HoldNames}
 use Rattle.c_parser.specs.TypeNames.{FoundNames, FoundParameters}
 use Rattle.c_parser.proofs.Marks.{clash}
-use Rattle.c_parser.proofs.Numbers.{Spans}
+use Rattle.c_parser.specs.Numbers.{Spans}
 use Rattle.c_parser.proofs.Words.{test_inside}
 
 pub names_formed : (ks : List Kind) → (ns : List (ℕ × ℕ)) → (a b : ℕ) → HoldNames ks ns a b → AreNames ks ns

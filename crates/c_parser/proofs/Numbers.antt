@@ -1,12 +1,9 @@
 -- Lists of numbers from one place up to another.
 use Rattle.std.proofs.Common.{◌≡◌, refl, ap, ◌∙◌, subst, ℕ, zero, suc, ◌+◌, ◌≤◌, List, [], ◌∷◌, ◌++◌, arith}
 use Rattle.c_parser.specs.Grammar.{numbers}
+use Rattle.c_parser.specs.Numbers.{Spans}
 
 -- the numbers are those from a up to b
-abbrev pub Spans : List ℕ → ℕ → ℕ → Type 0
-Spans [] a b = b ≡ a
-Spans (x ∷ xs) a b = (x ≡ a) × Spans xs (a + 1) b
-
 pub spans_join : (xs ys : List ℕ) → (a m b : ℕ) → Spans xs a m → Spans ys m b → Spans (xs ++ ys) a b
 spans_join [] ys a m b h g = subst (λ k. Spans ys k b) h g
 spans_join (x ∷ xs) ys a m b h g = (h.0, spans_join xs ys (a + 1) m b h.1 g)

@@ -7,20 +7,29 @@ use Rattle.c_parser.specs.Heads.{HoldsValue, HoldsOne, HoldOthers, HoldAll, Lead
 use Rattle.c_parser.specs.HeadsFound.{FoundHead}
 use Rattle.c_parser.specs.Parts.{FoundExpression, FoundDeclaration, HoldsDeclaration, is_declaration}
 use Rattle.c_parser.specs.Reading.{HoldsInitial, Reads, Stops, Found, IsWant}
-use Rattle.c_parser.specs.Words.{Words, shown}
+use Rattle.c_parser.specs.Words.{Words, shown, shown_from}
+use Rattle.c_parser.proofs.Enumerated.{level_settled}
 use Rattle.c_parser.proofs.Forth.{tree_forth, declarator_forth, piece_forth, specifyings_forth}
 use Rattle.c_parser.proofs.HeadLists.{Piece}
 use Rattle.c_parser.proofs.HeadWholes.{OnlyHead, FailsHead}
-use Rattle.c_parser.proofs.HeadWords.{shown_length}
+use Rattle.c_parser.proofs.HeadWords.{from_length}
 use Rattle.c_parser.proofs.SameParts.{Only}
 
-pub expression_found : (w : Words) → (ks : List Kind) → ks ≡ shown w → (n a : ℕ) → (t : Tree) → (b : ℕ) → Found ks n a t b → FoundExpression w n a t b
-expression_found w ks e n a t b f =
+-- a part stops where it would under what is shown in front of it: enumerators are no operators
+pub stops_here : (w : Words) → (n a b : ℕ) → Stops (shown_from w a) n b → Stops (shown w) n b
+stops_here w n a b h = subst (λ l. l < n) (level_settled (shown w) a b) h
+
+pub stops_there : (w : Words) → (n a b : ℕ) → Stops (shown w) n b → Stops (shown_from w a) n b
+stops_there w n a b h = subst (λ l. l < n) (sym (level_settled (shown w) a b)) h
+
+pub expression_found : (w : Words) → (ks : List Kind) → (n a : ℕ) → ks ≡ shown_from w a → (t : Tree) → (b : ℕ) → Found ks n a t b
+    → FoundExpression w n a t b
+expression_found w ks n a e t b f =
     let room : b ≤ length ks = f.inside in
-    let same : length ks ≡ length w.kinds = ap length e ∙ shown_length w in
+    let same : length ks ≡ length w.kinds = ap length e ∙ from_length w a in
     record {
       reads = subst (λ x. Reads x n t a b) e f.reads;
-      stops = subst (λ x. Stops x n b) e f.stops;
+      stops = stops_here w n a b (subst (λ x. Stops x n b) e f.stops);
       forth = f.forth;
       inside = omega (arith, room, same);
     }
@@ -32,33 +41,33 @@ value_forth ks (Some i) a b h =
     let one : a + 1 ≤ b = piece_forth ks (Plain_of i) (a + 1) b h.1 in
     omega (arith, one)
 
-one_forth : (w : Words) → (s : Leading) → (p : Piece) → (a b : ℕ) → HoldsOne w s p.0 p.1 a b → a ≤ b
-one_forth w s p a b h =
-    let one : a ≤ h.0 = declarator_forth (shown w) (not s.typed) p.0 a h.0 h.1 in
-    let two : h.0 ≤ b = value_forth (shown (past w s p.0)) p.1 h.0 b h.2 in
+one_forth : (w : Words) → (o : ℕ) → (s : Leading) → (p : Piece) → (a b : ℕ) → HoldsOne w o s p.0 p.1 a b → a ≤ b
+one_forth w o s p a b h =
+    let one : a ≤ h.0 = declarator_forth (shown_from w o) (not s.typed) p.0 a h.0 h.1 in
+    let two : h.0 ≤ b = value_forth (shown_from (past w s p.0) o) p.1 h.0 b h.2 in
     omega (arith, one, two)
 
-others_forth : (w : Words) → (s : Leading) → (ps : List Piece) → (a b : ℕ) → HoldOthers w s ps a b → a ≤ b
-others_forth w s [] a b h = omega (arith, h)
-others_forth w s (p ∷ ps) a b h =
-    let one : a + 1 ≤ h.0 = one_forth w s p (a + 1) h.0 h.2 in
-    let two : h.0 ≤ b = others_forth (past w s p.0) s ps h.0 b h.3 in
+others_forth : (w : Words) → (o : ℕ) → (s : Leading) → (ps : List Piece) → (a b : ℕ) → HoldOthers w o s ps a b → a ≤ b
+others_forth w o s [] a b h = omega (arith, h)
+others_forth w o s (p ∷ ps) a b h =
+    let one : a + 1 ≤ h.0 = one_forth w o s p (a + 1) h.0 h.2 in
+    let two : h.0 ≤ b = others_forth (past w s p.0) o s ps h.0 b h.3 in
     omega (arith, one, two)
 
-all_forth : (w : Words) → (s : Leading) → (ps : List Piece) → (a b : ℕ) → HoldAll w s ps a b → a ≤ b
-all_forth w s [] a b h = omega (arith, h)
-all_forth w s (p ∷ ps) a b h =
-    let one : a ≤ h.0 = one_forth w s p a h.0 h.1 in
-    let two : h.0 ≤ b = others_forth (past w s p.0) (freely s) ps h.0 b h.2 in
+all_forth : (w : Words) → (o : ℕ) → (s : Leading) → (ps : List Piece) → (a b : ℕ) → HoldAll w o s ps a b → a ≤ b
+all_forth w o s [] a b h = omega (arith, h)
+all_forth w o s (p ∷ ps) a b h =
+    let one : a ≤ h.0 = one_forth w o s p a h.0 h.1 in
+    let two : h.0 ≤ b = others_forth (past w s p.0) o (freely s) ps h.0 b h.2 in
     omega (arith, one, two)
 
 head_forth : (w : Words) → (d : Heading) → (a b : ℕ) → HoldsHead w d a b → a < b
 head_forth w (Declares_of ss ds body) a b h =
-    let one : a ≤ h.0 = specifyings_forth (shown w) false ss a h.0 h.3 in
-    let two : h.0 ≤ h.1 = all_forth w (leading_of (shown w) ss) ds h.0 h.1 h.4 in
+    let one : a ≤ h.0 = specifyings_forth (shown_from w a) false ss a h.0 h.3 in
+    let two : h.0 ≤ h.1 = all_forth w a (leading_of (shown w) ss) ds h.0 h.1 h.4 in
     omega (arith, one, two, h.6)
 head_forth w (Asserts_of (Assertion_of k o t c ns p e)) a b h =
-    let one : o + 1 ≤ c = tree_forth (shown w) t (o + 1) c h.5 in
+    let one : o + 1 ≤ c = tree_forth (shown_from w a) t (o + 1) c h.5 in
     let two : c + 1 < p = h.7 in
     omega (arith, one, two, h.2, h.10, h.12)
 
@@ -83,3 +92,14 @@ OnlyAt ks n a t b = (u : Tree) → (c : ℕ) → Reads ks n u a c → Stops ks n
 
 abbrev pub FailsAt : List Kind → ℕ → ℕ → Stop → Type 0
 FailsAt ks n a e = (u : Tree) → (c : ℕ) → Reads ks n u a c → Stops ks n c → IsWant e
+
+-- the same for whoever stops under what is shown in front of the part
+pub only_shown : (w : Words) → (ks : List Kind) → (n a : ℕ) → ks ≡ shown_from w a → (t : Tree) → (b : ℕ) → OnlyAt ks n a t b → (u : Tree) → (c : ℕ)
+    → Reads (shown_from w a) n u a c → Stops (shown w) n c → (t ≡ u) × (b ≡ c)
+only_shown w ks n a e t b only u c h s =
+    only u c (subst (λ x. Reads x n u a c) (sym e) h) (subst (λ x. Stops x n c) (sym e) (stops_there w n a c s))
+
+pub fails_shown : (w : Words) → (ks : List Kind) → (n a : ℕ) → ks ≡ shown_from w a → (e : Stop) → FailsAt ks n a e → (u : Tree) → (c : ℕ)
+    → Reads (shown_from w a) n u a c → Stops (shown w) n c → IsWant e
+fails_shown w ks n a is e fails u c h s =
+    fails u c (subst (λ x. Reads x n u a c) (sym is) h) (subst (λ x. Stops x n c) (sym is) (stops_there w n a c s))

@@ -41,7 +41,7 @@ choose n w false = same (n == w)
     same true = refl
     same false = refl
 
-one_more : (old new : List Bool) → (w : ℕ) → ((n : ℕ) → slice_index_or new n false ≡ ((n == w) || slice_index_or old n false)) → (k : Kind)
+pub one_more : (old new : List Bool) → (w : ℕ) → ((n : ℕ) → slice_index_or new n false ≡ ((n == w) || slice_index_or old n false)) → (k : Kind)
     → shade new k ≡ hidden_one w (shade old k)
 one_more old new w h (TypeName n) = ap (λ b. if b then Identifier else TypeName n) (h n) ∙ choose n w (slice_index_or old n false)
 one_more old new w h _ = refl

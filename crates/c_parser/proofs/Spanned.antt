@@ -5,7 +5,8 @@ use Rattle.c_parser.specs.declared.kinds.Kind.{Kind}
 use Rattle.c_parser.specs.Grammar.{spell, spell_behind, spell_behinds, spell_front, spell_fronts, spell_comma, spell_braces, spell_initial, spell_piece, spell_pieces, spell_designator, spell_designators, spell_association, spell_associations, spell_specifying, spell_specifyings, spell_type, spell_declaring, spell_grouping, spell_deriving, spell_derivings, spell_bound, has_type, spell_parameters, spell_row, typed_by, past, spell_tag, spell_member, spell_members, spell_field, spell_fields, spell_assertion, spell_enumerator, spell_enumerators}
 use Rattle.c_parser.specs.Levels.{behinds_level}
 use Rattle.c_parser.specs.Declarators.{spell_pointers}
-use Rattle.c_parser.proofs.Numbers.{Spans, spans_join}
+use Rattle.c_parser.specs.Numbers.{Spans}
+use Rattle.c_parser.proofs.Numbers.{spans_join}
 use Rattle.c_parser.proofs.NameLists.{names_spanned}
 use Rattle.c_parser.proofs.Types.{qualifiers_spanned, pointers_spanned}
 use Rattle.c_parser.specs.Reading.{HoldTexts, Holds, HoldsBehind, HoldBehinds, HoldsFront, HoldFronts, HoldsComma, HoldBraces, HoldsInitial, HoldsPiece, HoldPieces, HoldsDesignator, HoldDesignators, HoldsAssociation, HoldAssociations, HoldSpecifying, HoldSpecifyings, HoldsNaming, HoldParameters, HoldRow, HoldsDeclaring, HoldsGrouping, HoldsDeriving, HoldDerivings, HoldsBound, HoldsTag, HoldsMember, HoldMembers, HoldsField, HoldFields, HoldsAssertion, HoldsDeclarator, HoldsDirect, HoldsEnumerator, HoldEnumerators}

@@ -3,7 +3,8 @@ use Rattle.std.proofs.Common.{◌≡◌, sym, subst, ℕ, ◌+◌, List, false, 
 use Rattle.tree_data.specs.Trees.{Tree, Naming}
 use Rattle.c_parser.specs.declared.kinds.Kind.{Kind}
 use Rattle.c_parser.specs.Grammar.{spell, IsExpression, numbers, spell_type, IsNaming}
-use Rattle.c_parser.proofs.Numbers.{Spans, numbers_span, span_numbers}
+use Rattle.c_parser.specs.Numbers.{Spans}
+use Rattle.c_parser.proofs.Numbers.{numbers_span, span_numbers}
 use Rattle.c_parser.specs.Reading.{Reads, HoldsNaming}
 use Rattle.c_parser.proofs.Formed.{formed, formed_naming}
 use Rattle.c_parser.proofs.Spanned.{spanned, spanned_naming}

@@ -7,7 +7,8 @@ use Rattle.c_parser.specs.Declarators.{spell_pointers, AreQualifiers, ArePointer
 use Rattle.c_parser.specs.Kinds.{kind_at, starts_type, qualifies_at}
 use Rattle.c_parser.specs.Reading.{HoldSpecifying, HoldQualifiers, HoldPointers, HoldsNaming, HoldsType}
 use Rattle.c_parser.specs.TypeNames.{FoundQualifiers, FoundPointers}
-use Rattle.c_parser.proofs.Numbers.{Spans, spans_join, spans_split, spans_forth}
+use Rattle.c_parser.specs.Numbers.{Spans}
+use Rattle.c_parser.proofs.Numbers.{spans_join, spans_split, spans_forth}
 use Rattle.c_parser.proofs.Words.{specifies_starts, qualifies_not, typedef_starts, tagging_starts}
 
 pub qualifiers_formed : (ks : List Kind) → (ns : List ℕ) → (a b : ℕ) → HoldQualifiers ks ns a b → AreQualifiers ks ns

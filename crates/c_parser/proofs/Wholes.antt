@@ -1,5 +1,5 @@
 -- From a reading of the front to one of all tokens.
-use Rattle.std.proofs.Common.{◌≡◌, refl, ap, sym, subst, ℕ, ◌+◌, ◌<◌, List, length, arith, true, None}
+use Rattle.std.proofs.Common.{◌≡◌, refl, ap, sym, ◌∙◌, subst, ℕ, ◌+◌, ◌-◌, ◌<◌, ◌==◌, if◌then◌else◌, List, [], ◌∷◌, length, arith, true, None, Some}
 use Rattle.tree_data.specs.Trees.{Tree, Naming}
 use Rattle.c_parser.specs.declared.answers.ParseError.{ParseError}
 use Rattle.c_parser.specs.declared.answers.ParseError.TheVariants as told
@@ -7,15 +7,18 @@ use Rattle.c_parser.specs.declared.answers.Stop.{Stop}
 use Rattle.c_parser.specs.declared.answers.Stop.TheVariants.{Syntax, NoMemory}
 use Rattle.c_parser.specs.declared.kinds.Kind.{Kind}
 use Rattle.c_parser.specs.Reading.{Reads, Found, FoundType, HoldsType, IsWant, at_front, IsAtFront, IsRefused, IsDeep}
-use Rattle.c_parser.specs.Brackets.{too_deep}
+use Rattle.c_parser.specs.Brackets.{opens, closes, too_deep_from, too_deep}
+use Rattle.c_parser.specs.Enumerations.{in_force, settle_on, settle}
 use Rattle.c_parser.specs.Grammar.{IsMeaning, IsCause}
+use Rattle.c_parser.proofs.Enumerated.{blind_forced}
 use Rattle.c_parser.proofs.Parsing.{Fails, found_only}
 use Rattle.c_parser.proofs.Spans.{expression_reads, reads_expression, formed_type, spanned_type, held_type}
 use Rattle.c_parser.proofs.Uniqueness.{past_end, stops_at_end, reads_only}
 use Rattle.c_parser.specs.Grammar.{numbers, spell_type}
 use Rattle.c_parser.specs.Kinds.{kind_at, ends_type}
 use Rattle.c_parser.specs.TypeMeaning.{IsTypeName, IsTypeMeaning, IsTypeCause}
-use Rattle.c_parser.proofs.Numbers.{Spans, numbers_span, span_numbers}
+use Rattle.c_parser.specs.Numbers.{Spans}
+use Rattle.c_parser.proofs.Numbers.{numbers_span, span_numbers}
 use Rattle.c_parser.proofs.TypeReading.{type_only}
 
 pub front_is : (e : Stop) → IsAtFront (at_front e)
@@ -55,6 +58,38 @@ pub deep_cause : (ks : List Kind) → (e : ParseError) → IsDeep ks e → IsCau
 deep_cause ks (told.Syntax at) h = absurd h
 deep_cause ks (told.TooDeep at) h = h
 deep_cause ks told.NoMemory h = tt
+
+-- brackets are the same where enumerators hide typedef names
+deep_settled : (ks : List Kind) → (from start depth at : ℕ) → (us : List Kind)
+    → too_deep_from depth at (settle_on ks from start us) ≡ too_deep_from depth at us
+deep_settled ks from start depth at [] = refl
+deep_settled ks from start depth at (u ∷ us) =
+    ap (λ b. if b then (if depth == 256 then Some at else too_deep_from (depth + 1) (at + 1) (settle_on ks from (start + 1) us))
+    else (if closes (in_force ks from start u) then too_deep_from (depth - 1) (at + 1) (settle_on ks from (start + 1) us)
+    else too_deep_from depth (at + 1) (settle_on ks from (start + 1) us))) (blind_forced opens (λ n. refl) ks from start u)
+    ∙ ap (λ b. if opens u then (if depth == 256 then Some at else too_deep_from (depth + 1) (at + 1) (settle_on ks from (start + 1) us))
+    else (if b then too_deep_from (depth - 1) (at + 1) (settle_on ks from (start + 1) us)
+    else too_deep_from depth (at + 1) (settle_on ks from (start + 1) us))) (blind_forced closes (λ n. refl) ks from start u)
+    ∙ ap (λ x. if opens u then (if depth == 256 then Some at else x)
+    else (if closes u then too_deep_from (depth - 1) (at + 1) (settle_on ks from (start + 1) us)
+    else too_deep_from depth (at + 1) (settle_on ks from (start + 1) us))) (deep_settled ks from (start + 1) (depth + 1) (at + 1) us)
+    ∙ ap (λ x. if opens u then (if depth == 256 then Some at else too_deep_from (depth + 1) (at + 1) us)
+    else (if closes u then x else too_deep_from depth (at + 1) (settle_on ks from (start + 1) us)))
+    (deep_settled ks from (start + 1) (depth - 1) (at + 1) us)
+    ∙ ap (λ x. if opens u then (if depth == 256 then Some at else too_deep_from (depth + 1) (at + 1) us)
+    else (if closes u then too_deep_from (depth - 1) (at + 1) us else x)) (deep_settled ks from (start + 1) depth (at + 1) us)
+
+settled_depth : (ks : List Kind) → too_deep (settle ks 0) ≡ too_deep ks
+unfolding settle
+settled_depth ks = deep_settled ks 0 0 0 0 ks
+
+pub settled_shallow : (ks : List Kind) → too_deep ks ≡ None → too_deep (settle ks 0) ≡ None
+settled_shallow ks h = settled_depth ks ∙ h
+
+pub settled_deep : (ks : List Kind) → (e : ParseError) → IsDeep ks e → IsDeep (settle ks 0) e
+settled_deep ks (told.Syntax at) h = absurd h
+settled_deep ks (told.TooDeep at) h = settled_depth ks ∙ h
+settled_deep ks told.NoMemory h = tt
 
 -- the same for the name of a type: what a call that reads one answers where there is none, and where there is one
 abbrev pub FailsType : List Kind → ℕ → Stop → Type 0

@@ -10,6 +10,7 @@ use Rattle.c_parser.specs.declared.kinds.Site.{Site}
 use Rattle.c_parser.specs.declared.kinds.Site.TheVariants.{OfMember}
 use Rattle.c_parser.specs.declared.kinds.Kind.TheVariants.{Identifier, Constant, Text, OpenParen, CloseParen, OpenBracket, CloseBracket, OpenBrace, CloseBrace, Step, Question, Colon, Comma, Generic, OffsetOf, Default, Ellipsis, Tag, Star, Atomic, Static, Align, Assert, Semicolon, Enum}
 use Rattle.c_parser.specs.Brackets.{too_deep}
+use Rattle.c_parser.specs.Enumerations.{bars}
 use Rattle.c_parser.specs.Kinds.{kind_at, level_at, is_prefix, casts_at, is_size, is_word, is_equals, is_dot, is_member, is_type_word, specifies_at, may_name, named_by, grouped, behind_pointers, is_typedef, hide, is_tagging, admits, site_of, names_it, plain_behind}
 use Rattle.c_parser.specs.Declarators.{spell_pointers, spell_names, AreQualifiers, AreThere, ArePointers, AreNames, IsWritten, MayDerive, name_of}
 use Rattle.c_parser.specs.Levels.{expression, assignment_expression, conditional_expression, logical_OR_expression, unary_expression, postfix_expression, primary_expression, IsBinary, behinds_level, rank}
@@ -509,12 +510,11 @@ abbrev mutual
       × IsComma kinds t
       × (kind_at kinds c ≡ CloseBrace)
 
-  -- 6.7.2.2 enumerator : enumeration-constant | enumeration-constant = constant-expression; so far the constant is no typedef name in force, so
-  -- that it hides none
+  -- 6.7.2.2 enumerator : enumeration-constant | enumeration-constant = constant-expression; the kinds are those in force where each token stands
   pub IsEnumerator : List Kind → Enumerator → Type 0
-  IsEnumerator kinds (Counted_of n) = kind_at kinds n ≡ Identifier
+  IsEnumerator kinds (Counted_of n) = is_word (kind_at kinds n) ≡ true
   IsEnumerator kinds (Given_of n q t) =
-      (kind_at kinds n ≡ Identifier)
+      (is_word (kind_at kinds n) ≡ true)
       × (is_equals (kind_at kinds q) ≡ true)
       × (conditional_expression ≤ rank kinds t) × IsFormed kinds t
 
@@ -612,9 +612,10 @@ abbrev mutual
   -- 6.7.7 direct-abstract-declarator opt [ .. ]
   IsDerived kinds (Array_of o b c) =
       (kind_at kinds o ≡ OpenBracket) × IsBound kinds b × (kind_at kinds c ≡ CloseBracket)
-  -- direct-abstract-declarator opt ( parameter-type-list opt ), 6.7.6 direct-declarator ( identifier-list )
+  -- direct-abstract-declarator opt ( parameter-type-list opt ), 6.7.6 direct-declarator ( identifier-list ); so far no enumerator in it hides
+  -- a typedef name, which it would do up to its end alone (6.2.1p4)
   IsDerived kinds (Function_of o ps c) =
-      (kind_at kinds o ≡ OpenParen) × AreParameters kinds ps × (kind_at kinds c ≡ CloseParen)
+      (kind_at kinds o ≡ OpenParen) × AreParameters kinds ps × (kind_at kinds c ≡ CloseParen) × (bars kinds o c ≡ false)
 
   -- 6.7.6 parameter-type-list : parameter-list | parameter-list , ...
   pub AreParameters : List Kind → Parameters → Type 0

@@ -1,14 +1,14 @@
 -- The grammar of heads (ISO C11 6.7, 6.7.6, 6.7.10, 6.9): declarations up to their `;`, functions up to the `{` of their bodies, and static
 -- assertions. A tree stands from one place to another, as in `Reading`.
-use Rattle.std.specs.Prelude.{◌≡◌, ℕ, ◌+◌, ◌<◌, ◌≤◌, List, [], ◌∷◌, Option, Some, None, is_none, Bool, true, false, not, ◌||◌}
+use Rattle.std.specs.Prelude.{◌≡◌, ℕ, ◌+◌, ◌<◌, ◌≤◌, List, [], ◌∷◌, ◌++◌, Option, Some, None, is_none, Bool, true, false, not, ◌||◌}
 use Rattle.tree_data.specs.Trees.{Declaring, Specifying, Word_of, Typedef_of, Tag_of, Atomic_of, Aligned_as_of, Aligned_of, Members_of, Enumerators_of, Specifyings, No_specifiers, Specifier_then, Initial, Heading, Declares_of, Asserts_of}
 use Rattle.c_parser.specs.declared.kinds.Kind.{Kind}
 use Rattle.c_parser.specs.declared.kinds.Kind.TheVariants.{Comma, Semicolon, OpenBrace}
 use Rattle.c_parser.specs.Declarators.{name_of}
-use Rattle.c_parser.specs.Grammar.{AreSome, typed_by}
+use Rattle.c_parser.specs.Grammar.{AreSome, typed_by, spell_declaring, spell_initial, spell_specifyings, spell_assertion}
 use Rattle.c_parser.specs.Kinds.{kind_at, is_typedef_word, is_equals}
 use Rattle.c_parser.specs.Reading.{HoldsDeclarator, HoldsAssertion, HoldSpecifyings, HoldsInitial}
-use Rattle.c_parser.specs.Words.{Words, shown, declared}
+use Rattle.c_parser.specs.Words.{Words, shown, shown_from, declared, past_numbers}
 
 -- `typedef` is among the specifiers (6.7.1)
 abbrev pub defines_one : List Kind → Specifying → Bool
@@ -46,23 +46,24 @@ abbrev pub HoldsValue : List Kind → Option Initial → ℕ → ℕ → Type 0
 HoldsValue ks None a b = b ≡ a
 HoldsValue ks (Some i) a b = (is_equals (kind_at ks a) ≡ true) × HoldsInitial ks i (a + 1) b
 
--- 6.7 init-declarator : declarator | declarator = initializer
-abbrev pub HoldsOne : Words → Leading → Declaring → Option Initial → ℕ → ℕ → Type 0
-HoldsOne w s d i a b = (m : ℕ) × HoldsDeclarator (shown w) (not s.typed) d a m × HoldsValue (shown (past w s d)) i m b
+-- 6.7 init-declarator : declarator | declarator = initializer; of a declaration that begins at o, so that its enumerators hide what they hide
+abbrev pub HoldsOne : Words → ℕ → Leading → Declaring → Option Initial → ℕ → ℕ → Type 0
+HoldsOne w o s d i a b =
+    (m : ℕ) × HoldsDeclarator (shown_from w o) (not s.typed) d a m × HoldsValue (shown_from (past w s d) o) i m b
 
 -- 6.7 init-declarator-list : init-declarator | init-declarator-list , init-declarator; those behind the first
-abbrev pub HoldOthers : Words → Leading → List (Declaring × Option Initial) → ℕ → ℕ → Type 0
-HoldOthers w s [] a b = b ≡ a
-HoldOthers w s (p ∷ ps) a b =
-    (m : ℕ) × (kind_at w.kinds a ≡ Comma) × HoldsOne w s p.0 p.1 (a + 1) m × HoldOthers (past w s p.0) s ps m b
+abbrev pub HoldOthers : Words → ℕ → Leading → List (Declaring × Option Initial) → ℕ → ℕ → Type 0
+HoldOthers w o s [] a b = b ≡ a
+HoldOthers w o s (p ∷ ps) a b =
+    (m : ℕ) × (kind_at w.kinds a ≡ Comma) × HoldsOne w o s p.0 p.1 (a + 1) m × HoldOthers (past w s p.0) o s ps m b
 
 -- where a typedef name can't be one of the specifiers any more
 abbrev pub freely : Leading → Leading
 freely s = record { typed = true; typedef = s.typedef }
 
-abbrev pub HoldAll : Words → Leading → List (Declaring × Option Initial) → ℕ → ℕ → Type 0
-HoldAll w s [] a b = b ≡ a
-HoldAll w s (p ∷ ps) a b = (m : ℕ) × HoldsOne w s p.0 p.1 a m × HoldOthers (past w s p.0) (freely s) ps m b
+abbrev pub HoldAll : Words → ℕ → Leading → List (Declaring × Option Initial) → ℕ → ℕ → Type 0
+HoldAll w o s [] a b = b ≡ a
+HoldAll w o s (p ∷ ps) a b = (m : ℕ) × HoldsOne w o s p.0 p.1 a m × HoldOthers (past w s p.0) o (freely s) ps m b
 
 -- the identifiers behind all of them
 abbrev pub past_all : Words → Leading → List (Declaring × Option Initial) → Words
@@ -87,11 +88,22 @@ leading_of ks ss = record { typed = typed_by ks false ss; typedef = defines ks s
 -- 6.9.1 function-definition : declaration-specifiers declarator compound-statement, up to the `{` of its body
 abbrev pub HoldsHead : Words → Heading → ℕ → ℕ → Type 0
 HoldsHead w (Declares_of ss ds body) a b =
-    (m : ℕ) × (n : ℕ) × AreSome ss × HoldSpecifyings (shown w) false ss a m × HoldAll w (leading_of (shown w) ss) ds m n
+    (m : ℕ) × (n : ℕ) × AreSome ss × HoldSpecifyings (shown_from w a) false ss a m
+    × HoldAll w a (leading_of (shown w) ss) ds m n
     × Closes w.kinds ds body n × (b ≡ n + 1)
-HoldsHead w (Asserts_of x) a b = HoldsAssertion (shown w) x a b
+HoldsHead w (Asserts_of x) a b = HoldsAssertion (shown_from w a) x a b
 
--- the identifiers behind a head
+-- the tokens of declarators and initializers
+abbrev pub spell_value : Option Initial → List ℕ
+spell_value None = []
+spell_value (Some i) = spell_initial i
+
+abbrev pub spell_all : List (Declaring × Option Initial) → List ℕ
+spell_all [] = []
+spell_all (p ∷ ps) = spell_declaring p.0 ++ (spell_value p.1 ++ spell_all ps)
+
+-- the identifiers behind a head: its enumerators are declared up to the end of the scope that it stands in
 abbrev pub past_head : Words → Heading → Words
-past_head w (Declares_of ss ds body) = past_all w (leading_of (shown w) ss) ds
-past_head w (Asserts_of x) = w
+past_head w (Declares_of ss ds body) =
+    past_numbers (past_all w (leading_of (shown w) ss) ds) (spell_specifyings ss ++ spell_all ds)
+past_head w (Asserts_of x) = past_numbers w (spell_assertion x)

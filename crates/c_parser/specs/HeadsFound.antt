@@ -26,13 +26,13 @@ pub record FoundValue (ks : List Kind) (a : ℕ) (i : Option Initial) (b : ℕ) 
   pub forth : a ≤ b
   pub inside : b ≤ length ks
 
-pub record FoundOne (w : Words) (s : Leading) (a : ℕ) (d : Declaring) (i : Option Initial) (b : ℕ) : Type 0 where
-  pub reads : HoldsOne w s d i a b
+pub record FoundOne (w : Words) (o : ℕ) (s : Leading) (a : ℕ) (d : Declaring) (i : Option Initial) (b : ℕ) : Type 0 where
+  pub reads : HoldsOne w o s d i a b
   pub forth : a < b
   pub inside : b ≤ length w.kinds
 
-pub record FoundAll (w : Words) (s : Leading) (a : ℕ) (ds : List (Declaring × Option Initial)) (b : ℕ) : Type 0 where
-  pub reads : HoldAll w s ds a b
+pub record FoundAll (w : Words) (o : ℕ) (s : Leading) (a : ℕ) (ds : List (Declaring × Option Initial)) (b : ℕ) : Type 0 where
+  pub reads : HoldAll w o s ds a b
   pub forth : a < b
   pub inside : b ≤ length w.kinds
 
@@ -43,9 +43,9 @@ pub record FoundFront (ks : List Kind) (a : ℕ) (ss : Specifyings) (b : ℕ) : 
   pub inside : b ≤ length ks
 
 -- declarators, and the `;` or `{` behind them
-pub record FoundDeclared (w : Words) (s : Leading) (a : ℕ) (ds : List (Declaring × Option Initial)) (body : Bool) (b : ℕ) : Type 0 where
+pub record FoundDeclared (w : Words) (o : ℕ) (s : Leading) (a : ℕ) (ds : List (Declaring × Option Initial)) (body : Bool) (b : ℕ) : Type 0 where
   pub last : ℕ
-  pub reads : HoldAll w s ds a last
+  pub reads : HoldAll w o s ds a last
   pub closes : Closes w.kinds ds body last
   pub ends : b ≡ last + 1
   pub inside : b ≤ length w.kinds
@@ -70,6 +70,11 @@ abbrev pub ends_all : Kind → Bool
 ends_all Semicolon = true
 ends_all OpenBrace = true
 ends_all _ = false
+
+-- no two heads are all the tokens, whatever is declared
+abbrev pub HeadReadingIsUnique : Type 0
+HeadReadingIsUnique =
+    (w : Words) → (h u : Heading) → HoldsHead w h 0 (length w.kinds) → HoldsHead w u 0 (length w.kinds) → h ≡ u
 
 -- the tokens mean this head and no other
 pub record IsHeadMeaning (w : Words) (h : Heading) : Type 0 where

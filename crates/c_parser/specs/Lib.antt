@@ -1,6 +1,7 @@
 pub mod Beginnings
 pub mod Brackets
 pub mod Declarators
+pub mod Enumerations
 pub mod EnumeratorsFound
 pub mod Grammar
 pub mod Heads
@@ -9,6 +10,7 @@ pub mod Joining
 pub mod Kinds
 pub mod Levels
 pub mod MembersFound
+pub mod Numbers
 pub mod Parts
 pub mod Reading
 pub mod Scopes

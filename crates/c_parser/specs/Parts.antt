@@ -1,11 +1,12 @@
 -- Expressions and declarations as parts of statements (ISO C11 6.8): where they stand, and what the grammars that have them rely on.
 use Rattle.std.specs.Prelude.{◌≡◌, ℕ, ◌+◌, ◌<◌, ◌≤◌, List, length, Bool, true, false, not, ◌||◌}
-use Rattle.tree_data.specs.Trees.{Tree, Heading, Declares_of, Asserts_of}
+use Rattle.tree_data.specs.Trees.{Tree, Name_of, Heading, Declares_of, Asserts_of}
 use Rattle.c_parser.specs.declared.kinds.Kind.{Kind}
 use Rattle.c_parser.specs.declared.kinds.Kind.TheVariants.{Identifier, TypeName, TypeWord, Qualifier, Tag, Atomic, Storage, Typedef, Static, Assert, Constant, Text, OpenParen, Step, Ampersand, Star, Sign, Complement, SizeOf, AlignOf, Generic, OffsetOf, Colon, Enum, Align}
+use Rattle.c_parser.specs.Grammar.{spell}
 use Rattle.c_parser.specs.Heads.{HoldsHead, past_head}
 use Rattle.c_parser.specs.Reading.{Reads, Stops}
-use Rattle.c_parser.specs.Words.{Words, shown, kind_in}
+use Rattle.c_parser.specs.Words.{Words, shown, shown_from, kind_in, past_numbers}
 
 -- what an expression begins with (6.5)
 abbrev pub starts_expression : Kind → Bool
@@ -39,9 +40,9 @@ starts_declaration Static = true
 starts_declaration Assert = true
 starts_declaration _ = false
 
--- the identifiers behind an expression, which declares none
+-- the identifiers behind an expression: it declares its enumerators
 abbrev pub past_tree : Words → Tree → Words
-past_tree w t = w
+past_tree w t = past_numbers w (spell t)
 
 -- a head that has its `;`, and no body
 abbrev pub is_declaration : Heading → Bool
@@ -57,7 +58,7 @@ past_declaration w d = past_head w d
 
 -- what a call found that reads an expression of the nonterminal n, or a declaration, at `a`
 pub record FoundExpression (w : Words) (n a : ℕ) (t : Tree) (b : ℕ) : Type 0 where
-  pub reads : Reads (shown w) n t a b
+  pub reads : Reads (shown_from w a) n t a b
   pub stops : Stops (shown w) n b
   pub forth : a < b
   pub inside : b ≤ length w.kinds
@@ -75,13 +76,15 @@ IsBlind f = (n : ℕ) → f (TypeName n) ≡ f Identifier
 pub record PartsLaw : Type 0 where
   -- no two from one place on, each where it stops
   pub expression_only :
-      (w : Words) → (n : ℕ) → (t u : Tree) → (a b c : ℕ) → 1 ≤ n → Reads (shown w) n t a b → Stops (shown w) n b
-      → Reads (shown w) n u a c → Stops (shown w) n c → (t ≡ u) × (b ≡ c)
+      (w : Words) → (n : ℕ) → (t u : Tree) → (a b c : ℕ) → 1 ≤ n → Reads (shown_from w a) n t a b → Stops (shown w) n b
+      → Reads (shown_from w a) n u a c → Stops (shown w) n c → (t ≡ u) × (b ≡ c)
   pub declaration_only :
       (w : Words) → (d e : Heading) → (a b c : ℕ) → HoldsDeclaration w d a b → HoldsDeclaration w e a c → (d ≡ e) × (b ≡ c)
   -- what they begin with, and that a declaration is no label
   pub expression_starts :
-      (w : Words) → (n : ℕ) → (t : Tree) → (a b : ℕ) → Reads (shown w) n t a b → starts_expression (kind_in w a) ≡ true
+      (w : Words) → (n : ℕ) → (t : Tree) → (a b : ℕ) → Reads (shown_from w a) n t a b → starts_expression (kind_in w a) ≡ true
+  -- an identifier that is no typedef name is one (6.5.1)
+  pub name_reads : (w : Words) → (a : ℕ) → kind_in w a ≡ Identifier → Reads (shown_from w a) 1 (Name_of a) a (a + 1)
   pub declaration_starts :
       (w : Words) → (d : Heading) → (a b : ℕ) → HoldsDeclaration w d a b → starts_declaration (kind_in w a) ≡ true
   pub declaration_unlabelled :

@@ -8,6 +8,7 @@ use Rattle.c_parser.specs.declared.answers.Stop.TheVariants.{Syntax, NoMemory}
 use Rattle.c_parser.specs.declared.kinds.Kind.{Kind}
 use Rattle.c_parser.specs.declared.kinds.Kind.TheVariants.{Identifier, Constant, Text, OpenParen, CloseParen, OpenBracket, CloseBracket, OpenBrace, CloseBrace, Step, Question, Colon, Comma, Generic, OffsetOf, Default, Ellipsis, Tag, Star, Atomic, Static, Align, Assert, Semicolon, Enum}
 use Rattle.c_parser.specs.Brackets.{too_deep}
+use Rattle.c_parser.specs.Enumerations.{bars}
 use Rattle.c_parser.specs.Grammar.{IsMore, IsAny, IsBefore, AreSteps, goes_on, has_type, AreSome, MayStand, typed_by, past, HasMembers}
 use Rattle.c_parser.specs.Kinds.{kind_at, level_at, is_prefix, casts_at, is_size, is_word, is_equals, is_dot, is_member, specifies_at, qualifies_at, may_name, named_by, grouped, behind_pointers, is_typedef, is_tagging, site_of, names_it, plain_behind}
 use Rattle.c_parser.specs.Declarators.{AreThere, IsWritten, MayDerive}
@@ -199,9 +200,9 @@ abbrev mutual
       × HoldsEnumerator ks e (o + 1) m × HoldEnumerators ks es m n × HoldsComma ks t n c × (kind_at ks c ≡ CloseBrace) × (b ≡ c + 1)
 
   pub HoldsEnumerator : List Kind → Enumerator → ℕ → ℕ → Type 0
-  HoldsEnumerator ks (Counted_of n) a b = (n ≡ a) × (kind_at ks a ≡ Identifier) × (b ≡ a + 1)
+  HoldsEnumerator ks (Counted_of n) a b = (n ≡ a) × (is_word (kind_at ks a) ≡ true) × (b ≡ a + 1)
   HoldsEnumerator ks (Given_of n q t) a b =
-      (n ≡ a) × (kind_at ks a ≡ Identifier) × (q ≡ a + 1) × (is_equals (kind_at ks q) ≡ true) × (3 ≤ rank ks t) × Holds ks t (q + 1) b
+      (n ≡ a) × (is_word (kind_at ks a) ≡ true) × (q ≡ a + 1) × (is_equals (kind_at ks q) ≡ true) × (3 ≤ rank ks t) × Holds ks t (q + 1) b
 
   pub HoldEnumerators : List Kind → Enumerators → ℕ → ℕ → Type 0
   HoldEnumerators ks No_enumerators a b = b ≡ a
@@ -275,6 +276,7 @@ abbrev mutual
       (o ≡ a) × (kind_at ks a ≡ OpenBracket) × HoldsBound ks x (a + 1) c × (kind_at ks c ≡ CloseBracket) × (b ≡ c + 1)
   HoldsDeriving ks (Function_of o ps c) a b =
       (o ≡ a) × (kind_at ks a ≡ OpenParen) × HoldParameters ks ps (a + 1) c × (kind_at ks c ≡ CloseParen) × (b ≡ c + 1)
+      × (bars ks o c ≡ false)
 
   pub HoldParameters : List Kind → Parameters → ℕ → ℕ → Type 0
   HoldParameters ks No_parameters a b = b ≡ a

@@ -4,6 +4,7 @@ use Rattle.tok_data.specs.declared.tokens.OutToken.{OutToken}
 use Rattle.tok_data.specs.declared.tokens.PpKind.{PpKind}
 use Rattle.tok_data.specs.declared.tokens.PpKind.TheVariants as pp
 use Rattle.tok_data.specs.Keywords.{is_keyword}
+use Rattle.c_parser.specs.Enumerations.{settle}
 use Rattle.c_parser.specs.declared.kinds.Kind.{Kind}
 use Rattle.c_parser.specs.declared.kinds.Kind.TheVariants.{Identifier, TypeName, TypeWord, Qualifier, Tag, SizeOf, AlignOf, Constant, Text, OpenParen, CloseParen, OpenBracket, CloseBracket, OpenBrace, CloseBrace, Member, Step, Ampersand, Star, Sign, Complement, Quotient, Shift, Relation, Equality, Caret, Bar, And, Or, Question, Colon, Assignment, Equals, Dot, Comma, Generic, OffsetOf, Default, Ellipsis, Atomic, Static, Storage, Other, Typedef, Semicolon, Assert, If, Else, Switch, Case, While, Do, For, Goto, Continue, Break, Return, Enum, Align}
 
@@ -79,5 +80,9 @@ number_from at found (name ∷ names) text = number_from (at + 1) (if bytes_eq n
 abbrev pub number_among : List (List ℕ) → List ℕ → Option ℕ
 number_among names text = number_from 0 None names text
 
+-- as they are spelled, and where an enumerator in front of one with its name hides it
+abbrev pub spelled_kinds : List (List ℕ) → List OutToken → List Kind
+spelled_kinds names tokens = map (kind_of (number_among names)) tokens
+
 abbrev pub kinds_of : List (List ℕ) → List OutToken → List Kind
-kinds_of names tokens = map (kind_of (number_among names)) tokens
+kinds_of names tokens = settle (spelled_kinds names tokens) 0

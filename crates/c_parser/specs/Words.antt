@@ -1,8 +1,9 @@
 -- Identifiers under the declarations of an item: which of them are typedef names where the parser stands (ISO C11 6.2.1, 6.7.8).
-use Rattle.std.specs.Prelude.{ℕ, ◌+◌, List, [], ◌∷◌, Option, Some, None, Bool, true, false, not, map, length, nat_lt, slice_set, is_none, bytes_eq, if◌then◌else◌}
+use Rattle.std.specs.Prelude.{ℕ, zero, suc, ◌+◌, List, [], ◌∷◌, Option, Some, None, Bool, true, false, not, map, length, nat_lt, slice_set, is_none, bytes_eq, if◌then◌else◌}
 use Rattle.tok_data.specs.declared.tokens.OutToken.{OutToken}
 use Rattle.c_parser.specs.declared.kinds.Kind.{Kind}
 use Rattle.c_parser.specs.declared.kinds.Kind.TheVariants.{TypeName}
+use Rattle.c_parser.specs.Enumerations.{enumerates, settle}
 use Rattle.c_parser.specs.Kinds.{kind_at}
 use Rattle.c_parser.specs.Scopes.{shade}
 use Rattle.c_parser.specs.Tokens.{kind_of, number_among}
@@ -15,6 +16,10 @@ pub record Words : Type 0 where
 -- what the tokens are
 abbrev pub shown : Words → List Kind
 shown w = map (shade w.hidden) w.kinds
+
+-- for a part that begins at this token: an enumerator of the part hides a typedef name behind it (6.2.1p7)
+abbrev pub shown_from : Words → ℕ → List Kind
+shown_from w from = settle (shown w) from
 
 -- what the token with this number is
 abbrev pub kind_in : Words → ℕ → Kind
@@ -31,6 +36,19 @@ declared_as w typedef k = w
 -- `typedef`, and else it is none
 abbrev pub declared : Words → Bool → ℕ → Words
 declared w typedef n = declared_as w typedef (kind_at w.kinds n)
+
+-- behind a part with these tokens: each enumeration constant among them is no typedef name
+abbrev pub past_one : Words → ℕ → Words
+past_one w n = if enumerates w.kinds n then declared w false n else w
+
+abbrev pub past_numbers : Words → List ℕ → Words
+past_numbers w [] = w
+past_numbers w (n ∷ ns) = past_numbers (past_one w n) ns
+
+-- the same by places: so many tokens from a place on
+abbrev pub past_range : Words → ℕ → ℕ → Words
+past_range w at zero = w
+past_range w at (suc count) = past_range (past_one w at) (at + 1) count
 
 -- the first token that spells the text, counted on from `at`, if none was found before
 abbrev pub first_or : Option ℕ → Bool → ℕ → Option ℕ

@@ -7,13 +7,13 @@ use crate::kinds::Kind;
 // So many levels are allowed.
 const DEEPEST: u32 = 256;
 
-fn opens(kind: Kind) -> bool
+pub(crate) fn opens(kind: Kind) -> bool
     ensures { result ≡ spec.opens kind }
 {
     matches!(kind, Kind::OpenParen | Kind::OpenBracket | Kind::OpenBrace)
 }
 
-fn closes(kind: Kind) -> bool
+pub(crate) fn closes(kind: Kind) -> bool
     ensures { result ≡ spec.closes kind }
 {
     matches!(

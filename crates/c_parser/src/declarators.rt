@@ -5,6 +5,7 @@ ghost use Rattle.tree_data.specs.Trees as tree;
 ghost use Rattle.tree_data.specs.Trees.{Declaring, Grouping, Derivings, No_derivings, needs_name};
 ghost use Rattle.c_parser.specs.declared.kinds.Kind.TheVariants.{Identifier, OpenParen, CloseParen, OpenBracket, CloseBracket, Static};
 ghost use Rattle.c_parser.specs.Declarators.{name_of, name_in, need_name, MayDerive};
+ghost use Rattle.c_parser.specs.Enumerations as enumerations;
 ghost use Rattle.c_parser.specs.Kinds as spec;
 ghost use Rattle.c_parser.specs.Reading.{HoldsDeclaring, HoldsGrouping, HoldsDeriving, HoldDerivings, HoldsBound, HoldNames, HoldParameters, HoldRow, MustGive};
 ghost use Rattle.c_parser.specs.TypeNames.{FoundQualifiers, FoundPointers, FoundDeclaring, FoundGrouping, FoundDeriving, FoundDerivings, FoundBound, FoundNames, FoundParameters, FoundRow, RowEnd};
@@ -366,6 +367,27 @@ fn parameters(alloc: Global, kinds: &Kinds<'_>, at: u32) -> Result<(Parameters, 
     }
 }
 
+// Whether an enumerator that hides a typedef name stands here.
+fn hides(kinds: &Kinds<'_>, at: u32) -> bool
+    ensures { result ≡ (enumerations.enumerates kinds.now at && spec.is_typedef (spec.kind_at kinds.now at)) }
+{
+    kinds.enumerates(at) && kind_at(kinds, at).is_typedef()
+}
+
+// Whether one stands between these tokens.
+fn bars(kinds: &Kinds<'_>, from: u32, to: u32) -> bool
+    ensures { result ≡ enumerations.bars kinds.now from to }
+{
+    let mut at = from;
+    'tokens: while at < to {
+        if hides(kinds, at) {
+            return true;
+        }
+        at += 1;
+    }
+    false
+}
+
 // A function.
 #[cycle(parser)]
 fn function(alloc: Global, kinds: &Kinds<'_>, at: u32) -> Result<(Deriving, u32), Stop>
@@ -383,6 +405,9 @@ fn function(alloc: Global, kinds: &Kinds<'_>, at: u32) -> Result<(Deriving, u32)
     let Kind::CloseParen = kind_at(kinds, closing) else {
         return Err(Stop::Syntax(closing));
     };
+    if bars(kinds, at, closing) {
+        return Err(Stop::Syntax(closing));
+    }
     Ok((Deriving::function(at, parameters, closing), closing + 1))
 }
 

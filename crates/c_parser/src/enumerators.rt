@@ -17,7 +17,7 @@ use crate::scope::Kinds;
 use std::alloc::Global;
 use tree_data::{Enumerator, Specifier};
 
-// An identifier that is no typedef name in force, with a value behind `=` or without.
+// An identifier, with a value behind `=` or without.
 #[cycle(parser)]
 fn enumerator(alloc: Global, kinds: &Kinds<'_>, at: u32) -> Result<(Enumerator, u32), Stop>
     requires size { length kinds.now ≤ 2000000 }
@@ -27,9 +27,9 @@ fn enumerator(alloc: Global, kinds: &Kinds<'_>, at: u32) -> Result<(Enumerator, 
         → ends_enumerator (spec.kind_at kinds.now end) ≡ true
         → MustGive result (λ r. (enumerator_of r.0 ≡ x) × (r.1 ≡ end)) }
 {
-    let Kind::Identifier = kind_at(kinds, at) else {
+    if !kind_at(kinds, at).is_word() {
         return Err(Stop::Syntax(at));
-    };
+    }
     let Kind::Equals = kind_at(kinds, at + 1) else {
         return Ok((Enumerator::counted(at), at + 1));
     };

@@ -1,4 +1,4 @@
-// Heads of declarations and functions, and static assertions (ISO C11 6.7, 6.7.6, 6.7.10, 6.9). Leading each declarator its name is
+// Heads of declarations and functions, and static assertions (ISO C11 6.7, 6.7.6, 6.7.10, 6.9). Behind each declarator its name is
 // declared, also for the tokens of the same head (6.2.1).
 ghost use Rattle.std.specs.Prelude.{◌≡◌, Bool, true, false, not, ℕ, ◌+◌, ◌<◌, ◌≤◌, List, [], ◌∷◌, length, Option, Some, None, option_map, IfOk, IfErr};
 ghost use Rattle.tree_data.specs.Heads.{declared_one, declared_of, heading_of};
@@ -13,7 +13,7 @@ ghost use Rattle.c_parser.specs.HeadsFound.{FoundDeclarator, FoundValue, FoundOn
 ghost use Rattle.c_parser.specs.Grammar.{AreSome, typed_by};
 ghost use Rattle.c_parser.specs.Kinds as spec;
 ghost use Rattle.c_parser.specs.Reading.{HoldSpecifyings, HoldsDeclarator, HoldsAssertion, MustGive};
-ghost use Rattle.c_parser.specs.Words.{shown};
+ghost use Rattle.c_parser.specs.Words.{shown, shown_from};
 
 use crate::answers::Stop;
 use crate::initializers::init;
@@ -35,18 +35,19 @@ pub(crate) struct Leading {
 fn declarator_in(
     alloc: Global,
     scope: &Scope<'_>,
+    origin: u32,
     at: u32,
     typed: bool,
 ) -> Result<(Declarator, u32, u32), Stop>
     requires size { length scope.now.kinds ≤ 2000000 }
     requires inside { at ≤ length scope.now.kinds }
-    ensures found { IfOk result (λ r. FoundDeclarator (shown scope.now) (not typed) at (declarator_of r.0) r.2) }
+    ensures found { IfOk result (λ r. FoundDeclarator (shown_from scope.now origin) (not typed) at (declarator_of r.0) r.2) }
     ensures told { IfOk result (λ r. name_of (declarator_of r.0) ≡ Some r.1) }
-    ensures only { (d : Declaring) → (end : ℕ) → HoldsDeclarator (shown scope.now) (not typed) d at end
-        → spec.ends_type (spec.kind_at (shown scope.now) end) ≡ true
+    ensures only { (d : Declaring) → (end : ℕ) → HoldsDeclarator (shown_from scope.now origin) (not typed) d at end
+        → spec.ends_type (spec.kind_at (shown_from scope.now origin) end) ≡ true
         → MustGive result (λ r. (declarator_of r.0 ≡ d) × (r.2 ≡ end)) }
 {
-    let Ok(kinds) = scope.kinds() else {
+    let Ok(kinds) = scope.kinds(origin) else {
         return Err(Stop::NoMemory);
     };
     match declared(alloc, &kinds, at, !typed) {
@@ -56,15 +57,20 @@ fn declarator_in(
 }
 
 // `=` and an initializer, or nothing, under the identifiers in force.
-fn value_in(alloc: Global, scope: &Scope<'_>, at: u32) -> Result<(Option<Init>, u32), Stop>
+fn value_in(
+    alloc: Global,
+    scope: &Scope<'_>,
+    origin: u32,
+    at: u32,
+) -> Result<(Option<Init>, u32), Stop>
     requires size { length scope.now.kinds ≤ 2000000 }
     requires inside { at ≤ length scope.now.kinds }
-    ensures found { IfOk result (λ r. FoundValue (shown scope.now) at (option_map initial_of r.0) r.1) }
-    ensures only { (i : Option Initial) → (end : ℕ) → HoldsValue (shown scope.now) i at end
-        → ends_one (spec.kind_at (shown scope.now) end) ≡ true
+    ensures found { IfOk result (λ r. FoundValue (shown_from scope.now origin) at (option_map initial_of r.0) r.1) }
+    ensures only { (i : Option Initial) → (end : ℕ) → HoldsValue (shown_from scope.now origin) i at end
+        → ends_one (spec.kind_at (shown_from scope.now origin) end) ≡ true
         → MustGive result (λ r. (option_map initial_of r.0 ≡ i) × (r.1 ≡ end)) }
 {
-    let Ok(kinds) = scope.kinds() else {
+    let Ok(kinds) = scope.kinds(origin) else {
         return Err(Stop::NoMemory);
     };
     let Kind::Equals = kind_at(&kinds, at) else {
@@ -80,27 +86,28 @@ fn value_in(alloc: Global, scope: &Scope<'_>, at: u32) -> Result<(Option<Init>, 
 fn one<'a>(
     alloc: Global,
     scope: Scope<'a>,
+    origin: u32,
     at: u32,
     leading: Leading,
 ) -> Result<((Declarator, Option<Init>), Scope<'a>, u32), Stop>
     requires size { length scope.kinds ≤ 2000000 }
     requires inside { at ≤ length scope.kinds }
-    ensures found { IfOk result (λ r. FoundOne scope.entry (head.both leading.typed leading.typedef) at
+    ensures found { IfOk result (λ r. FoundOne scope.entry origin (head.both leading.typed leading.typedef) at
         (declared_one r.0).0 (declared_one r.0).1 r.2) }
     ensures behind { IfOk result (λ r. r.1 ≡ head.past scope.entry (head.both leading.typed leading.typedef) (declared_one r.0).0) }
     ensures only { (d : Declaring) → (i : Option Initial) → (end : ℕ)
-        → HoldsOne scope.entry (head.both leading.typed leading.typedef) d i at end
+        → HoldsOne scope.entry origin (head.both leading.typed leading.typedef) d i at end
         → ends_one (spec.kind_at scope.entry.kinds end) ≡ true
         → MustGive result (λ r. (declared_one r.0 ≡ (d, i)) × (r.2 ≡ end)) }
 {
-    let (declarator, name, place) = match declarator_in(alloc, &scope, at, leading.typed) {
+    let (declarator, name, place) = match declarator_in(alloc, &scope, origin, at, leading.typed) {
         Ok(found) => found,
         Err(stop) => return Err(stop),
     };
     let Ok(behind) = scope.declare(alloc, leading.typedef, name) else {
         return Err(Stop::NoMemory);
     };
-    match value_in(alloc, &behind, place) {
+    match value_in(alloc, &behind, origin, place) {
         Ok((value, end)) => Ok(((declarator, value), behind, end)),
         Err(stop) => Err(stop),
     }
@@ -110,16 +117,17 @@ fn one<'a>(
 fn all<'a>(
     alloc: Global,
     scope: Scope<'a>,
+    origin: u32,
     at: u32,
     leading: Leading,
 ) -> Result<(Vec<(Declarator, Option<Init>)>, Scope<'a>, u32), Stop>
     requires size { length scope.kinds ≤ 2000000 }
     requires inside { at ≤ length scope.kinds }
-    ensures found { IfOk result (λ r. FoundAll scope.entry (head.both leading.typed leading.typedef) at
+    ensures found { IfOk result (λ r. FoundAll scope.entry origin (head.both leading.typed leading.typedef) at
         (declared_of r.0.items) r.2) }
     ensures past { IfOk result (λ r. r.1 ≡ head.past_all scope.entry (head.both leading.typed leading.typedef) (declared_of r.0.items)) }
     ensures only { (p : Declaring × Option Initial) → (ps : List (Declaring × Option Initial)) → (end : ℕ)
-        → HoldAll scope.entry (head.both leading.typed leading.typedef) (p ∷ ps) at end
+        → HoldAll scope.entry origin (head.both leading.typed leading.typedef) (p ∷ ps) at end
         → ends_all (spec.kind_at scope.entry.kinds end) ≡ true
         → MustGive result (λ r. (declared_of r.0.items ≡ p ∷ ps) × (r.2 ≡ end)) }
 {
@@ -132,7 +140,7 @@ fn all<'a>(
             typed,
             typedef: leading.typedef,
         };
-        let (one, behind, next) = match one(alloc, inner, end, front) {
+        let (one, behind, next) = match one(alloc, inner, origin, end, front) {
             Ok(found) => found,
             Err(stop) => return Err(stop),
         };
@@ -176,13 +184,13 @@ fn defines(kinds: &Kinds<'_>, specifiers: &[Specifier]) -> bool
 fn front_in(alloc: Global, scope: &Scope<'_>, at: u32) -> Result<(Specs, Leading, u32), Stop>
     requires size { length scope.now.kinds ≤ 2000000 }
     requires inside { at ≤ length scope.now.kinds }
-    ensures found { IfOk result (λ r. FoundFront (shown scope.now) at (specs_of r.0) r.2) }
+    ensures found { IfOk result (λ r. FoundFront (shown_from scope.now at) at (specs_of r.0) r.2) }
     ensures told { IfOk result (λ r. head.both r.1.typed r.1.typedef ≡ head.leading_of (shown scope.now) (specs_of r.0)) }
-    ensures only { (ss : Specifyings) → (end : ℕ) → AreSome ss → HoldSpecifyings (shown scope.now) false ss at end
-        → spec.ends_specifiers (spec.kind_at (shown scope.now) end) (typed_by (shown scope.now) false ss) ≡ true
+    ensures only { (ss : Specifyings) → (end : ℕ) → AreSome ss → HoldSpecifyings (shown_from scope.now at) false ss at end
+        → spec.ends_specifiers (spec.kind_at (shown_from scope.now at) end) (typed_by (shown_from scope.now at) false ss) ≡ true
         → MustGive result (λ r. (specs_of r.0 ≡ ss) × (r.2 ≡ end)) }
 {
-    let Ok(kinds) = scope.kinds() else {
+    let Ok(kinds) = scope.kinds(at) else {
         return Err(Stop::NoMemory);
     };
     let (specifiers, typed, behind) = match specifiers(alloc, &kinds, at, Site::OfDeclaration) {
@@ -210,23 +218,24 @@ fn is_alone(declarators: &[(Declarator, Option<Init>)]) -> bool
 fn declarators_in<'a>(
     alloc: Global,
     scope: Scope<'a>,
+    origin: u32,
     at: u32,
     leading: Leading,
 ) -> Result<(Vec<(Declarator, Option<Init>)>, bool, Scope<'a>, u32), Stop>
     requires size { length scope.kinds ≤ 2000000 }
     requires inside { at ≤ length scope.kinds }
-    ensures found { IfOk result (λ r. FoundDeclared scope.entry (head.both leading.typed leading.typedef) at
+    ensures found { IfOk result (λ r. FoundDeclared scope.entry origin (head.both leading.typed leading.typedef) at
         (declared_of r.0.items) r.1 r.3) }
     ensures past { IfOk result (λ r. r.2 ≡ head.past_all scope.entry (head.both leading.typed leading.typedef) (declared_of r.0.items)) }
     ensures only { (ds : List (Declaring × Option Initial)) → (body : Bool) → (n : ℕ)
-        → HoldAll scope.entry (head.both leading.typed leading.typedef) ds at n
+        → HoldAll scope.entry origin (head.both leading.typed leading.typedef) ds at n
         → Closes scope.entry.kinds ds body n
         → MustGive result (λ r. (declared_of r.0.items ≡ ds) × (r.1 ≡ body) × (r.3 ≡ n + 1)) }
 {
     if let Kind::Semicolon = scope.at(at) {
         return Ok((Vec::new(alloc), false, scope, at + 1));
     }
-    let (list, behind, end) = match all(alloc, scope, at, leading) {
+    let (list, behind, end) = match all(alloc, scope, origin, at, leading) {
         Ok(found) => found,
         Err(stop) => return Err(stop),
     };
@@ -256,9 +265,13 @@ fn declaration<'a>(alloc: Global, scope: Scope<'a>, at: u32) -> Result<(Head, Sc
         Ok(found) => found,
         Err(stop) => return Err(stop),
     };
-    match declarators_in(alloc, scope, place, leading) {
-        Ok((list, has_body, behind, end)) => Ok((Head::new(specs, list, has_body), behind, end)),
-        Err(stop) => Err(stop),
+    let (list, has_body, behind, end) = match declarators_in(alloc, scope, at, place, leading) {
+        Ok(found) => found,
+        Err(stop) => return Err(stop),
+    };
+    match behind.past(alloc, at, end) {
+        Ok(behind) => Ok((Head::new(specs, list, has_body), behind, end)),
+        Err(_) => Err(Stop::NoMemory),
     }
 }
 
@@ -267,11 +280,11 @@ fn assertion_in(alloc: Global, scope: &Scope<'_>, at: u32) -> Result<(Assertion,
     requires size { length scope.now.kinds ≤ 2000000 }
     requires inside { at < length scope.now.kinds }
     requires kind { spec.kind_at scope.now.kinds at ≡ Assert }
-    ensures found { IfOk result (λ r. FoundAssertion (shown scope.now) at (assertion_of r.0) r.1) }
-    ensures only { (x : tree.Assertion) → (end : ℕ) → HoldsAssertion (shown scope.now) x at end
+    ensures found { IfOk result (λ r. FoundAssertion (shown_from scope.now at) at (assertion_of r.0) r.1) }
+    ensures only { (x : tree.Assertion) → (end : ℕ) → HoldsAssertion (shown_from scope.now at) x at end
         → MustGive result (λ r. (assertion_of r.0 ≡ x) × (r.1 ≡ end)) }
 {
-    let Ok(kinds) = scope.kinds() else {
+    let Ok(kinds) = scope.kinds(at) else {
         return Err(Stop::NoMemory);
     };
     match assertion(alloc, &kinds, at) {
@@ -296,11 +309,15 @@ pub(crate) fn head<'a>(
     let Kind::Assert = scope.at(at) else {
         return declaration(alloc, scope, at);
     };
-    match assertion_in(alloc, &scope, at) {
-        Ok((assertion, end)) => {
+    let (assertion, end) = match assertion_in(alloc, &scope, at) {
+        Ok(found) => found,
+        Err(stop) => return Err(stop),
+    };
+    match scope.past(alloc, at, end) {
+        Ok(behind) => {
             let head = Head::asserted(Specs::new(Vec::new(alloc)), Vec::new(alloc), assertion);
-            Ok((head, scope, end))
+            Ok((head, behind, end))
         }
-        Err(stop) => Err(stop),
+        Err(_) => Err(Stop::NoMemory),
     }
 }

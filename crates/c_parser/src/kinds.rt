@@ -1,5 +1,6 @@
 // The kinds of tokens that the grammar of expressions tells apart (ISO C11 6.5).
 ghost use Rattle.std.specs.Prelude.{◌≡◌, ◌<◌, ◌≤◌, ◌||◌, length};
+ghost use Rattle.c_parser.specs.Enumerations as enumerations;
 ghost use Rattle.c_parser.specs.Kinds as spec;
 ghost use Rattle.c_parser.specs.Parts as parts;
 
@@ -191,6 +192,18 @@ impl Kind {
         ensures { result ≡ spec.is_brace self }
     {
         matches!(self, Kind::OpenBrace)
+    }
+
+    pub fn is_enum(self) -> bool
+        ensures { result ≡ enumerations.is_enum self }
+    {
+        matches!(self, Kind::Enum)
+    }
+
+    pub fn is_comma(self) -> bool
+        ensures { result ≡ enumerations.is_comma self }
+    {
+        matches!(self, Kind::Comma)
     }
 
     // Whether it is the storage class `typedef` (6.7.1).

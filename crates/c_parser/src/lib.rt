@@ -5,6 +5,7 @@ mod answers;
 mod before;
 mod brackets;
 mod declarators;
+mod enumerations;
 mod enumerators;
 mod expressions;
 mod heads;
@@ -23,8 +24,9 @@ mod whole;
 pub use answers::{ParseError, Stop};
 pub use kinds::{Kind, Named};
 pub use names::NameSet;
-pub use parts::{declaration_at, expression_at, parts_law};
+pub use parts::{declaration_at, expression_at, parts_law, past_expression};
 pub use scope::Scope;
 pub use whole::{
-    item_words, parse_expr, parse_head, parse_type_name, reading_is_unique, type_reading_is_unique,
+    head_reading_is_unique, item_words, parse_expr, parse_head, parse_type_name, reading_is_unique,
+    type_reading_is_unique,
 };

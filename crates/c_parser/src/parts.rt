@@ -4,18 +4,19 @@ ghost use Rattle.tree_data.specs.Heads.{heading_of};
 ghost use Rattle.tree_data.specs.Seen.{tree_of};
 ghost use Rattle.tree_data.specs.Trees.{Tree, Heading};
 ghost use Rattle.c_parser.specs.Parts as spec;
-ghost use Rattle.c_parser.specs.Parts.{PartsLaw, FoundExpression, FoundDeclaration, HoldsDeclaration, past_declaration};
-ghost use Rattle.c_parser.specs.Reading.{Reads, Stops, MustGive};
-ghost use Rattle.c_parser.specs.Words.{shown};
+ghost use Rattle.c_parser.specs.Parts.{PartsLaw, FoundExpression, FoundDeclaration, HoldsDeclaration, past_declaration, past_tree};
+ghost use Rattle.c_parser.specs.Reading.{Holds, Reads, Stops, MustGive};
+ghost use Rattle.c_parser.specs.Words.{shown, shown_from};
 
 use crate::answers::Stop;
 use crate::expressions::level;
 use crate::heads::head;
 use crate::scope::Scope;
-use std::alloc::Global;
+use std::alloc::{AllocError, Global};
 use tree_data::{Expr, Head};
 
-/// The expression of the nonterminal n that stands here: 1 for expression, 3 for constant-expression (6.5.17, 6.6). It goes on as far as it may.
+/// The expression of the nonterminal n that stands here: 1 for expression, 3 for constant-expression (6.5.17, 6.6). It goes on as far as it
+/// may. An enumerator in it hides a typedef name behind it (6.2.1p7), and behind the expression where `past_expression` is asked.
 ///
 /// Errors: Syntax exactly where none that goes on as far as it may stands here, with the token at which the parser stopped; NoMemory.
 pub fn expression_at(alloc: Global, scope: &Scope<'_>, n: u8, at: u32) -> Result<(Expr, u32), Stop>
@@ -24,16 +25,33 @@ pub fn expression_at(alloc: Global, scope: &Scope<'_>, n: u8, at: u32) -> Result
     requires low { 1 ≤ n }
     requires high { n ≤ 3 }
     ensures found { IfOk result (λ r. FoundExpression scope.now n at (tree_of r.0) r.1) }
-    ensures only { (t : Tree) → (end : ℕ) → Reads (shown scope.now) n t at end → Stops (shown scope.now) n end
+    ensures only { (t : Tree) → (end : ℕ) → Reads (shown_from scope.now at) n t at end → Stops (shown scope.now) n end
         → MustGive result (λ r. (tree_of r.0 ≡ t) × (r.1 ≡ end)) }
 {
-    let Ok(kinds) = scope.kinds() else {
+    let Ok(kinds) = scope.kinds(at) else {
         return Err(Stop::NoMemory);
     };
     match level(alloc, &kinds, n, at) {
         Ok(found) => Ok(found),
         Err(stop) => Err(stop),
     }
+}
+
+/// The identifiers in force behind the expression that stands from one place to another: its enumerators are declared (6.7.2.2). Linear in its
+/// tokens; the first that hides a typedef name copies the flags, if someone shares them.
+///
+/// Errors: want of memory.
+pub fn past_expression<'a>(
+    alloc: Global,
+    scope: Scope<'a>,
+    from: u32,
+    to: u32,
+) -> Result<Scope<'a>, AllocError>
+    ensures size { IfOk result (λ s. length s.kinds ≡ length scope.entry.kinds) }
+    ensures past { IfOk result (λ s. (t : Tree) → Holds (shown_from scope.entry from) t from to → s ≡ past_tree scope.entry t) }
+{
+    let behind = scope.past(alloc, from, to)?;
+    Ok(behind)
 }
 
 // Whether it has its `;`, and no body.

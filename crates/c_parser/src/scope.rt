@@ -1,31 +1,40 @@
 // What each token is where the parser stands: under the typedef names in force (ISO C11 6.2.1). A list of parameters has a view of its
 // own, in which the names that it hides are identifiers, and shares with others what it doesn't change.
-ghost use Rattle.std.specs.Prelude.{◌≡◌, not, [], ℕ, ◌<◌, ◌==◌, ◌||◌, false, length, IfOk, IsTrue, OnOk, slice_index_or};
+ghost use Rattle.std.specs.Prelude.{◌≡◌, not, [], ℕ, ◌-◌, ◌<◌, ◌≤◌, ◌==◌, ◌||◌, false, length, IfOk, IsTrue, OnOk, slice_index_or};
 ghost use Rattle.c_parser.specs.Kinds as spec;
-ghost use Rattle.c_parser.specs.Scopes.{shade};
+ghost use Rattle.c_parser.specs.Enumerations as enumerations;
+ghost use Rattle.c_parser.specs.Enumerations.{settle};
+ghost use Rattle.c_parser.specs.Scopes.{shade, forced};
 ghost use Rattle.c_parser.specs.Words as words;
 
+use crate::enumerations::Marks;
 use crate::kinds::Kind;
 use std::alloc::{AllocError, Global};
 use std::marker::Model;
 use std::rc::Rc;
 
-// The kinds of all tokens, and which typedef names are hidden, by their numbers; those behind the last flag are not. A look-up costs a
-// constant. The first name that a list hides takes a copy of the flags, each further one a constant.
+// The kinds of all tokens for a part that begins at `from`, and which typedef names are hidden, by their numbers; those behind the last flag are
+// not. Of a typedef name the enumerators between `from` and it are hidden too. A look-up costs a constant. The first name that a list hides takes a
+// copy of the flags, each further one a constant.
 #[derive(Drop)]
 pub(crate) struct Kinds<'a> {
     tokens: &'a [Kind],
     hidden: Rc<Vec<bool>>,
+    marks: Rc<Marks>,
+    from: u32,
 }
 
 impl<'a> Model for Kinds<'a> {
     ghost use Rattle.std.specs.Prelude.{List, map};
     ghost use Rattle.c_parser.specs.declared.kinds.Kind.{Kind};
+    ghost use Rattle.c_parser.specs.Enumerations.{AreMarks, settle};
     ghost use Rattle.c_parser.specs.Scopes.{shade};
 
     ghost Value = { List Kind };
 
-    ghost view = { λ k. map (shade k.hidden.value.items) k.tokens.now };
+    ghost view = { λ k. settle (map (shade k.hidden.value.items) k.tokens.now) k.from };
+
+    ghost invariant = { λ k. AreMarks k.tokens.now k.marks.value.constants.items k.marks.value.earlier.items };
 }
 
 // A kind under these flags.
@@ -39,6 +48,19 @@ fn shaded(hidden: &[bool], kind: Kind) -> Kind
         Some(true) => Kind::Identifier,
         _ => kind,
     }
+}
+
+// A kind under these flags, in a part that begins at `from`; the number stands behind the last enumerator in front of it that has its name.
+fn forced(hidden: &[bool], earlier: u32, from: u32, kind: Kind) -> Kind
+    ensures { result ≡ forced hidden.now earlier from kind }
+{
+    let Kind::TypeName(number) = shaded(hidden, kind) else {
+        return shaded(hidden, kind);
+    };
+    if from < earlier {
+        return Kind::Identifier;
+    }
+    Kind::TypeName(number)
 }
 
 // Makes room for the flag of this name.
@@ -92,12 +114,20 @@ fn marked(alloc: Global, hidden: Rc<Vec<bool>>, number: u32) -> Result<Rc<Vec<bo
 }
 
 impl<'a> Kinds<'a> {
-    // Tokens of which no name is hidden.
+    // Tokens of which no name is hidden, but by enumerators.
     pub(crate) fn new(alloc: Global, tokens: &'a [Kind]) -> Result<Kinds<'a>, AllocError>
-        ensures { IfOk result (λ k. k ≡ tokens.now) }
+        requires { length tokens.now ≤ 2000000 }
+        ensures shown { IfOk result (λ k. k ≡ settle tokens.now 0) }
+        ensures size { IfOk result (λ k. length k ≡ length tokens.now) }
     {
         let hidden = nothing_hidden(alloc)?;
-        Ok(Kinds { tokens, hidden })
+        let marks = Rc::new(alloc, Marks::of(alloc, tokens)?)?;
+        Ok(Kinds {
+            tokens,
+            hidden,
+            marks,
+            from: 0,
+        })
     }
 
     // How many tokens there are.
@@ -112,10 +142,18 @@ impl<'a> Kinds<'a> {
         ensures kind { result ≡ spec.kind_at self.now at }
         ensures inside { spec.IsInside self.now at result }
     {
-        match self.tokens.get(at as usize) {
-            Some(kind) => shaded(&self.hidden, *kind),
-            None => Kind::End,
-        }
+        let kind = token_at(self.tokens, at);
+        let Kind::TypeName(_) = kind else {
+            return kind;
+        };
+        forced(&self.hidden, self.marks.earlier(at), self.from, kind)
+    }
+
+    // Whether this token is the constant of an enumerator, whatever is declared.
+    pub(crate) fn enumerates(&self, at: u32) -> bool
+        ensures { result ≡ enumerations.enumerates self.now at }
+    {
+        self.marks.enumerates(at)
     }
 
     // The same view.
@@ -123,9 +161,12 @@ impl<'a> Kinds<'a> {
         ensures { IfOk result (λ k. k ≡ self.now) }
     {
         let hidden = self.hidden.clone()?;
+        let marks = self.marks.clone()?;
         Ok(Kinds {
             tokens: self.tokens,
             hidden,
+            marks,
+            from: self.from,
         })
     }
 
@@ -133,9 +174,19 @@ impl<'a> Kinds<'a> {
     fn without(self, alloc: Global, number: u32) -> Result<Kinds<'a>, AllocError>
         ensures { IfOk result (λ k. k ≡ spec.hide_word self.entry number) }
     {
-        let Kinds { tokens, hidden } = self;
+        let Kinds {
+            tokens,
+            hidden,
+            marks,
+            from,
+        } = self;
         let hidden = marked(alloc, hidden, number)?;
-        Ok(Kinds { tokens, hidden })
+        Ok(Kinds {
+            tokens,
+            hidden,
+            marks,
+            from,
+        })
     }
 }
 
@@ -172,14 +223,18 @@ pub(crate) fn token_at(tokens: &[Kind], at: u32) -> Kind
 pub struct Scope<'a> {
     tokens: &'a [Kind],
     hidden: Rc<Vec<bool>>,
+    marks: Rc<Marks>,
 }
 
 impl<'a> Model for Scope<'a> {
+    ghost use Rattle.c_parser.specs.Enumerations.{AreMarks};
     ghost use Rattle.c_parser.specs.Words.{Words};
 
     ghost Value = { Words };
 
     ghost view = { λ s. record { kinds = s.tokens.now; hidden = s.hidden.value.items } };
+
+    ghost invariant = { λ s. AreMarks s.tokens.now s.marks.value.constants.items s.marks.value.earlier.items };
 }
 
 // These flags with this one as told, if it is among them.
@@ -223,26 +278,36 @@ fn told(
 }
 
 impl<'a> Scope<'a> {
-    /// Tokens with these flags.
+    /// Tokens with these flags. Linear.
     pub fn new(
         alloc: Global,
         tokens: &'a [Kind],
         hidden: Vec<bool>,
     ) -> Result<Scope<'a>, AllocError>
+        requires { length tokens.now ≤ 2000000 }
         ensures { IfOk result (λ s. s ≡ record { kinds = tokens.now; hidden = hidden.items }) }
     {
         let hidden = Rc::new(alloc, hidden)?;
-        Ok(Scope { tokens, hidden })
+        let marks = Rc::new(alloc, Marks::of(alloc, tokens)?)?;
+        Ok(Scope {
+            tokens,
+            hidden,
+            marks,
+        })
     }
 
-    // What the tokens are here.
-    pub(crate) fn kinds(&self) -> Result<Kinds<'a>, AllocError>
-        ensures { IfOk result (λ k. k ≡ words.shown self.now) }
+    // What the tokens are for a part that begins here.
+    pub(crate) fn kinds(&self, from: u32) -> Result<Kinds<'a>, AllocError>
+        ensures shown { IfOk result (λ k. k ≡ words.shown_from self.now from) }
+        ensures size { IfOk result (λ k. length k ≡ length self.now.kinds) }
     {
         let hidden = self.hidden.clone()?;
+        let marks = self.marks.clone()?;
         Ok(Kinds {
             tokens: self.tokens,
             hidden,
+            marks,
+            from,
         })
     }
 
@@ -262,9 +327,11 @@ impl<'a> Scope<'a> {
         ensures { IfOk result (λ s. s ≡ self.now) }
     {
         let hidden = self.hidden.clone()?;
+        let marks = self.marks.clone()?;
         Ok(Scope {
             tokens: self.tokens,
             hidden,
+            marks,
         })
     }
 
@@ -289,8 +356,40 @@ impl<'a> Scope<'a> {
         let Kind::TypeName(number) = kind else {
             return Ok(self);
         };
-        let Scope { tokens, hidden } = self;
+        let Scope {
+            tokens,
+            hidden,
+            marks,
+        } = self;
         let hidden = told(alloc, hidden, number, !typedef)?;
-        Ok(Scope { tokens, hidden })
+        Ok(Scope {
+            tokens,
+            hidden,
+            marks,
+        })
+    }
+
+    // Behind this token, which is declared where it is the constant of an enumerator.
+    fn past_one(self, alloc: Global, at: u32) -> Result<Scope<'a>, AllocError>
+        ensures { IfOk result (λ s. s ≡ words.past_one self.entry at) }
+    {
+        if !self.marks.enumerates(at) {
+            return Ok(self);
+        }
+        let behind = self.declare(alloc, false, at)?;
+        Ok(behind)
+    }
+
+    // Behind a part from one place to another: where its enumerators are declared.
+    pub(crate) fn past(self, alloc: Global, from: u32, to: u32) -> Result<Scope<'a>, AllocError>
+        ensures { IfOk result (λ s. s ≡ words.past_range self.entry from (to - from)) }
+    {
+        let mut scope = self;
+        let mut at = from;
+        'tokens: while at < to {
+            scope = scope.past_one(alloc, at)?;
+            at += 1;
+        }
+        Ok(scope)
     }
 }

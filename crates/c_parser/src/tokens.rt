@@ -204,7 +204,7 @@ pub(crate) fn kinds_of(
     tokens: &[OutToken],
     names: &NameSet,
 ) -> Result<Vec<Kind>, AllocError>
-    ensures { IfOk result (λ v. v.items ≡ spec.kinds_of names.now tokens.now) }
+    ensures { IfOk result (λ v. v.items ≡ spec.spelled_kinds names.now tokens.now) }
 {
     let typedefs = typedefs_of(alloc, names.as_slice())?;
     let kinds = kinds_by(alloc, tokens, &typedefs)?;

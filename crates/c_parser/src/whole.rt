@@ -3,6 +3,7 @@ ghost use Rattle.std.specs.Prelude.{◌≡◌, ◌≤◌, length, map, IfOk, IfE
 ghost use Rattle.tree_data.specs.Seen.{tree_of, naming, type_of};
 ghost use Rattle.tree_data.specs.Trees.{Tree, Naming};
 ghost use Rattle.c_parser.specs.Brackets.{too_deep};
+ghost use Rattle.c_parser.specs.Enumerations.{settle};
 ghost use Rattle.c_parser.specs.Grammar.{IsMeaning, IsCause, ReadingIsUnique};
 ghost use Rattle.c_parser.specs.Reading.{Reads, HoldsType, at_front, IsAtFront, IsRefused, IsDeep};
 ghost use Rattle.c_parser.specs.TypeMeaning.{IsTypeMeaning, IsTypeCause, TypeReadingIsUnique};
@@ -10,7 +11,7 @@ ghost use Rattle.c_parser.specs.Tokens as spec;
 ghost use Rattle.c_parser.specs.Words as words;
 ghost use Rattle.c_parser.specs.Words.{first_among};
 ghost use Rattle.c_parser.specs.Heads.{HoldsHead};
-ghost use Rattle.c_parser.specs.HeadsFound.{IsHeadMeaning, IsHeadCause};
+ghost use Rattle.c_parser.specs.HeadsFound.{IsHeadMeaning, IsHeadCause, HeadReadingIsUnique};
 ghost use Rattle.tree_data.specs.Heads.{heading_of};
 ghost use Rattle.tree_data.specs.Trees.{Heading};
 
@@ -55,8 +56,8 @@ fn expression(alloc: Global, kinds: &Kinds<'_>) -> Result<Expr, ParseError>
 
 fn whole(alloc: Global, kinds: &[Kind]) -> Result<Expr, ParseError>
     requires { length kinds.now ≤ 2000000 }
-    ensures found { IfOk result (λ e. Reads kinds.now 1 (tree_of e) 0 (length kinds.now)) }
-    ensures only { IfErr result (λ e. (t : Tree) → Reads kinds.now 1 t 0 (length kinds.now) → IsRefused e) }
+    ensures found { IfOk result (λ e. Reads (settle kinds.now 0) 1 (tree_of e) 0 (length (settle kinds.now 0))) }
+    ensures only { IfErr result (λ e. (t : Tree) → Reads (settle kinds.now 0) 1 t 0 (length (settle kinds.now 0)) → IsRefused e) }
     ensures place { IfErr result IsAtFront }
 {
     let Ok(view) = Kinds::new(alloc, kinds) else {
@@ -75,9 +76,9 @@ fn shallow_kinds(
     names: &NameSet,
 ) -> Result<Vec<Kind>, ParseError>
     requires { length tokens.now ≤ 2000000 }
-    ensures kinds { IfOk result (λ v. v.items ≡ spec.kinds_of names.now tokens.now) }
+    ensures kinds { IfOk result (λ v. v.items ≡ spec.spelled_kinds names.now tokens.now) }
     ensures shallow { IfOk result (λ v. too_deep v.items ≡ None) }
-    ensures deep { IfErr result (λ e. IsDeep (spec.kinds_of names.now tokens.now) e) }
+    ensures deep { IfErr result (λ e. IsDeep (spec.spelled_kinds names.now tokens.now) e) }
 {
     let Ok(kinds) = kinds_of(alloc, tokens, names) else {
         return Err(ParseError::NoMemory);
@@ -127,8 +128,8 @@ fn name_of_type(alloc: Global, kinds: &Kinds<'_>) -> Result<TypeName, ParseError
 
 fn whole_type(alloc: Global, kinds: &[Kind]) -> Result<TypeName, ParseError>
     requires { length kinds.now ≤ 2000000 }
-    ensures found { IfOk result (λ t. HoldsType kinds.now (type_of t) 0 (length kinds.now)) }
-    ensures only { IfErr result (λ e. (t : Naming) → HoldsType kinds.now t 0 (length kinds.now) → IsRefused e) }
+    ensures found { IfOk result (λ t. HoldsType (settle kinds.now 0) (type_of t) 0 (length (settle kinds.now 0))) }
+    ensures only { IfErr result (λ e. (t : Naming) → HoldsType (settle kinds.now 0) t 0 (length (settle kinds.now 0)) → IsRefused e) }
     ensures place { IfErr result IsAtFront }
 {
     let Ok(view) = Kinds::new(alloc, kinds) else {
@@ -147,7 +148,8 @@ fn whole_type(alloc: Global, kinds: &[Kind]) -> Result<TypeName, ParseError>
 /// function specifiers and alignments (6.7.5), and a declarator with a name or with none. An identifier among `names` is a parameter's name behind a type specifier of its own specifiers or a `*`, and
 /// else its type (6.7.6.3p11). Behind a name, or a declarator in parentheses with a name in it, a list of identifiers that aren't among
 /// `names` may stand in place of parameters (6.7.6). From the name of a parameter to the end of its list an identifier of the same text
-/// is no typedef name (6.2.1). An enumerator that is a typedef name where it stands is not in it yet. The tokens are at most 2,000,000.
+/// is no typedef name (6.2.1), and none behind an enumerator of the same text either; so far no enumerator in a list of parameters may hide a typedef
+/// name. The tokens are at most 2,000,000.
 ///
 /// Cost: linear, but that the first name of a list of parameters that hides a typedef name takes a copy of a flag for each name among
 /// `names` up to the last that is hidden.
@@ -181,6 +183,12 @@ pub fn type_reading_is_unique()
 /// Unique reading: no two trees of the grammar spell the same tokens. It has nothing to run; its contract is the law.
 pub fn reading_is_unique()
     ensures { ReadingIsUnique }
+{}
+
+/// Unique reading of heads: no two are all the tokens of a list, whichever of its identifiers are typedef names. It has nothing to run; its contract
+/// is the law.
+pub fn head_reading_is_unique()
+    ensures { HeadReadingIsUnique }
 {}
 
 // The kinds of a head's tokens, whose brackets nest no deeper than they may.

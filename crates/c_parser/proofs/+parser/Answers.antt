@@ -1,5 +1,5 @@
 use Rattle.c_parser.proofs.ParameterLists.{parameter_row_found, parameter_row_same, parameter_row_fails, parameter_row_push, none_same, first_missing, rest_missing, fixed_same, variadic_same, fixed_found, variadic_found, row_found_under, row_only_under, row_fails_under, rowing_start_with}
-use Rattle.c_parser.proofs.Abstract.{no_group, group_fails, group_left_open, group_found, group_same, static_fails, static_found, static_same, unsized_found, unsized_same, last_static_fails, last_static_found, last_static_same, sized_fails, sized_found, sized_same, any_found, any_same, array_fails, array_left_open, array_found, found_deriving_only, nothing_derives, derivings_found, derivings_same, derivings_fail, derivings_unnamed, derivings_push, group_missing, derivings_missing, declaring_found, declaring_same, name_found, name_same, function_found, function_fails, function_left_open}
+use Rattle.c_parser.proofs.Abstract.{no_group, group_fails, group_left_open, group_found, group_same, static_fails, static_found, static_same, unsized_found, unsized_same, last_static_fails, last_static_found, last_static_same, sized_fails, sized_found, sized_same, any_found, any_same, array_fails, array_left_open, array_found, found_deriving_only, nothing_derives, derivings_found, derivings_same, derivings_fail, derivings_unnamed, derivings_push, group_missing, derivings_missing, declaring_found, declaring_same, name_found, name_same, function_found, function_fails, function_left_open, function_barred}
 use Rattle.c_parser.proofs.HeadDeclarators as named
 use Rattle.c_parser.proofs.HeadWholes as asserts
 use Rattle.c_parser.proofs.MemberLists.{OnlyField, padding_found, padding_same, padding_fails, no_declarator, declared_found, declared_same, bits_found, bits_same, width_fails, fielding_start_with, fielding_end, fielding_only, fielding_fails, fielding_push, first_fails as first_field_fails, rest_fails, list_unended, list_found, specs_fail, no_specs, bare_found, list_missing, fields_found, asserted_found, asserted_fails, membering_start_with, membering_fails, members_end, membering_push}
@@ -1671,8 +1671,24 @@ declarators::function-returns t c =
     _
     c.in-Ok.ensures.found
     (sym c.in-CloseParen.ensures.kind)
-    c.in-CloseParen.ensures.inside) in
+    c.in-CloseParen.ensures.inside
+    (sym c.bars.ensures ∙ c.if-bars.false)) in
     record { found = made; only = found_deriving_only _ _ _ _ made }
+
+pub declarators::function-returns-then-bars : goal.declarators::function-returns-then-bars
+declarators::function-returns-then-bars t c = record {
+  found = tt;
+  only =
+      function_barred
+      _
+      _
+      c.requires.kind
+      _
+      _
+      c.in-Ok.ensures.only
+      (sym c.bars.ensures ∙ c.if-bars.true)
+      c.args.at;
+}
 
 pub members::direct-returns-then-names_it : goal.members::direct-returns-then-names_it
 members::direct-returns-then-names_it t c =
@@ -2338,31 +2354,33 @@ type_names::specifier-short_specifier-requires-clause-bare t c = sym c.list_open
 pub type_names::specifier-short_specifier-requires-clause-unaligned : goal.type_names::specifier-short_specifier-requires-clause-unaligned
 type_names::specifier-short_specifier-requires-clause-unaligned t c = λ k. c.in_default.not-Align (c.kind_at.ensures.kind ∙ k)
 
-pub enumerators::enumerator-returns-in_default-clause-only : goal.enumerators::enumerator-returns-in_default-clause-only
-enumerators::enumerator-returns-in_default-clause-only t c =
-    enumerating.unnamed _ _ (λ k. c.in_default.not-Identifier (c.kind_at.ensures.kind ∙ k)) 0
+pub enumerators::enumerator-returns-then-not-is_word-clause-only : goal.enumerators::enumerator-returns-then-not-is_word-clause-only
+enumerators::enumerator-returns-then-not-is_word-clause-only t c =
+    enumerating.unnamed _ _ (ap is_word (sym c.kind_at.ensures.kind) ∙ sym c.is_word.ensures ∙ c.if-not-is_word.true) 0
 
-pub enumerators::enumerator-returns-in_default-kind_at : goal.enumerators::enumerator-returns-in_default-kind_at
-enumerators::enumerator-returns-in_default-kind_at t c =
-    let only = enumerating.counted_same _ c.args.at (λ k. c.in_default-kind_at.not-Equals (c.kind_at-2.ensures.kind ∙ k)) in
+pub enumerators::enumerator-returns-in_default : goal.enumerators::enumerator-returns-in_default
+enumerators::enumerator-returns-in_default t c =
+    let word = ap is_word (sym c.kind_at.ensures.kind) ∙ sym c.is_word.ensures ∙ c.if-not-is_word.false in
+    let only = enumerating.counted_same _ c.args.at (λ k. c.in_default.not-Equals (c.kind_at-2.ensures.kind ∙ k)) in
     record {
       found =
           subst
           (λ x. FoundEnumerator c.args.kinds.now c.args.at x (c.args.at + 1))
           (sym c.counted.ensures)
-          (enumerating.counted_found _ _ (sym c.in-Identifier.ensures.kind) c.in-Identifier.ensures.inside);
+          (enumerating.counted_found _ _ word);
       only = subst (λ x. enumerating.OnlyEnumerator c.args.kinds.now c.args.at x (c.args.at + 1)) (sym c.counted.ensures) only;
     }
 
 pub enumerators::enumerator-returns-in-Ok : goal.enumerators::enumerator-returns-in-Ok
 enumerators::enumerator-returns-in-Ok t c =
+    let word = ap is_word (sym c.kind_at.ensures.kind) ∙ sym c.is_word.ensures ∙ c.if-not-is_word.false in
     let only = enumerating.given_same _ c.args.at (sym c.in-Equals.ensures.kind) _ _ c.in-Ok.ensures.only in
     record {
       found =
           subst
           (λ x. FoundEnumerator c.args.kinds.now c.args.at x c.in-Ok.end)
           (sym c.given.ensures)
-          (enumerating.given_found _ _ (sym c.in-Identifier.ensures.kind) (sym c.in-Equals.ensures.kind) _ _ c.in-Ok.ensures.found);
+          (enumerating.given_found _ _ word (sym c.in-Equals.ensures.kind) _ _ c.in-Ok.ensures.found);
       only = subst (λ x. enumerating.OnlyEnumerator c.args.kinds.now c.args.at x c.in-Ok.end) (sym c.given.ensures) only;
     }
 

@@ -8,16 +8,16 @@ pub returns-in-Ok-declared-clause-found : goal.returns-in-Ok-declared-clause-fou
 returns-in-Ok-declared-clause-found c =
     subst
     (λ ks. FoundDeclarator ks (not c.args.typed) c.args.at (declarator_of c.in-Ok-declared.found.0) c.in-Ok-declared.found.2)
-    c.in-Ok.ensures
+    c.in-Ok.ensures.shown
     c.in-Ok-declared.ensures.found
 
 pub returns-in-Ok-declared-clause-only : goal.returns-in-Ok-declared-clause-only
 returns-in-Ok-declared-clause-only c =
     subst
     (λ ks. OnlyDeclarator ks (not c.args.typed) c.args.at (declarator_of c.in-Ok-declared.found.0) c.in-Ok-declared.found.2)
-    c.in-Ok.ensures
+    c.in-Ok.ensures.shown
     c.in-Ok-declared.ensures.only
 
 pub returns-clause-only : goal.returns-clause-only
 returns-clause-only c =
-    subst (λ ks. FailsDeclarator ks (not c.args.typed) c.args.at c.in-Err.stop) c.in-Ok.ensures c.in-Err.ensures.only
+    subst (λ ks. FailsDeclarator ks (not c.args.typed) c.args.at c.in-Err.stop) c.in-Ok.ensures.shown c.in-Err.ensures.only

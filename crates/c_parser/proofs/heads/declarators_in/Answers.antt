@@ -15,18 +15,18 @@ returns-in-Semicolon c =
     record {
       found =
           subst
-          (λ ds. FoundDeclared c.args.scope s c.args.at ds false (c.args.at + 1))
+          (λ ds. FoundDeclared c.args.scope c.args.origin s c.args.at ds false (c.args.at + 1))
           none
-          (none_found _ s _ here c.in-Semicolon.ensures.inside);
+          (none_found c.args.origin _ s _ here c.in-Semicolon.ensures.inside);
       past = ap (past_all c.args.scope s) none;
-      only = subst (λ ds. OnlyDeclared c.args.scope s c.args.at ds false (c.args.at + 1)) none (none_same _ s _ here);
+      only = subst (λ ds. OnlyDeclared c.args.origin c.args.scope s c.args.at ds false (c.args.at + 1)) none (none_same c.args.origin _ s _ here);
     }
 
 pub returns-in-Err : goal.returns-in-Err
 returns-in-Err c = record {
   found = tt;
   past = tt;
-  only = declared_fails _ _ _ (λ k. c.in_default.not-Semicolon (c.at.ensures.kind ∙ k)) _ c.in-Err.ensures.only;
+  only = declared_fails c.args.origin _ _ _ (λ k. c.in_default.not-Semicolon (c.at.ensures.kind ∙ k)) _ c.in-Err.ensures.only;
 }
 
 pub returns-in-Semicolon-at : goal.returns-in-Semicolon-at
@@ -35,9 +35,9 @@ returns-in-Semicolon-at c =
     let same = all_kinds c.args.scope s _ (declared_of c.in-Ok.found.0.items) c.in-Ok.ensures.past in
     let here = ap (λ ks. kind_at ks c.in-Ok.found.2) (sym same) ∙ sym c.in-Semicolon-at.ensures.kind in
     record {
-      found = semicolon_found _ s _ _ _ c.in-Ok.ensures.found here (subst (λ ks. c.in-Ok.found.2 < length ks) same c.in-Semicolon-at.ensures.inside);
+      found = semicolon_found c.args.origin _ s _ _ _ c.in-Ok.ensures.found here (subst (λ ks. c.in-Ok.found.2 < length ks) same c.in-Semicolon-at.ensures.inside);
       past = c.in-Ok.ensures.past;
-      only = semicolon_same _ s _ (λ k. c.in_default.not-Semicolon (c.at.ensures.kind ∙ k)) _ _ c.in-Ok.ensures.only here;
+      only = semicolon_same c.args.origin _ s _ (λ k. c.in_default.not-Semicolon (c.at.ensures.kind ∙ k)) _ _ c.in-Ok.ensures.only here;
     }
 
 pub returns-in_default-at-2 : goal.returns-in_default-at-2
@@ -49,6 +49,7 @@ returns-in_default-at-2 c =
       past = tt;
       only =
           unended_fail
+          c.args.origin
           _
           s
           _
@@ -72,6 +73,7 @@ returns-then-not-is_alone c =
       past = tt;
       only =
           several_fail
+          c.args.origin
           _
           s
           _
@@ -91,7 +93,7 @@ returns c =
     let here = ap (λ ks. kind_at ks c.in-Ok.found.2) (sym same) ∙ sym c.in-OpenBrace.ensures.kind in
     let alone = ap (λ ds. is_alone (declared_of ds)) (sym c.as_slice.ensures.value) ∙ sym c.is_alone.ensures ∙ c.if-not-is_alone.false in
     record {
-      found = brace_found _ s _ _ _ c.in-Ok.ensures.found here alone (subst (λ ks. c.in-Ok.found.2 < length ks) same c.in-OpenBrace.ensures.inside);
+      found = brace_found c.args.origin _ s _ _ _ c.in-Ok.ensures.found here alone (subst (λ ks. c.in-Ok.found.2 < length ks) same c.in-OpenBrace.ensures.inside);
       past = c.in-Ok.ensures.past;
-      only = brace_same _ s _ (λ k. c.in_default.not-Semicolon (c.at.ensures.kind ∙ k)) _ _ c.in-Ok.ensures.only here;
+      only = brace_same c.args.origin _ s _ (λ k. c.in_default.not-Semicolon (c.at.ensures.kind ∙ k)) _ _ c.in-Ok.ensures.only here;
     }

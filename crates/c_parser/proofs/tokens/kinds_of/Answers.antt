@@ -1,6 +1,6 @@
 use Rattle.std.proofs.Common.{ap, ◌∙◌}
 use Rattle.std.specs.HashMap.{get_by_text}
-use Rattle.c_parser.specs.Tokens.{kinds_of, number_among}
+use Rattle.c_parser.specs.Tokens.{spelled_kinds, number_among}
 use Rattle.c_parser.proofs.KindLemmas.{same_kinds}
 use Rattle.c_parser.proofs.tokens.kinds_of.Goals as goal
 
@@ -12,4 +12,4 @@ returns c =
     (number_among c.as_slice.result.now)
     c.in_ok-typedefs.ensures
     c.args.tokens.now
-    ∙ ap (λ names. kinds_of names c.args.tokens.now) c.as_slice.ensures
+    ∙ ap (λ names. spelled_kinds names c.args.tokens.now) c.as_slice.ensures
