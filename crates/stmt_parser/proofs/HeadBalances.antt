@@ -1,16 +1,17 @@
 -- Heads are quiet, and the parts of statements are balanced.
-use Rattle.std.proofs.Common.{◌≡◌, refl, ap, sym, ◌∙◌, subst, ℕ, ◌+◌, ◌-◌, ◌≤◌, arith, Bool, true, false, true≢false, not, ◌&&◌, ◌||◌, List, [], ◌∷◌, Option, None, Some, is_none}
+use Rattle.std.proofs.Common.{◌≡◌, refl, ap, sym, ◌∙◌, subst, ℕ, zero, suc, ◌+◌, ◌-◌, ◌≤◌, arith, Bool, true, false, true≢false, not, ◌&&◌, ◌||◌, if◌then◌else◌, List, [], ◌∷◌, Option, None, Some, is_none}
 use Rattle.tree_data.specs.Trees.{Declaring, Initial, Specifying, Word_of, Typedef_of, Tag_of, Atomic_of, Aligned_as_of, Aligned_of, Members_of, Enumerators_of, Specifyings, No_specifiers, Specifier_then, Assertion, Assertion_of, Heading, Declares_of, Asserts_of}
 use Rattle.c_parser.specs.declared.kinds.Kind.{Kind}
-use Rattle.c_parser.specs.declared.kinds.Kind.TheVariants.{TypeName, OpenParen, CloseParen, OpenBracket, CloseBracket, OpenBrace, CloseBrace, Semicolon, Equals, Comma, Assert}
+use Rattle.c_parser.specs.declared.kinds.Kind.TheVariants.{Identifier, TypeName, OpenParen, CloseParen, OpenBracket, CloseBracket, OpenBrace, CloseBrace, Semicolon, Equals, Comma, Assert}
 use Rattle.c_parser.specs.Brackets.{opens, closes}
+use Rattle.c_parser.specs.Enumerations.{declared_in, in_force, settle_on, settle}
 use Rattle.c_parser.specs.Heads.{HoldsValue, HoldsOne, HoldOthers, HoldAll, Closes, is_alone, Leading, leading_of, freely, HoldsHead}
 use Rattle.c_parser.specs.Heads as head
 use Rattle.c_parser.specs.Kinds.{kind_at, is_equals}
 use Rattle.c_parser.specs.Parts.{IsBlind, HoldsDeclaration, is_declaration}
 use Rattle.c_parser.specs.Grammar.{AreSome}
 use Rattle.c_parser.specs.Reading.{HoldSpecifying, HoldSpecifyings, HoldsAssertion}
-use Rattle.c_parser.specs.Words.{Words, shown, kind_in, declared_as}
+use Rattle.c_parser.specs.Words.{Words, shown, shown_from, kind_in, declared_as}
 use Rattle.stmt_parser.specs.Balance.{is_pair, Pairs, No_token, Token_then, Pair_then, ArePairs, AreBalanced, PartsAreBalanced}
 use Rattle.stmt_parser.specs.Externals.{is_semicolon, is_open_brace, is_close_paren, AreQuiet, IsQuiet, DeclarationIsQuiet, HeadsAreQuiet}
 use Rattle.stmt_parser.proofs.Balances as statements
@@ -170,38 +171,63 @@ as_shown : (f : Kind → Bool) → IsBlind f → (v w : Words) → v.kinds ≡ w
 as_shown f i v w e a =
     shaded_at f i v.hidden v.kinds a ∙ ap (λ ks. f (kind_at ks a)) e ∙ sym (shaded_at f i w.hidden w.kinds a)
 
-matched_under : (v w : Words) → v.kinds ≡ w.kinds → (ps : Pairs) → (a b : ℕ) → AreMatched (shown v) ps a b → AreMatched (shown w) ps a b
-matched_under v w e No_token a b h = h
-matched_under v w e (Token_then ps) a b h =
-    (sym (as_shown (λ k. opens k || closes k) (λ n. refl) v w e a) ∙ h.0, matched_under v w e ps (a + 1) b h.1)
-matched_under v w e (Pair_then inner ps) a b h = (
+-- and so does what an enumerator of the part hides
+forced_blind : (f : Kind → Bool) → IsBlind f → (ks : List Kind) → (from at : ℕ) → (k : Kind) → f (in_force ks from at k) ≡ f k
+forced_blind f i ks from at (TypeName n) = either (declared_in ks n from at)
+  where
+    either : (b : Bool) → f (if b then Identifier else TypeName n) ≡ f (TypeName n)
+    either true = sym (i n)
+    either false = refl
+forced_blind f i ks from at _ = refl
+
+settled_blind : (f : Kind → Bool) → IsBlind f → (ks : List Kind) → (from start : ℕ) → (us : List Kind) → (at : ℕ)
+    → f (kind_at (settle_on ks from start us) at) ≡ f (kind_at us at)
+settled_blind f i ks from start [] at = refl
+settled_blind f i ks from start (u ∷ us) zero = forced_blind f i ks from start u
+settled_blind f i ks from start (u ∷ us) (suc at) = settled_blind f i ks from (start + 1) us at
+
+from_blind : (f : Kind → Bool) → IsBlind f → (ks : List Kind) → (from at : ℕ) → f (kind_at (settle ks from) at) ≡ f (kind_at ks at)
+unfolding settle
+from_blind f i ks from at = settled_blind f i ks from 0 ks at
+
+-- tokens that differ from those of a scope in typedef names alone
+abbrev Shows : List Kind → Words → Type 0
+Shows ks w = (f : Kind → Bool) → IsBlind f → (a : ℕ) → f (kind_at ks a) ≡ f (kind_in w a)
+
+shows_from : (v w : Words) → v.kinds ≡ w.kinds → (o : ℕ) → Shows (shown_from v o) w
+shows_from v w e o f i a = from_blind f i (shown v) o a ∙ as_shown f i v w e a
+
+matched_under : (ks : List Kind) → (w : Words) → Shows ks w → (ps : Pairs) → (a b : ℕ) → AreMatched ks ps a b → AreMatched (shown w) ps a b
+matched_under ks w e No_token a b h = h
+matched_under ks w e (Token_then ps) a b h =
+    (sym (e (λ k. opens k || closes k) (λ n. refl) a) ∙ h.0, matched_under ks w e ps (a + 1) b h.1)
+matched_under ks w e (Pair_then inner ps) a b h = (
   h.0,
-  sym (as_shown opens (λ n. refl) v w e a) ∙ h.1,
-  matched_under v w e inner (a + 1) h.0 h.2,
-  sym (as_shown (λ k. is_pair k (kind_in w h.0)) (λ n. refl) v w e a)
-      ∙ sym (as_shown (is_pair (kind_in v a)) (statements.pair_blind (kind_in v a)) v w e h.0)
+  sym (e opens (λ n. refl) a) ∙ h.1,
+  matched_under ks w e inner (a + 1) h.0 h.2,
+  sym (e (λ k. is_pair k (kind_in w h.0)) (λ n. refl) a)
+      ∙ sym (e (is_pair (kind_at ks a)) (statements.pair_blind (kind_at ks a)) h.0)
       ∙ h.3,
-  matched_under v w e ps (h.0 + 1) b h.4,
+  matched_under ks w e ps (h.0 + 1) b h.4,
 )
 
-calm_under : (s : Bool) → (v w : Words) → v.kinds ≡ w.kinds → (ps : Pairs) → (a b : ℕ) → AreCalm s (shown v) ps a b → AreCalm s (shown w) ps a b
-calm_under s v w e No_token a b h = h
-calm_under s v w e (Token_then ps) a b h =
-    (sym (as_shown (plain s) (λ n. refl) v w e a) ∙ h.0, calm_under s v w e ps (a + 1) b h.1)
-calm_under s v w e (Pair_then inner ps) a b h = (
+calm_under : (s : Bool) → (ks : List Kind) → (w : Words) → Shows ks w → (ps : Pairs) → (a b : ℕ) → AreCalm s ks ps a b → AreCalm s (shown w) ps a b
+calm_under s ks w e No_token a b h = h
+calm_under s ks w e (Token_then ps) a b h = (sym (e (plain s) (λ n. refl) a) ∙ h.0, calm_under s ks w e ps (a + 1) b h.1)
+calm_under s ks w e (Pair_then inner ps) a b h = (
   h.0,
-  ap (λ p. opener (s && p) (kind_in w a)) (sym (as_shown is_close_paren (λ n. refl) v w e (a - 1)))
-      ∙ sym (as_shown (opener (s && behind_paren v a)) (λ n. refl) v w e a)
+  ap (λ p. opener (s && p) (kind_in w a)) (sym (e is_close_paren (λ n. refl) (a - 1)))
+      ∙ sym (e (opener (s && is_close_paren (kind_at ks (a - 1)))) (λ n. refl) a)
       ∙ h.1,
-  matched_under v w e inner (a + 1) h.0 h.2,
-  sym (as_shown (λ k. is_pair k (kind_in w h.0)) (λ n. refl) v w e a)
-      ∙ sym (as_shown (is_pair (kind_in v a)) (statements.pair_blind (kind_in v a)) v w e h.0)
+  matched_under ks w e inner (a + 1) h.0 h.2,
+  sym (e (λ k. is_pair k (kind_in w h.0)) (λ n. refl) a)
+      ∙ sym (e (is_pair (kind_at ks a)) (statements.pair_blind (kind_at ks a)) h.0)
       ∙ h.3,
-  calm_under s v w e ps (h.0 + 1) b h.4,
+  calm_under s ks w e ps (h.0 + 1) b h.4,
 )
 
-seen_calm : (s : Bool) → (v w : Words) → v.kinds ≡ w.kinds → (a b : ℕ) → Calm s (shown v) a b → Calm s (shown w) a b
-seen_calm s v w e a b x = record { pairs = x.pairs; are = calm_under s v w e x.pairs a b x.are }
+seen_calm : (s : Bool) → (ks : List Kind) → (w : Words) → Shows ks w → (a b : ℕ) → Calm s ks a b → Calm s (shown w) a b
+seen_calm s ks w e a b x = record { pairs = x.pairs; are = calm_under s ks w e x.pairs a b x.are }
 
 as_kinds : (w : Words) → (y : Bool) → (k : Kind) → (declared_as w y k).kinds ≡ w.kinds
 as_kinds w y (TypeName n) = refl
@@ -252,14 +278,14 @@ record Settled (w : Words) (a b : ℕ) (c q : Bool) : Type 0 where
   pub assigned : Bool
   pub quiet : Quieted w a b c q assigned
 
-settle : (w : Words) → (a m b : ℕ) → (c q q1 : Bool) → (x : Quieted w a m c q q1) → Settled w m b x.end q1 → Settled w a b c q
-settle w a m b c q q1 x y = record { assigned = y.assigned; quiet = then_quiet w a m b c q q1 y.assigned x y.quiet }
+then_settled : (w : Words) → (a m b : ℕ) → (c q q1 : Bool) → (x : Quieted w a m c q q1) → Settled w m b x.end q1 → Settled w a b c q
+then_settled w a m b c q q1 x y = record { assigned = y.assigned; quiet = then_quiet w a m b c q q1 y.assigned x y.quiet }
 
-one_settled : (w v : Words) → v.kinds ≡ w.kinds → (s : Leading) → (p : Piece) → (a b : ℕ) → HoldsOne v s p.0 p.1 a b → (c q : Bool) → Follows w a c
+one_settled : (w v : Words) → v.kinds ≡ w.kinds → (o : ℕ) → (s : Leading) → (p : Piece) → (a b : ℕ) → HoldsOne v o s p.0 p.1 a b → (c q : Bool) → Follows w a c
     → Settled w a b c q
-one_settled w v e s p a b h c q told =
-    let front = still w a h.0 c q told (seen_calm true v w e a h.0 (declarator_calm p.0 (shown v) (not s.typed) a h.0 h.1)) in
-    settle w a h.0 b c q q front (by p.1 h.2 front.end front.told)
+one_settled w v e o s p a b h c q told =
+    let front = still w a h.0 c q told (seen_calm true (shown_from v o) w (shows_from v w e o) a h.0 (declarator_calm p.0 (shown_from v o) (not s.typed) a h.0 h.1)) in
+    then_settled w a h.0 b c q q front (by p.1 h.2 front.end front.told)
   where
     behind : Words
     behind = head.past v s p.0
@@ -267,32 +293,32 @@ one_settled w v e s p a b h c q told =
     kinds : behind.kinds ≡ w.kinds
     kinds = named_kinds v s.typedef _ ∙ e
 
-    by : (x : Option Initial) → HoldsValue (shown behind) x h.0 b → (d : Bool) → Follows w h.0 d → Settled w h.0 b d q
+    by : (x : Option Initial) → HoldsValue (shown_from behind o) x h.0 b → (d : Bool) → Follows w h.0 d → Settled w h.0 b d q
     by None g d tells = record { assigned = q; quiet = still w h.0 b d q tells (nothing true (shown w) h.0 b g) }
     by (Some i) g d tells =
-        let sign : kind_in w h.0 ≡ Equals = equals_is (kind_in w h.0) (sym (as_shown is_equals (λ n. refl) behind w kinds h.0) ∙ g.0) in
+        let sign : kind_in w h.0 ≡ Equals = equals_is (kind_in w h.0) (sym (shows_from behind w kinds o is_equals (λ n. refl) h.0) ∙ g.0) in
         let first = equals_quiet w h.0 d q sign in
-        let calm = seen_calm false behind w kinds (h.0 + 1) b (initial_calm i (shown behind) (h.0 + 1) b g.1) in
-        settle w h.0 (h.0 + 1) b d q true first
+        let calm = seen_calm false (shown_from behind o) w (shows_from behind w kinds o) (h.0 + 1) b (initial_calm i (shown_from behind o) (h.0 + 1) b g.1) in
+        then_settled w h.0 (h.0 + 1) b d q true first
         (record { assigned = true; quiet = quiet_behind w calm.pairs (h.0 + 1) b first.end first.told calm.are })
 
-others_settled : (w v : Words) → v.kinds ≡ w.kinds → (s : Leading) → (ps : List Piece) → (a b : ℕ) → HoldOthers v s ps a b → (c q : Bool)
+others_settled : (w v : Words) → v.kinds ≡ w.kinds → (o : ℕ) → (s : Leading) → (ps : List Piece) → (a b : ℕ) → HoldOthers v o s ps a b → (c q : Bool)
     → Follows w a c → Settled w a b c q
-others_settled w v e s [] a b h c q told = record { assigned = q; quiet = still w a b c q told (nothing true (shown w) a b h) }
-others_settled w v e s (p ∷ ps) a b h c q told =
+others_settled w v e o s [] a b h c q told = record { assigned = q; quiet = still w a b c q told (nothing true (shown w) a b h) }
+others_settled w v e o s (p ∷ ps) a b h c q told =
     let sign = comma_quiet w a c q (ap (λ ks. kind_at ks a) (sym e) ∙ h.1) in
-    let one = one_settled w v e s p (a + 1) h.0 h.2 sign.end q sign.told in
+    let one = one_settled w v e o s p (a + 1) h.0 h.2 sign.end q sign.told in
     let rest =
-    others_settled w (head.past v s p.0) (named_kinds v s.typedef _ ∙ e) s ps h.0 b h.3 one.quiet.end one.assigned one.quiet.told in
-    settle w a (a + 1) b c q q sign (settle w (a + 1) h.0 b sign.end q one.assigned one.quiet rest)
+    others_settled w (head.past v s p.0) (named_kinds v s.typedef _ ∙ e) o s ps h.0 b h.3 one.quiet.end one.assigned one.quiet.told in
+    then_settled w a (a + 1) b c q q sign (then_settled w (a + 1) h.0 b sign.end q one.assigned one.quiet rest)
 
-all_settled : (w v : Words) → v.kinds ≡ w.kinds → (s : Leading) → (ps : List Piece) → (a b : ℕ) → HoldAll v s ps a b → (c q : Bool) → Follows w a c
+all_settled : (w v : Words) → v.kinds ≡ w.kinds → (o : ℕ) → (s : Leading) → (ps : List Piece) → (a b : ℕ) → HoldAll v o s ps a b → (c q : Bool) → Follows w a c
     → Settled w a b c q
-all_settled w v e s [] a b h c q told = record { assigned = q; quiet = still w a b c q told (nothing true (shown w) a b h) }
-all_settled w v e s (p ∷ ps) a b h c q told =
-    let one = one_settled w v e s p a h.0 h.1 c q told in
-    let rest = others_settled w (head.past v s p.0) (named_kinds v s.typedef _ ∙ e) (freely s) ps h.0 b h.2 one.quiet.end one.assigned one.quiet.told in
-    settle w a h.0 b c q one.assigned one.quiet rest
+all_settled w v e o s [] a b h c q told = record { assigned = q; quiet = still w a b c q told (nothing true (shown w) a b h) }
+all_settled w v e o s (p ∷ ps) a b h c q told =
+    let one = one_settled w v e o s p a h.0 h.1 c q told in
+    let rest = others_settled w (head.past v s p.0) (named_kinds v s.typedef _ ∙ e) o (freely s) ps h.0 b h.2 one.quiet.end one.assigned one.quiet.told in
+    then_settled w a h.0 b c q one.assigned one.quiet rest
 
 semicolon_is : (k : Kind) → is_semicolon k ≡ true → k ≡ Semicolon
 semicolon_is Semicolon h = refl
@@ -312,12 +338,19 @@ assertion_calm ks (Assertion_of k o t c ns p e) a b m q h =
     (join false ks (o + 1) c p (tree_calm t ks (o + 1) c h.5)
     (join false ks c (c + 1) p (mark false ks c (c + 1) Comma h.6 refl refl) (texts_calm ks ns (c + 1) p h.8))) h.9 refl last)
 
+-- under what is shown in front of a head
+from_itself : (s : Bool) → (w : Words) → (o a b : ℕ) → Calm s (shown_from w o) a b → Calm s (shown w) a b
+from_itself s w o a b x = seen_calm s (shown_from w o) w (shows_from w w refl o) a b x
+
+specifiers_seen : (w : Words) → (ss : Specifyings) → (a b : ℕ) → HoldSpecifyings (shown_from w a) false ss a b → Calm true (shown w) a b
+specifiers_seen w ss a b h = from_itself true w a a b (specifyings_calm ss (shown_from w a) false a b h)
+
 declaration_quiet : (w : Words) → (d : Heading) → (a b : ℕ) → HoldsDeclaration w d a b → DeclarationIsQuiet w a b
 declaration_quiet w (Declares_of ss ds false) a b g =
     let h = g.1 in
-    let front = still w a h.0 false false (not_behind w a) (specifyings_calm ss (shown w) false a h.0 h.3) in
-    let rest = all_settled w w refl (leading_of (shown w) ss) ds h.0 h.1 h.4 front.end false front.told in
-    let whole = settle w a h.0 h.1 false false false front rest in
+    let front = still w a h.0 false false (not_behind w a) (specifiers_seen w ss a h.0 h.3) in
+    let rest = all_settled w w refl a (leading_of (shown w) ss) ds h.0 h.1 h.4 front.end false front.told in
+    let whole = then_settled w a h.0 h.1 false false false front rest in
     record {
       last = h.1;
       closed = whole.quiet.end;
@@ -329,13 +362,13 @@ declaration_quiet w (Declares_of ss ds false) a b g =
 declaration_quiet w (Declares_of ss ds true) a b g = absurd (true≢false (sym g.0))
 declaration_quiet w (Asserts_of (Assertion_of k o t c ns p e)) a b g =
     let h = g.1 in
-    let quiet = still w a e false false (not_behind w a) (assertion_calm (shown w) (Assertion_of k o t c ns p e) a b e h.12 h) in
+    let quiet = still w a e false false (not_behind w a) (from_itself true w a a e (assertion_calm (shown_from w a) (Assertion_of k o t c ns p e) a b e h.12 h)) in
     record {
       last = e;
       closed = quiet.end;
       assigned = false;
       quiet = quieted_is w a e false quiet;
-      semicolon = h.11;
+      semicolon = semicolon_is (kind_in w e) (sym (shows_from w w refl a is_semicolon (λ n. refl) e) ∙ ap is_semicolon h.11);
       ends = h.12;
     }
 
@@ -435,17 +468,17 @@ some_strict ks (Specifier_then x xs) a m s h =
     omega (arith, one, two)
 
 -- a function's head
-alone_still : (w : Words) → (s : Leading) → (ds : List Piece) → (a b : ℕ) → is_alone ds ≡ true → HoldAll w s ds a b → Calm true (shown w) a b
-alone_still w s [] a b e h = absurd (true≢false (sym e))
-alone_still w s (p ∷ []) a b e h = by p.1 e h.1.2
+alone_still : (w : Words) → (o : ℕ) → (s : Leading) → (ds : List Piece) → (a b : ℕ) → is_alone ds ≡ true → HoldAll w o s ds a b → Calm true (shown w) a b
+alone_still w o s [] a b e h = absurd (true≢false (sym e))
+alone_still w o s (p ∷ []) a b e h = by p.1 e h.1.2
   where
-    by : (x : Option Initial) → is_none x ≡ true → HoldsValue (shown (head.past w s p.0)) x h.1.0 h.0 → Calm true (shown w) a b
+    by : (x : Option Initial) → is_none x ≡ true → HoldsValue (shown_from (head.past w s p.0) o) x h.1.0 h.0 → Calm true (shown w) a b
     by None e g =
         let one : h.0 ≡ h.1.0 = g in
         let two : b ≡ h.1.0 = h.2 ∙ one in
-        subst (λ i. Calm true (shown w) a i) (sym two) (declarator_calm p.0 (shown w) (not s.typed) a h.1.0 h.1.1)
+        subst (λ i. Calm true (shown w) a i) (sym two) (from_itself true w o a h.1.0 (declarator_calm p.0 (shown_from w o) (not s.typed) a h.1.0 h.1.1))
     by (Some i) e g = absurd (true≢false (sym e))
-alone_still w s (p ∷ q ∷ ps) a b e h = absurd (true≢false (sym e))
+alone_still w o s (p ∷ q ∷ ps) a b e h = absurd (true≢false (sym e))
 
 definition_quiet : (w : Words) → (h : Heading) → (a p : ℕ) → HoldsHead w h a (p + 2) → is_declaration h ≡ false
     → IsQuiet w a (p + 1) (is_close_paren (kind_in w p)) false
@@ -453,10 +486,10 @@ definition_quiet w (Declares_of ss ds false) a p h e = absurd (true≢false e)
 definition_quiet w (Declares_of ss ds true) a p h e =
     let last : p + 1 ≡ h.1 = omega (arith, h.6) in
     let calm =
-    join true (shown w) a h.0 h.1 (specifyings_calm ss (shown w) false a h.0 h.3)
-    (alone_still w (leading_of (shown w) ss) ds h.0 h.1 h.5.1 h.4) in
-    let one : a + 1 ≤ h.0 = some_strict (shown w) ss a h.0 h.2 h.3 in
-    let behind = alone_still w (leading_of (shown w) ss) ds h.0 h.1 h.5.1 h.4 in
+    join true (shown w) a h.0 h.1 (specifiers_seen w ss a h.0 h.3)
+    (alone_still w a (leading_of (shown w) ss) ds h.0 h.1 h.5.1 h.4) in
+    let one : a + 1 ≤ h.0 = some_strict (shown_from w a) ss a h.0 h.2 h.3 in
+    let behind = alone_still w a (leading_of (shown w) ss) ds h.0 h.1 h.5.1 h.4 in
     let two : h.0 ≤ h.1 = calm_forth true (shown w) behind.pairs h.0 h.1 behind.are in
     from (omega (arith, one, two, last)) (subst (λ i. Calm true (shown w) a i) (sym last) calm)
   where
@@ -488,6 +521,6 @@ declaration_balanced w d a b h =
 
 pub parts_balanced : PartsAreBalanced
 parts_balanced = record {
-  expression = λ w n t a b h. balanced_of false w a b (tree_calm t (shown w) a b h.1);
+  expression = λ w n t a b h. balanced_of false w a b (from_itself false w a a b (tree_calm t (shown_from w a) a b h.1));
   declaration = declaration_balanced;
 }

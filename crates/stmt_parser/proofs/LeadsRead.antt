@@ -7,14 +7,15 @@ use Rattle.c_parser.specs.declared.kinds.Kind.{Kind}
 use Rattle.c_parser.specs.declared.kinds.Kind.TheVariants.{OpenParen, CloseParen, Semicolon, Colon, Case, Default, Switch, While, For}
 use Rattle.c_parser.specs.Parts.{PartsLaw, FoundExpression, FoundDeclaration, HoldsDeclaration, past_declaration, starts_declaration}
 use Rattle.c_parser.specs.Reading.{Reads, Stops, IsWant}
-use Rattle.c_parser.specs.Words.{Words, shown, kind_in}
+use Rattle.c_parser.specs.Words.{Words, shown, shown_from, kind_in}
 use Rattle.stmt_parser.specs.Found.{FoundOptional, FoundTest, FoundTail, FoundLead, FailsStatement, Alike}
 use Rattle.stmt_parser.specs.Fronts.{labels_at, is_colon}
 use Rattle.stmt_parser.specs.InForce.{past_optional, inside}
 use Rattle.stmt_parser.specs.Reading.{HoldsOptional, HoldsTest, HoldsLead}
 use Rattle.stmt_parser.proofs.FrontLemmas.{token_inside}
+use Rattle.stmt_parser.proofs.InForceLemmas.{optional_blind}
 use Rattle.stmt_parser.proofs.Marks.{code_of, coded, stops_before, ended, start_declares_not, declaring_code}
-use Rattle.stmt_parser.proofs.PartsRead.{past_same, FailsTail, OnlyOptional, FailsOptional}
+use Rattle.stmt_parser.proofs.PartsRead.{optional_kinds, alike_itself, semicolon_seen, closing_seen, FailsTail, OnlyOptional, FailsOptional}
 use Rattle.stmt_parser.proofs.Views.{labels_parts, first_lead, case_lead, default_lead, switch_lead, while_lead, for_lead}
 
 -- whatever holds of each lead of a kind: at a place where that kind stands
@@ -32,17 +33,17 @@ label_found w a h =
 
 -- case constant-expression :
 pub case_by : PartsLaw → (w : Words) → (a : ℕ) → kind_in w a ≡ Case → (e : Stop)
-    → ((t : Tree) → (c : ℕ) → Reads (shown w) 3 t (a + 1) c → Stops (shown w) 3 c → kind_in w c ≡ Colon → IsWant e) → FailsStatement w a e
+    → ((t : Tree) → (c : ℕ) → Reads (shown_from w (a + 1)) 3 t (a + 1) c → Stops (shown w) 3 c → kind_in w c ≡ Colon → IsWant e) → FailsStatement w a e
 case_by law w a k e f =
     lead_fails law w a 2 (coded w a Case k) (omega arith) (omega arith) e
     (case_lead w a k (λ p t c b h. f t c h.2 (stops_before w 3 c (omega arith) (ended w c Colon h.3 refl)) h.3))
 
 pub case_fails : PartsLaw → (w : Words) → (a : ℕ) → kind_in w a ≡ Case → (e : Stop)
-    → ((t : Tree) → (c : ℕ) → Reads (shown w) 3 t (a + 1) c → Stops (shown w) 3 c → IsWant e) → FailsStatement w a e
+    → ((t : Tree) → (c : ℕ) → Reads (shown_from w (a + 1)) 3 t (a + 1) c → Stops (shown w) 3 c → IsWant e) → FailsStatement w a e
 case_fails law w a k e f = case_by law w a k e (λ t c r s m. f t c r s)
 
 pub case_uncoloned : PartsLaw → (w : Words) → (a : ℕ) → kind_in w a ≡ Case → (u : Tree) → (m : ℕ)
-    → ((t : Tree) → (c : ℕ) → Reads (shown w) 3 t (a + 1) c → Stops (shown w) 3 c → (u ≡ t) × (m ≡ c)) → (kind_in w m ≡ Colon → ⊥)
+    → ((t : Tree) → (c : ℕ) → Reads (shown_from w (a + 1)) 3 t (a + 1) c → Stops (shown w) 3 c → (u ≡ t) × (m ≡ c)) → (kind_in w m ≡ Colon → ⊥)
     → (e : Stop) → FailsStatement w a e
 case_uncoloned law w a k u m only lack e = case_by law w a k e (λ t c r s q. absurd (lack (ap (kind_in w) (only t c r s).1 ∙ q)))
 
@@ -127,29 +128,6 @@ pub declaring_unbegun : PartsLaw → (w : Words) → (a : ℕ) → kind_in w a �
     → ((d : Heading) → (m : ℕ) → HoldsDeclaration w d (a + 2) m → IsWant e) → FailsStatement w a e
 declaring_unbegun law w a k st e f = declaring_by law w a k st e (λ d m h y n z c g q r p. f d m h)
 
--- marks are the same in scopes that differ in typedef names alone
-abbrev is_semicolon : Kind → Bool
-is_semicolon Semicolon = true
-is_semicolon _ = false
-
-semicolon_is : (k : Kind) → is_semicolon k ≡ true → k ≡ Semicolon
-semicolon_is Semicolon h = refl
-semicolon_is _ h = absurd (true≢false (sym h))
-
-abbrev is_closing : Kind → Bool
-is_closing CloseParen = true
-is_closing _ = false
-
-closing_is : (k : Kind) → is_closing k ≡ true → k ≡ CloseParen
-closing_is CloseParen h = refl
-closing_is _ h = absurd (true≢false (sym h))
-
-semicolon_seen : (v w : Words) → Alike v w → (n : ℕ) → kind_in w n ≡ Semicolon → kind_in v n ≡ Semicolon
-semicolon_seen v w alike n k = semicolon_is (kind_in v n) (alike is_semicolon (λ i. refl) n ∙ ap is_semicolon k)
-
-closing_seen : (v w : Words) → Alike v w → (n : ℕ) → kind_in w n ≡ CloseParen → kind_in v n ≡ CloseParen
-closing_seen v w alike n k = closing_is (kind_in v n) (alike is_closing (λ i. refl) n ∙ ap is_closing k)
-
 pub alike_behind : PartsLaw → (w v : Words) → (d : Heading) → v ≡ past_declaration w d → Alike v w
 alike_behind law w v d past f i a = ap (λ x. f (kind_in x a)) past ∙ law.declaration_blind f i w d a
 
@@ -217,10 +195,9 @@ declaring_found law w a k o d m f v past y n z c g' =
       inside = omega (arith, inner, same);
     }
 
-pub declaring_past : (w v : Words) → (d : Heading) → v ≡ past_declaration w d → (k o : ℕ) → (y : Option Tree) → (n : ℕ) → (z : Option Tree) → (c : ℕ)
-    → v ≡ inside w (For_declaring_of k o d y n z c)
-declaring_past w v d past k o y n z c =
-    past ∙ sym (past_same (past_optional (past_declaration w d) y) z ∙ past_same (past_declaration w d) y)
+pub declaring_past : (w v s : Words) → (d : Heading) → v ≡ past_declaration w d → (k o : ℕ) → (y : Option Tree) → (n : ℕ) → (z : Option Tree)
+    → (c : ℕ) → s ≡ past_optional (past_optional v y) z → s ≡ inside w (For_declaring_of k o d y n z c)
+declaring_past w v s d past k o y n z c is = is ∙ ap (λ x. past_optional (past_optional x y) z) past
 
 -- and with none
 pub loop_by : PartsLaw → (w : Words) → (a : ℕ) → kind_in w a ≡ For → starts_declaration (kind_in w (a + 2)) ≡ false → (e : Stop)
@@ -253,25 +230,33 @@ loop_undivided law w a k st u j only lack e =
     loop_by law w a k st e
     (λ x m h q y n z c g r p t. absurd (lack (ap (kind_in w) (only x m h (ended w m Semicolon q refl)).1 ∙ q)))
 
+-- the identifiers behind the first part differ in typedef names alone
+first_alike : PartsLaw → (w : Words) → (x : Option Tree) → (v : Words) → v ≡ past_optional w x → Alike v w
+first_alike law w x v is f i a = ap (λ y. f (kind_in y a)) is ∙ optional_blind law f i w x a
+
 pub loop_fails : PartsLaw → (w : Words) → (a : ℕ) → kind_in w a ≡ For → starts_declaration (kind_in w (a + 2)) ≡ false → (u : Option Tree) → (j : ℕ)
-    → OnlyOptional w (a + 2) u j → (e : Stop) → FailsTail w w (j + 1) e → FailsStatement w a e
-loop_fails law w a k st u j only e f =
+    → OnlyOptional w (a + 2) u j → (v : Words) → v ≡ past_optional w u → (e : Stop) → FailsTail v v (j + 1) e → FailsStatement w a e
+loop_fails law w a k st u j only v is e f' =
+    let f : FailsTail w v (j + 1) e = fails_outside v w (first_alike law w u v is) (j + 1) e f' in
     loop_by law w a k st e
     (λ x m h q y n z c g r p t.
     let same = only x m h (ended w m Semicolon q refl) in
+    let to : past_optional w x ≡ v = ap (past_optional w) (sym same.0) ∙ sym is in
     f y n z c
-    (subst (λ i. HoldsOptional w y (i + 1) n) (sym same.1) (subst (λ i. HoldsOptional i y (m + 1) n) (past_same w x) g))
+    (subst (λ i. HoldsOptional v y (i + 1) n) (sym same.1) (subst (λ i. HoldsOptional i y (m + 1) n) to g))
     r
-    (subst (λ i. HoldsOptional (past_optional i y) z (n + 1) c) (past_same w x) p)
+    (subst (λ i. HoldsOptional (past_optional i y) z (n + 1) c) to p)
     t)
 
-pub loop_found : (w : Words) → (a : ℕ) → kind_in w a ≡ For → kind_in w (a + 1) ≡ OpenParen → (x : Option Tree) → (m : ℕ) → FoundOptional w (a + 2) x m
-    → kind_in w m ≡ Semicolon → (y : Option Tree) → (n : ℕ) → (z : Option Tree) → (c : ℕ) → FoundTail w w (m + 1) y n z c
-    → FoundLead w a (For_of a (a + 1) x m y n z c) (c + 1)
-loop_found w a k o x m f q y n z c g =
+pub loop_found : PartsLaw → (w : Words) → (a : ℕ) → kind_in w a ≡ For → kind_in w (a + 1) ≡ OpenParen → (x : Option Tree) → (m : ℕ)
+    → FoundOptional w (a + 2) x m → kind_in w m ≡ Semicolon → (v : Words) → v ≡ past_optional w x → (y : Option Tree) → (n : ℕ) → (z : Option Tree)
+    → (c : ℕ) → FoundTail v v (m + 1) y n z c → FoundLead w a (For_of a (a + 1) x m y n z c) (c + 1)
+loop_found law w a k o x m f q v is y n z c g' =
+    let g : FoundTail w v (m + 1) y n z c = found_outside v w (first_alike law w x v is) (m + 1) y n z c g' in
     let first : a + 2 ≤ m = f.forth in
     let second : m + 1 ≤ c = g.forth in
-    let inner : c < length w.kinds = g.inside in
+    let inner : c < length v.kinds = g.inside in
+    let same : length v.kinds ≡ length w.kinds = ap (λ y. length y.kinds) is ∙ ap (λ ks. length ks) (optional_kinds law w x) in
     let start : a + 2 ≡ a + 1 + 1 = omega arith in
     record {
       reads = (
@@ -281,18 +266,17 @@ loop_found w a k o x m f q y n z c g =
         o,
         subst (λ i. HoldsOptional w x i m) start f.reads,
         q,
-        subst (λ i. HoldsOptional i y (m + 1) n) (sym (past_same w x)) g.test,
+        subst (λ i. HoldsOptional i y (m + 1) n) is g.test,
         g.semicolon,
-        subst (λ i. HoldsOptional (past_optional i y) z (n + 1) c) (sym (past_same w x)) g.step,
+        subst (λ i. HoldsOptional (past_optional i y) z (n + 1) c) is g.step,
         g.closing,
         refl,
       );
       alone = refl;
       forth = omega (arith, first, second);
-      inside = omega (arith, inner);
+      inside = omega (arith, inner, same);
     }
 
-pub loop_past : (w : Words) → (k o : ℕ) → (x : Option Tree) → (m : ℕ) → (y : Option Tree) → (n : ℕ) → (z : Option Tree) → (c : ℕ)
-    → inside w (For_of k o x m y n z c) ≡ w
-loop_past w k o x m y n z c =
-    past_same (past_optional (past_optional w x) y) z ∙ past_same (past_optional w x) y ∙ past_same w x
+pub loop_past : (w v s : Words) → (k o : ℕ) → (x : Option Tree) → v ≡ past_optional w x → (m : ℕ) → (y : Option Tree) → (n : ℕ) → (z : Option Tree)
+    → (c : ℕ) → s ≡ past_optional (past_optional v y) z → s ≡ inside w (For_of k o x m y n z c)
+loop_past w v s k o x is m y n z c e = e ∙ ap (λ i. past_optional (past_optional i y) z) is

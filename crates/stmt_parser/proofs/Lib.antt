@@ -8,6 +8,7 @@ mod InForceLemmas
 mod LeadsRead
 mod Marks
 mod OneReading
+mod OutsideRead
 mod PartBalances
 mod PartsOnly
 mod PartsRead

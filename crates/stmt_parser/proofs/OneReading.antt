@@ -7,7 +7,7 @@ use Rattle.c_parser.specs.declared.kinds.Kind.TheVariants.{Identifier, OpenBrace
 use Rattle.c_parser.specs.Kinds.{is_word}
 use Rattle.c_parser.specs.Parts.{PartsLaw, HoldsDeclaration, past_tree, past_declaration}
 use Rattle.c_parser.specs.Reading.{Reads}
-use Rattle.c_parser.specs.Words.{Words, shown, kind_in}
+use Rattle.c_parser.specs.Words.{Words, shown_from, kind_in}
 use Rattle.stmt_parser.specs.Found.{EndsItem}
 use Rattle.stmt_parser.specs.InForce.{past_optional, inside, all_inside, past_item}
 use Rattle.stmt_parser.specs.Reading.{HoldsOptional, HoldsTest, HoldsStatement, HoldsCore, HoldsLead, HoldLeads, HoldsItem, HoldItems, is_else, Ends}
@@ -485,11 +485,11 @@ same_if_else law ks k o t c s e a b h v (For_declaring_of k' o' d' y' n' z' c') 
     clash (kind_in ks a) 4 7 (lead_coded ks (If_else_of k o t c s e) a b h) (lead_coded ks (For_declaring_of k' o' d' y' n' z' c') a b' h') (λ y. omega (arith, y))
 
 -- a label is no expression
-name_ends : PartsLaw → (ks : Words) → (t : Tree) → (a m : ℕ) → Reads (shown ks) 1 t a m → kind_in ks m ≡ Semicolon
+name_ends : PartsLaw → (ks : Words) → (t : Tree) → (a m : ℕ) → Reads (shown_from ks a) 1 t a m → kind_in ks m ≡ Semicolon
     → is_word (kind_in ks a) ≡ true → kind_in ks (a + 1) ≡ Colon → ⊥
 name_ends law ks t a m h e w f =
     let k : kind_in ks a ≡ Identifier = start_word (kind_in ks a) (law.expression_starts ks 1 t a m h) w in
-    let name : Reads (shown ks) 1 (Name_of a) a (a + 1) = (omega arith, (refl, k, refl)) in
+    let name : Reads (shown_from ks a) 1 (Name_of a) a (a + 1) = law.name_reads ks a k in
     let r = tree_only law ks 1 t a m (omega arith) h (ended ks m Semicolon e refl) (Name_of a) (a + 1) name (ended ks (a + 1) Colon f refl) in
     clash (kind_in ks m) 8 0 (coded ks m Semicolon e) (ap (λ x. code_of (kind_in ks x)) r.1 ∙ coded ks (a + 1) Colon f) (λ x. omega (arith, x))
 

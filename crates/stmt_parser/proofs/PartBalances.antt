@@ -519,9 +519,9 @@ mutual
       (join false ks h.0 h.1 c (enumerators_calm es ks h.0 h.1 h.7) (comma_calm ks t h.1 c h.8)))) h.9 h.10))
 
   pub enumerator_calm : (e : Enumerator) → (ks : List Kind) → (a b : ℕ) → HoldsEnumerator ks e a b → Calm false ks a b
-  enumerator_calm (Counted_of n) ks a b h = mark false ks a b Identifier h.1 refl h.2
+  enumerator_calm (Counted_of n) ks a b h = token false ks a b (word_plain false (kind_at ks a) h.1) h.2
   enumerator_calm (Given_of n q t) ks a b h =
-      join false ks a q b (mark false ks a q Identifier h.1 refl h.2)
+      join false ks a q b (token false ks a q (word_plain false (kind_at ks a) h.1) h.2)
       (join false ks q (q + 1) b (token false ks q (q + 1) (equals_plain (kind_at ks q) h.3) refl) (tree_calm t ks (q + 1) b h.5))
 
   pub enumerators_calm : (es : Enumerators) → (ks : List Kind) → (a b : ℕ) → HoldEnumerators ks es a b → Calm false ks a b

@@ -5,20 +5,20 @@ use Rattle.c_parser.specs.declared.kinds.Kind.{Kind}
 use Rattle.c_parser.specs.declared.kinds.Kind.TheVariants.{CloseParen, Semicolon}
 use Rattle.c_parser.specs.Parts.{PartsLaw, IsBlind, HoldsDeclaration}
 use Rattle.c_parser.specs.Reading.{Reads}
-use Rattle.c_parser.specs.Words.{Words, shown, kind_in}
+use Rattle.c_parser.specs.Words.{Words, shown_from, kind_in}
 use Rattle.stmt_parser.specs.InForce.{past_optional}
 use Rattle.stmt_parser.specs.Reading.{HoldsOptional, HoldsTest, ends_expression}
 use Rattle.stmt_parser.proofs.InForceLemmas.{ends_blind, optional_blind}
 use Rattle.stmt_parser.proofs.Marks.{code_of, coded, declaring_code, start_declares_not, end_starts_not, stops_before, ended}
 
 -- expressions
-pub no_expression : PartsLaw → (ks : Words) → (n : ℕ) → (t : Tree) → (a b m : ℕ) → Reads (shown ks) n t a b → m ≡ a → ends_expression (kind_in ks m) ≡ true → ⊥
+pub no_expression : PartsLaw → (ks : Words) → (n : ℕ) → (t : Tree) → (a b m : ℕ) → Reads (shown_from ks a) n t a b → m ≡ a → ends_expression (kind_in ks m) ≡ true → ⊥
 no_expression law ks n t a b m h e f =
     let f' : ends_expression (kind_in ks a) ≡ true = subst (λ x. ends_expression (kind_in ks x) ≡ true) e f in
     true≢false (sym (law.expression_starts ks n t a b h) ∙ end_starts_not (kind_in ks a) f')
 
-pub tree_only : PartsLaw → (ks : Words) → (n : ℕ) → (t : Tree) → (a b : ℕ) → 1 ≤ n → Reads (shown ks) n t a b → ends_expression (kind_in ks b) ≡ true
-    → (t' : Tree) → (b' : ℕ) → Reads (shown ks) n t' a b' → ends_expression (kind_in ks b') ≡ true → (t ≡ t') × (b ≡ b')
+pub tree_only : PartsLaw → (ks : Words) → (n : ℕ) → (t : Tree) → (a b : ℕ) → 1 ≤ n → Reads (shown_from ks a) n t a b → ends_expression (kind_in ks b) ≡ true
+    → (t' : Tree) → (b' : ℕ) → Reads (shown_from ks a) n t' a b' → ends_expression (kind_in ks b') ≡ true → (t ≡ t') × (b ≡ b')
 tree_only law ks n t a b le h e t' b' h' e' =
     law.expression_only ks n t t' a b b' le h (stops_before ks n b le e) h' (stops_before ks n b' le e')
 

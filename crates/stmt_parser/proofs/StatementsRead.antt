@@ -5,7 +5,7 @@ use Rattle.tree_data.specs.Trees.{Tree, Heading}
 use Rattle.c_parser.specs.declared.answers.Stop.{Stop}
 use Rattle.c_parser.specs.declared.kinds.Kind.{Kind}
 use Rattle.c_parser.specs.declared.kinds.Kind.TheVariants.{OpenBrace, CloseBrace, Semicolon, If, Else, Goto, Continue, Break, Return, Do}
-use Rattle.c_parser.specs.Parts.{PartsLaw, FoundDeclaration, HoldsDeclaration, starts_declaration, past_declaration}
+use Rattle.c_parser.specs.Parts.{PartsLaw, FoundDeclaration, HoldsDeclaration, starts_declaration, past_tree, past_declaration}
 use Rattle.c_parser.specs.Reading.{IsWant}
 use Rattle.c_parser.specs.Words.{Words, kind_in}
 use Rattle.stmt_parser.specs.Found.{FoundTest, FoundLead, FoundStatement, FailsStatement, FoundItem, FailsItem}
@@ -17,7 +17,7 @@ use Rattle.stmt_parser.proofs.CoresRead.{core_fails, bare_found}
 use Rattle.stmt_parser.proofs.InForceLemmas.{all_inside_blind, items_blind, else_blind, close_blind}
 use Rattle.stmt_parser.proofs.Marks.{code_of, clash, coded, is_close, start_declares_not, declaring_code}
 use Rattle.stmt_parser.proofs.OneReading.{lead_coded, labelled, core_apart, lead_only, Likewise, alike, without, Rest, ends_inside, no_else_first, closed_ends, behind_item, item_ends, item_only}
-use Rattle.stmt_parser.proofs.PartsRead.{past_same}
+use Rattle.stmt_parser.proofs.PartsRead.{optional_kinds}
 use Rattle.stmt_parser.proofs.Views.{and_both, core_code, block_core, labels_there, declares_parts, declares_not_parts}
 
 pub mapped : {A B : Type 0} → (f : A → B) → (xs : List A) → (y : A) → map f (xs ++ y ∷ []) ≡ map f xs ++ f y ∷ []
@@ -34,7 +34,8 @@ brace_is _ h = absurd (true≢false (sym h))
 
 -- `if`: whatever holds of each test and each statement behind it
 pub if_by : PartsLaw → (w : Words) → (a : ℕ) → kind_in w a ≡ If → (x : Stop)
-    → ((o : ℕ) → (t : Tree) → (c m : ℕ) → HoldsTest w o t c (a + 1) m → (s : Statement) → (b : ℕ) → HoldsStatement w s m b → Ends w s b → IsWant x)
+    → ((o : ℕ) → (t : Tree) → (c m : ℕ) → HoldsTest w o t c (a + 1) m → (s : Statement) → (b : ℕ) → HoldsStatement (past_tree w t) s m b
+    → Ends (past_tree w t) s b → IsWant x)
     → FailsStatement w a x
 if_by law w a q x f (Statement_of No_leads c) b h ends =
     let here : code_of (kind_in w a) ≡ 4 = coded w a If q in
@@ -49,7 +50,7 @@ if_by law w a q x f (Statement_of (Lead_then (Default_label_of k' c') ls) r) b h
 if_by law w a q x f (Statement_of (Lead_then (If_of k' o' t' c') ls) r) b h ends =
     f o' t' c' h.1.0 h.1.1.2 (Statement_of ls r) b (h.0, h.1.2, h.2) (ends_inside law w (If_of k' o' t' c') ls r b ends)
 if_by law w a q x f (Statement_of (Lead_then (If_else_of k' o' t' c' s' e') ls) r) b h ends =
-    f o' t' c' h.1.1.0 h.1.1.3 s' e' h.1.1.4 (closed_ends w s' e' h.1.1.5)
+    f o' t' c' h.1.1.0 h.1.1.3 s' e' h.1.1.4 (closed_ends (past_tree w t') s' e' h.1.1.5)
 if_by law w a q x f (Statement_of (Lead_then (Switch_of k' o' t' c') ls) r) b h ends =
     clash (kind_in w a) 4 5 (coded w a If q) (lead_coded w (Switch_of k' o' t' c') a h.1.0 h.1.1) (λ y. omega (arith, y))
 if_by law w a q x f (Statement_of (Lead_then (While_of k' o' t' c') ls) r) b h ends =
@@ -64,31 +65,36 @@ pub if_untested : PartsLaw → (w : Words) → (a : ℕ) → kind_in w a ≡ If 
 if_untested law w a k e f = if_by law w a k e (λ o t c m h s b g n. f o t c m h)
 
 pub if_unchosen : PartsLaw → (w : Words) → (a : ℕ) → kind_in w a ≡ If → (u : Tree) → (p : ℕ)
-    → ((o : ℕ) → (t : Tree) → (c b : ℕ) → HoldsTest w o t c (a + 1) b → (u ≡ t) × (p ≡ c)) → (e : Stop) → FailsStatement w (p + 1) e
+    → ((o : ℕ) → (t : Tree) → (c b : ℕ) → HoldsTest w o t c (a + 1) b → (u ≡ t) × (p ≡ c)) → (e : Stop) → FailsStatement (past_tree w u) (p + 1) e
     → FailsStatement w a e
 if_unchosen law w a k u p only e f =
     if_by law w a k e
     (λ o t c m h s b g n.
-    let same : m ≡ p + 1 = h.4 ∙ ap (λ i. i + 1) (sym (only o t c m h).1) in
-    f s b (subst (λ i. HoldsStatement w s i b) same g) n)
+    let r = only o t c m h in
+    let same : m ≡ p + 1 = h.4 ∙ ap (λ i. i + 1) (sym r.1) in
+    f s b
+    (subst (λ x. HoldsStatement (past_tree w x) s (p + 1) b) (sym r.0) (subst (λ i. HoldsStatement (past_tree w t) s i b) same g))
+    (subst (λ x. Ends (past_tree w x) s b) (sym r.0) n))
 
-pub if_alone_found : (w : Words) → (a : ℕ) → kind_in w a ≡ If → (t : Tree) → (c : ℕ) → FoundTest w (a + 1) t c → (s : Statement) → (b : ℕ)
-    → FoundStatement w (c + 1) s b → (kind_in w b ≡ Else → ⊥) → FoundStatement w a (led (If_of a (a + 1) t c ∷ []) s) b
-if_alone_found w a k t c f (Statement_of ls r) b g lack =
+pub if_alone_found : PartsLaw → (w : Words) → (a : ℕ) → kind_in w a ≡ If → (t : Tree) → (c : ℕ) → FoundTest w (a + 1) t c → (s : Statement) → (b : ℕ)
+    → FoundStatement (past_tree w t) (c + 1) s b → (kind_in w b ≡ Else → ⊥) → FoundStatement w a (led (If_of a (a + 1) t c ∷ []) s) b
+if_alone_found law w a k t c f (Statement_of ls r) b g lack =
     let first : a + 1 < c = f.forth in
     let second : c + 1 < b = g.forth in
-    let h : HoldsStatement w (Statement_of ls r) (c + 1) b = g.reads in
+    let room : b ≤ length (past_tree w t).kinds = g.inside in
+    let same : length (past_tree w t).kinds ≡ length w.kinds = ap (λ ks. length ks) (law.tree_kinds w t) in
+    let h : HoldsStatement (past_tree w t) (Statement_of ls r) (c + 1) b = g.reads in
     let lead : HoldsLead w (If_of a (a + 1) t c) a (c + 1) = (refl, k, f.reads) in
     record {
       reads = (h.0, (c + 1, lead, h.1), h.2);
       ends = λ open_ els. lack (else_is (kind_in w b) els);
       forth = omega (arith, first, second);
-      inside = g.inside;
+      inside = omega (arith, room, same);
     }
 
-pub if_else_found : (w : Words) → (a : ℕ) → kind_in w a ≡ If → (t : Tree) → (c : ℕ) → FoundTest w (a + 1) t c → (s : Statement) → (b : ℕ)
-    → FoundStatement w (c + 1) s b → kind_in w b ≡ Else → b < length w.kinds → FoundLead w a (If_else_of a (a + 1) t c s b) (b + 1)
-if_else_found w a k t c f s b g q le =
+pub if_else_found : PartsLaw → (w : Words) → (a : ℕ) → kind_in w a ≡ If → (t : Tree) → (c : ℕ) → FoundTest w (a + 1) t c → (s : Statement) → (b : ℕ)
+    → FoundStatement (past_tree w t) (c + 1) s b → kind_in w b ≡ Else → b < length w.kinds → FoundLead w a (If_else_of a (a + 1) t c s b) (b + 1)
+if_else_found law w a k t c f s b g q le =
     let first : a + 1 < c = f.forth in
     let second : c + 1 < b = g.forth in
     record {
@@ -100,7 +106,7 @@ if_else_found w a k t c f s b g q le =
   where
     shut : (y : Bool) → y ≡ is_closed s → is_closed s ≡ true
     shut true e = sym e
-    shut false e = absurd (g.ends (sym e) (ap is_else q))
+    shut false e = absurd (g.ends (sym e) (law.tree_blind is_else else_blind w t b ∙ ap is_else q))
 
 -- what stands in front, one after another
 leading_starts : (w v : Words) → v ≡ w → (a : ℕ) → a ≤ length w.kinds → Leading w a [] v a
@@ -133,16 +139,20 @@ closed_push (x ∷ xs) l h g =
     let parts = and_both (takes_no_else x) (take_no_else (leads xs No_leads)) h in
     λ i. parts.0 i && closed_push xs l parts.1 g i
 
-inside_kinds : PartsLaw → (w : Words) → (l : Lead) → (inside w l).kinds ≡ w.kinds
+pub inside_kinds : PartsLaw → (w : Words) → (l : Lead) → (inside w l).kinds ≡ w.kinds
 inside_kinds law w (Label_of n c) = refl
-inside_kinds law w (Case_of k t c) = refl
+inside_kinds law w (Case_of k t c) = law.tree_kinds w t
 inside_kinds law w (Default_label_of k c) = refl
-inside_kinds law w (If_of k o t c) = refl
-inside_kinds law w (If_else_of k o t c s e) = refl
-inside_kinds law w (Switch_of k o t c) = refl
-inside_kinds law w (While_of k o t c) = refl
-inside_kinds law w (For_of k o x m y n z c) = ap (λ v. v.kinds) (past_same (past_optional (past_optional w x) y) z ∙ past_same (past_optional w x) y ∙ past_same w x)
-inside_kinds law w (For_declaring_of k o d y n z c) = ap (λ v. v.kinds) (past_same (past_optional (past_declaration w d) y) z ∙ past_same (past_declaration w d) y) ∙ law.declaration_kinds w d
+inside_kinds law w (If_of k o t c) = law.tree_kinds w t
+inside_kinds law w (If_else_of k o t c s e) = law.tree_kinds w t
+inside_kinds law w (Switch_of k o t c) = law.tree_kinds w t
+inside_kinds law w (While_of k o t c) = law.tree_kinds w t
+inside_kinds law w (For_of k o x m y n z c) =
+    optional_kinds law (past_optional (past_optional w x) y) z ∙ optional_kinds law (past_optional w x) y ∙ optional_kinds law w x
+inside_kinds law w (For_declaring_of k o d y n z c) =
+    optional_kinds law (past_optional (past_declaration w d) y) z
+    ∙ optional_kinds law (past_declaration w d) y
+    ∙ law.declaration_kinds w d
 
 further : PartsLaw → (v : Words) → (place : ℕ) → (l : Lead) → (next : ℕ) → HoldsLead v l place next → takes_no_else l ≡ true → (b : ℕ)
     → Further v place b → Further (inside v l) next b
@@ -227,29 +237,26 @@ declared_found w a d b f = record { reads = f.reads; ends = tt; forth = f.forth;
 pub stated_found : (w : Words) → (a : ℕ) → (s : Statement) → (b : ℕ) → FoundStatement w a s b → FoundItem w a (Stated_of s) b
 stated_found w a s b f = record { reads = f.reads; ends = f.ends; forth = f.forth; inside = f.inside }
 
-core_past : (w : Words) → (c : Core) → past_core w c ≡ w
-core_past w (Block_of o is c) = refl
-core_past w (Expression_of e m) = past_same w e
-core_past w (Goto_of k n m) = refl
-core_past w (Continue_of k m) = refl
-core_past w (Break_of k m) = refl
-core_past w (Return_of k e m) = past_same w e
-core_past w (Do_of k s v o t c m) = refl
+core_kinds : PartsLaw → (w : Words) → (c : Core) → (past_core w c).kinds ≡ w.kinds
+core_kinds law w (Block_of o is c) = refl
+core_kinds law w (Expression_of e m) = optional_kinds law w e
+core_kinds law w (Goto_of k n m) = refl
+core_kinds law w (Continue_of k m) = refl
+core_kinds law w (Break_of k m) = refl
+core_kinds law w (Return_of k e m) = optional_kinds law w e
+core_kinds law w (Do_of k s v o t c m) = refl
 
-led_past : (w : Words) → (ls : Leads) → (c : Core) → past_led w ls c ≡ w
-led_past w No_leads c = core_past w c
-led_past w (Lead_then (Label_of n' c') ls) c = led_past w ls c
-led_past w (Lead_then (Case_of k' t' c') ls) c = led_past w ls c
-led_past w (Lead_then (Default_label_of k' c') ls) c = led_past w ls c
-led_past w (Lead_then (If_of k' o' t' c') ls) c = refl
-led_past w (Lead_then (If_else_of k' o' t' c' s' e') ls) c = refl
-led_past w (Lead_then (Switch_of k' o' t' c') ls) c = refl
-led_past w (Lead_then (While_of k' o' t' c') ls) c = refl
-led_past w (Lead_then (For_of k' o' x' m' y' n' z' c') ls) c = refl
-led_past w (Lead_then (For_declaring_of k' o' d' y' n' z' c') ls) c = refl
-
-pub stated_past : (w : Words) → (s : Statement) → past_item w (Stated_of s) ≡ w
-stated_past w (Statement_of ls c) = led_past w ls c
+led_kinds : PartsLaw → (w : Words) → (ls : Leads) → (c : Core) → (past_led w ls c).kinds ≡ w.kinds
+led_kinds law w No_leads c = core_kinds law w c
+led_kinds law w (Lead_then (Label_of n' c') ls) c = led_kinds law w ls c
+led_kinds law w (Lead_then (Case_of k' t' c') ls) c = led_kinds law (past_tree w t') ls c ∙ law.tree_kinds w t'
+led_kinds law w (Lead_then (Default_label_of k' c') ls) c = led_kinds law w ls c
+led_kinds law w (Lead_then (If_of k' o' t' c') ls) c = refl
+led_kinds law w (Lead_then (If_else_of k' o' t' c' s' e') ls) c = refl
+led_kinds law w (Lead_then (Switch_of k' o' t' c') ls) c = refl
+led_kinds law w (Lead_then (While_of k' o' t' c') ls) c = refl
+led_kinds law w (Lead_then (For_of k' o' x' m' y' n' z' c') ls) c = refl
+led_kinds law w (Lead_then (For_declaring_of k' o' d' y' n' z' c') ls) c = refl
 
 core_undeclared : PartsLaw → (w : Words) → (c : Core) → (a b : ℕ) → HoldsCore w c a b → starts_declaration (kind_in w a) ≡ true → ⊥
 core_undeclared law w (Expression_of None m) a b h st =
@@ -337,7 +344,7 @@ past_push (x ∷ xs) i w = past_push xs i (past_item w x)
 
 item_kinds : PartsLaw → (w : Words) → (i : Item) → (past_item w i).kinds ≡ w.kinds
 item_kinds law w (Declared_of d) = law.declaration_kinds w d
-item_kinds law w (Stated_of (Statement_of ls c)) = ap (λ x. x.kinds) (led_past w ls c)
+item_kinds law w (Stated_of (Statement_of ls c)) = led_kinds law w ls c
 
 -- the brace that ends a block is one for each scope
 shut_in : PartsLaw → (w : Words) → (xs : List Item) → (v : Words) → v ≡ past_items w (items xs) → (c : ℕ)

@@ -7,7 +7,7 @@ use Rattle.c_parser.specs.declared.kinds.Kind.TheVariants.{OpenParen, CloseParen
 use Rattle.c_parser.specs.Brackets.{opens, closes}
 use Rattle.c_parser.specs.Parts.{HoldsDeclaration}
 use Rattle.c_parser.specs.Reading.{Reads}
-use Rattle.c_parser.specs.Words.{Words, shown, kind_in}
+use Rattle.c_parser.specs.Words.{Words, shown_from, kind_in}
 use Rattle.stmt_parser.specs.Reading.{HoldsStatement}
 
 -- the second bracket closes what the first one opens
@@ -36,7 +36,7 @@ pub record AreBalanced (w : Words) (a b : ℕ) : Type 0 where
 
 -- so they are in expressions and in declarations
 pub record PartsAreBalanced : Type 0 where
-  pub expression : (w : Words) → (n : ℕ) → (t : Tree) → (a b : ℕ) → Reads (shown w) n t a b → AreBalanced w a b
+  pub expression : (w : Words) → (n : ℕ) → (t : Tree) → (a b : ℕ) → Reads (shown_from w a) n t a b → AreBalanced w a b
   pub declaration : (w : Words) → (d : Heading) → (a b : ℕ) → HoldsDeclaration w d a b → AreBalanced w a b
 
 -- and in statements

@@ -4,6 +4,7 @@ use Rattle.tree_data.specs.Seen.{tree_of}
 use Rattle.tree_data.specs.Stated.{stmt_of, leads_of}
 use Rattle.tree_data.specs.Statements.{Statement, Lead, No_leads, leads, led, take_no_else}
 use Rattle.c_parser.specs.declared.kinds.Kind.TheVariants as kind
+use Rattle.c_parser.specs.Parts.{past_tree}
 use Rattle.c_parser.specs.Words.{Words, kind_in}
 use Rattle.stmt_parser.specs.declared.frames.Opener.{Opener}
 use Rattle.stmt_parser.specs.declared.frames.Opener.TheVariants as opener
@@ -41,12 +42,17 @@ abbrev pub behind_opener : ℕ → Opener → ℕ
 behind_opener a (opener.If t c) = c + 1
 behind_opener a opener.Do = a + 1
 
+-- the identifiers in force there
+abbrev pub inside_opener : Words → Opener → Words
+inside_opener w (opener.If t c) = past_tree w (tree_of t)
+inside_opener w opener.Do = w
+
 -- from the outermost in: leads from a on and an opener behind them; the statement that the last one awaits begins at b
 abbrev pub Stacked : Words → ℕ → List Frame → Words → ℕ → Type 0
 Stacked w a [] v b = (v ≡ w) × (b ≡ a)
 Stacked w a (f ∷ fs) v b =
     Leading w a (leads_of f.leads.items) f.scope f.at × Opens f.scope f.at f.opener
-    × Stacked f.scope (behind_opener f.at f.opener) fs v b
+    × Stacked (inside_opener f.scope f.opener) (behind_opener f.at f.opener) fs v b
 
 -- leads behind these frames
 pub record Pending (w : Words) (a : ℕ) (fs : List Frame) (xs : List Lead) (v : Words) (place : ℕ) : Type 0 where

@@ -8,18 +8,18 @@ use Rattle.c_parser.specs.declared.kinds.Kind.TheVariants.{OpenParen, CloseParen
 use Rattle.c_parser.specs.Kinds.{is_word}
 use Rattle.c_parser.specs.Parts.{HoldsDeclaration, past_tree, past_declaration}
 use Rattle.c_parser.specs.Reading.{Reads}
-use Rattle.c_parser.specs.Words.{Words, shown, kind_in}
+use Rattle.c_parser.specs.Words.{Words, shown_from, kind_in}
 use Rattle.stmt_parser.specs.InForce.{past_optional, inside, all_inside, past_item}
 
 -- expression opt
 abbrev pub HoldsOptional : Words → Option Tree → ℕ → ℕ → Type 0
 HoldsOptional w None a b = b ≡ a
-HoldsOptional w (Some t) a b = Reads (shown w) 1 t a b
+HoldsOptional w (Some t) a b = Reads (shown_from w a) 1 t a b
 
 -- ( expression )
 abbrev pub HoldsTest : Words → ℕ → Tree → ℕ → ℕ → ℕ → Type 0
 HoldsTest w o t c a b =
-    (o ≡ a) × (kind_in w a ≡ OpenParen) × Reads (shown w) 1 t (a + 1) c × (kind_in w c ≡ CloseParen) × (b ≡ c + 1)
+    (o ≡ a) × (kind_in w a ≡ OpenParen) × Reads (shown_from w (a + 1)) 1 t (a + 1) c × (kind_in w c ≡ CloseParen) × (b ≡ c + 1)
 
 abbrev mutual
   -- 6.8 statement : labeled-statement | compound-statement | expression-statement | selection-statement | iteration-statement
@@ -57,7 +57,7 @@ abbrev mutual
       (n ≡ a) × (is_word (kind_in w a) ≡ true) × (c ≡ a + 1) × (kind_in w c ≡ Colon) × (b ≡ c + 1)
   -- 6.8.1 labeled-statement : case constant-expression : statement
   HoldsLead w (Case_of k t c) a b =
-      (k ≡ a) × (kind_in w a ≡ Case) × Reads (shown w) 3 t (a + 1) c × (kind_in w c ≡ Colon) × (b ≡ c + 1)
+      (k ≡ a) × (kind_in w a ≡ Case) × Reads (shown_from w (a + 1)) 3 t (a + 1) c × (kind_in w c ≡ Colon) × (b ≡ c + 1)
   -- 6.8.1 labeled-statement : default : statement
   HoldsLead w (Default_label_of k c) a b =
       (k ≡ a) × (kind_in w a ≡ Default) × (c ≡ a + 1) × (kind_in w c ≡ Colon) × (b ≡ c + 1)

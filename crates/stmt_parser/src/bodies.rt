@@ -65,8 +65,8 @@ fn whole(alloc: Global, kinds: &[Kind], hidden: Vec<bool>) -> Result<Stmt, Parse
 
 /// The one body that the tokens spell, all of them (ISO C11 6.8.2): a compound statement, from the `{` to its `}`. An identifier among `names` is
 /// a typedef name at first; a declaration of a block makes a name a typedef name or none up to the end of the block (6.2.1). An `else` goes with the nearest
-/// `if` that has none (6.8.4.1p3). The tokens are at most 2,000,000. An enumerator that is a typedef name where it stands (6.7.2.2) isn't read
-/// yet: a body that has one has no tree of this grammar.
+/// `if` that has none (6.8.4.1p3). An enumerator makes its name none, also in an expression, up to the end of the block, or of the selection
+/// or iteration statement, that it stands in (6.8.4p3, 6.8.5p5). The tokens are at most 2,000,000.
 ///
 /// The time is linear in the tokens, but that a declaration which makes a name a typedef name, or none, in a block, a loop or a list of parameters of its own copies a flag
 /// a token there. The machine's stack is taken by braces, 256 at most, and by what nests in expressions.

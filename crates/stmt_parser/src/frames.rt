@@ -12,7 +12,7 @@ ghost use Rattle.stmt_parser.specs.Frames as spec;
 ghost use Rattle.stmt_parser.specs.Frames.{Opens, Leading, Awaited, Settles, Goes};
 
 use crate::parts::test;
-use c_parser::{Kind, Scope, Stop};
+use c_parser::{Kind, Scope, Stop, past_expression};
 use std::alloc::{AllocError, Global};
 use tree_data::{Expr, Lead, Stmt};
 
@@ -45,6 +45,27 @@ pub(crate) enum Settled<'a> {
 pub(crate) enum Progress<'a> {
     Whole(Stmt, u32),
     Goes(Vec<Frame<'a>>, Vec<Lead>, Scope<'a>, u32),
+}
+
+// The identifiers in force where the statement begins that this awaits.
+pub(crate) fn inside_opener<'a>(
+    alloc: Global,
+    scope: &Scope<'a>,
+    at: u32,
+    opener: &Opener,
+) -> Result<Scope<'a>, AllocError>
+    requires size { at ≤ 2000000 }
+    requires opens { Opens scope.now at opener.now }
+    ensures { IfOk result (λ s. s ≡ spec.inside_opener scope.now opener.now) }
+{
+    let shared = scope.share()?;
+    match opener {
+        Opener::If(_, closing) => {
+            let inside = past_expression(alloc, shared, at + 2, *closing)?;
+            Ok(inside)
+        }
+        Opener::Do => Ok(shared),
+    }
 }
 
 // The frames with one more.
@@ -224,7 +245,7 @@ fn settle<'a>(
     requires law { PartsLaw }
     requires size { length frame.scope.kinds ≤ 2000000 }
     requires opens { Opens frame.scope frame.at frame.opener }
-    requires found { FoundStatement frame.scope (spec.behind_opener frame.at frame.opener) (spec.led_back (leads_of behind.items) (stmt_of core)) end }
+    requires found { FoundStatement (spec.inside_opener frame.scope frame.opener) (spec.behind_opener frame.at frame.opener) (spec.led_back (leads_of behind.items) (stmt_of core)) end }
     ensures settled { (w : Words) → (a : ℕ) → Leading w a (leads_of frame.entry.leads.items) frame.entry.scope frame.entry.at → IfOk result (Settles w a) }
     ensures forth { IfOk result (spec.SettlesPast end) }
     ensures fails { IfErr result (FailsStatement frame.entry.scope frame.entry.at) }
@@ -247,8 +268,11 @@ fn settle<'a>(
             let Ok(stmt) = finished(alloc, behind, core) else {
                 return Err(Stop::NoMemory);
             };
+            let Ok(inside) = past_expression(alloc, scope, at + 2, closing) else {
+                return Err(Stop::NoMemory);
+            };
             match chosen(alloc, leads, at, test, closing, stmt, end) {
-                Ok(leads) => Ok(Settled::Goes(leads, scope, end + 1)),
+                Ok(leads) => Ok(Settled::Goes(leads, inside, end + 1)),
                 Err(_) => Err(Stop::NoMemory),
             }
         }

@@ -8,8 +8,8 @@ ghost use Rattle.stmt_parser.specs.Found.{FoundLead, FailsStatement};
 ghost use Rattle.stmt_parser.specs.Fronts.{labels_at};
 ghost use Rattle.stmt_parser.specs.InForce as force;
 
-use crate::parts::{CONSTANT, optional, tail, test};
-use c_parser::{Kind, Scope, Stop, declaration_at, expression_at};
+use crate::parts::{CONSTANT, behind, optional, tail, test};
+use c_parser::{Kind, Scope, Stop, declaration_at, expression_at, past_expression};
 use std::alloc::Global;
 use tree_data::Lead;
 
@@ -25,24 +25,31 @@ pub(crate) fn label(scope: &Scope<'_>, at: u32) -> (Lead, u32)
 }
 
 // `case constant-expression :`
-pub(crate) fn case(alloc: Global, scope: &Scope<'_>, at: u32) -> Result<(Lead, u32), Stop>
+pub(crate) fn case<'a>(
+    alloc: Global,
+    scope: Scope<'a>,
+    at: u32,
+) -> Result<(Lead, Scope<'a>, u32), Stop>
     requires law { PartsLaw }
-    requires size { length scope.now.kinds ≤ 2000000 }
-    requires inside { at < length scope.now.kinds }
-    requires kind { kind_in scope.now at ≡ kind.Case }
-    ensures found { IfOk result (λ r. FoundLead scope.now at (lead_of r.0) r.1) }
-    ensures past { IfOk result (λ r. force.inside scope.now (lead_of r.0) ≡ scope.now) }
-    ensures fails { IfErr result (FailsStatement scope.now at) }
+    requires size { length scope.kinds ≤ 2000000 }
+    requires inside { at < length scope.kinds }
+    requires kind { kind_in scope at ≡ kind.Case }
+    ensures found { IfOk result (λ r. FoundLead scope.entry at (lead_of r.0) r.2) }
+    ensures past { IfOk result (λ r. r.1 ≡ force.inside scope.entry (lead_of r.0)) }
+    ensures fails { IfErr result (FailsStatement scope.entry at) }
 {
-    let (value, colon) = match expression_at(alloc, scope, CONSTANT, at + 1) {
+    let (value, colon) = match expression_at(alloc, &scope, CONSTANT, at + 1) {
         Ok(found) => found,
         Err(stop) => return Err(stop),
     };
     let Kind::Colon = scope.kind_at(colon) else {
         return Err(Stop::Syntax(colon));
     };
+    let Ok(inside) = past_expression(alloc, scope, at + 1, colon) else {
+        return Err(Stop::NoMemory);
+    };
     match Lead::case(alloc, at, value, colon) {
-        Ok(lead) => Ok((lead, colon + 1)),
+        Ok(lead) => Ok((lead, inside, colon + 1)),
         Err(_) => Err(Stop::NoMemory),
     }
 }
@@ -64,41 +71,55 @@ pub(crate) fn default_label(scope: &Scope<'_>, at: u32) -> Result<(Lead, u32), S
 }
 
 // `switch ( expression )`
-pub(crate) fn switch(alloc: Global, scope: &Scope<'_>, at: u32) -> Result<(Lead, u32), Stop>
+pub(crate) fn switch<'a>(
+    alloc: Global,
+    scope: Scope<'a>,
+    at: u32,
+) -> Result<(Lead, Scope<'a>, u32), Stop>
     requires law { PartsLaw }
-    requires size { length scope.now.kinds ≤ 2000000 }
-    requires inside { at < length scope.now.kinds }
-    requires kind { kind_in scope.now at ≡ kind.Switch }
-    ensures found { IfOk result (λ r. FoundLead scope.now at (lead_of r.0) r.1) }
-    ensures past { IfOk result (λ r. force.inside scope.now (lead_of r.0) ≡ scope.now) }
-    ensures fails { IfErr result (FailsStatement scope.now at) }
+    requires size { length scope.kinds ≤ 2000000 }
+    requires inside { at < length scope.kinds }
+    requires kind { kind_in scope at ≡ kind.Switch }
+    ensures found { IfOk result (λ r. FoundLead scope.entry at (lead_of r.0) r.2) }
+    ensures past { IfOk result (λ r. r.1 ≡ force.inside scope.entry (lead_of r.0)) }
+    ensures fails { IfErr result (FailsStatement scope.entry at) }
 {
-    let (value, closing) = match test(alloc, scope, at + 1) {
+    let (value, closing) = match test(alloc, &scope, at + 1) {
         Ok(found) => found,
         Err(stop) => return Err(stop),
     };
+    let Ok(inside) = past_expression(alloc, scope, at + 2, closing) else {
+        return Err(Stop::NoMemory);
+    };
     match Lead::switch(alloc, at, at + 1, value, closing) {
-        Ok(lead) => Ok((lead, closing + 1)),
+        Ok(lead) => Ok((lead, inside, closing + 1)),
         Err(_) => Err(Stop::NoMemory),
     }
 }
 
 // `while ( expression )`
-pub(crate) fn while_test(alloc: Global, scope: &Scope<'_>, at: u32) -> Result<(Lead, u32), Stop>
+pub(crate) fn while_test<'a>(
+    alloc: Global,
+    scope: Scope<'a>,
+    at: u32,
+) -> Result<(Lead, Scope<'a>, u32), Stop>
     requires law { PartsLaw }
-    requires size { length scope.now.kinds ≤ 2000000 }
-    requires inside { at < length scope.now.kinds }
-    requires kind { kind_in scope.now at ≡ kind.While }
-    ensures found { IfOk result (λ r. FoundLead scope.now at (lead_of r.0) r.1) }
-    ensures past { IfOk result (λ r. force.inside scope.now (lead_of r.0) ≡ scope.now) }
-    ensures fails { IfErr result (FailsStatement scope.now at) }
+    requires size { length scope.kinds ≤ 2000000 }
+    requires inside { at < length scope.kinds }
+    requires kind { kind_in scope at ≡ kind.While }
+    ensures found { IfOk result (λ r. FoundLead scope.entry at (lead_of r.0) r.2) }
+    ensures past { IfOk result (λ r. r.1 ≡ force.inside scope.entry (lead_of r.0)) }
+    ensures fails { IfErr result (FailsStatement scope.entry at) }
 {
-    let (value, closing) = match test(alloc, scope, at + 1) {
+    let (value, closing) = match test(alloc, &scope, at + 1) {
         Ok(found) => found,
         Err(stop) => return Err(stop),
     };
+    let Ok(inside) = past_expression(alloc, scope, at + 2, closing) else {
+        return Err(Stop::NoMemory);
+    };
     match Lead::while_test(alloc, at, at + 1, value, closing) {
-        Ok(lead) => Ok((lead, closing + 1)),
+        Ok(lead) => Ok((lead, inside, closing + 1)),
         Err(_) => Err(Stop::NoMemory),
     }
 }
@@ -123,41 +144,44 @@ fn for_declaring<'a>(
         Ok(found) => found,
         Err(stop) => return Err(stop),
     };
-    let (test, middle, step, closing) = match tail(alloc, &behind, place) {
+    let (test, middle, step, inside, closing) = match tail(alloc, behind, place) {
         Ok(found) => found,
         Err(stop) => return Err(stop),
     };
     match Lead::for_declaring(alloc, at, at + 1, first, test, middle, step, closing) {
-        Ok(lead) => Ok((lead, behind, closing + 1)),
+        Ok(lead) => Ok((lead, inside, closing + 1)),
         Err(_) => Err(Stop::NoMemory),
     }
 }
 
 // `for (` with an expression behind it, or nothing.
-fn for_loop(alloc: Global, scope: &Scope<'_>, at: u32) -> Result<(Lead, u32), Stop>
+fn for_loop<'a>(alloc: Global, scope: Scope<'a>, at: u32) -> Result<(Lead, Scope<'a>, u32), Stop>
     requires law { PartsLaw }
-    requires size { length scope.now.kinds ≤ 2000000 }
-    requires inside { at + 1 < length scope.now.kinds }
-    requires kind { kind_in scope.now at ≡ kind.For }
-    requires opening { kind_in scope.now (at + 1) ≡ kind.OpenParen }
-    requires declares { starts_declaration (kind_in scope.now (at + 2)) ≡ false }
-    ensures found { IfOk result (λ r. FoundLead scope.now at (lead_of r.0) r.1) }
-    ensures past { IfOk result (λ r. force.inside scope.now (lead_of r.0) ≡ scope.now) }
-    ensures fails { IfErr result (FailsStatement scope.now at) }
+    requires size { length scope.kinds ≤ 2000000 }
+    requires inside { at + 1 < length scope.kinds }
+    requires kind { kind_in scope at ≡ kind.For }
+    requires opening { kind_in scope (at + 1) ≡ kind.OpenParen }
+    requires declares { starts_declaration (kind_in scope (at + 2)) ≡ false }
+    ensures found { IfOk result (λ r. FoundLead scope.entry at (lead_of r.0) r.2) }
+    ensures past { IfOk result (λ r. r.1 ≡ force.inside scope.entry (lead_of r.0)) }
+    ensures fails { IfErr result (FailsStatement scope.entry at) }
 {
-    let (first, place) = match optional(alloc, scope, at + 2) {
+    let (first, place) = match optional(alloc, &scope, at + 2) {
         Ok(found) => found,
         Err(stop) => return Err(stop),
     };
     let Kind::Semicolon = scope.kind_at(place) else {
         return Err(Stop::Syntax(place));
     };
-    let (test, middle, step, closing) = match tail(alloc, scope, place + 1) {
+    let Ok(inner) = behind(alloc, scope, &first, at + 2, place) else {
+        return Err(Stop::NoMemory);
+    };
+    let (test, middle, step, inside, closing) = match tail(alloc, inner, place + 1) {
         Ok(found) => found,
         Err(stop) => return Err(stop),
     };
     match Lead::for_loop(alloc, at, at + 1, first, place, test, middle, step, closing) {
-        Ok(lead) => Ok((lead, closing + 1)),
+        Ok(lead) => Ok((lead, inside, closing + 1)),
         Err(_) => Err(Stop::NoMemory),
     }
 }
@@ -182,8 +206,5 @@ pub(crate) fn for_lead<'a>(
     if scope.kind_at(at + 2).starts_declaration() {
         return for_declaring(alloc, scope, at);
     }
-    match for_loop(alloc, &scope, at) {
-        Ok((lead, end)) => Ok((lead, scope, end)),
-        Err(stop) => Err(stop),
-    }
+    for_loop(alloc, scope, at)
 }

@@ -7,6 +7,7 @@ mod frames;
 mod fronts;
 mod laws;
 mod leads;
+mod outside;
 mod parts;
 mod statements;
 mod steps;

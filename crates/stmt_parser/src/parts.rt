@@ -1,5 +1,5 @@
 // Expressions inside statements (ISO C11 6.8.3 to 6.8.5).
-ghost use Rattle.std.specs.Prelude.{◌≡◌, ℕ, ◌+◌, ◌≤◌, true, length, Option, option_map, IfOk};
+ghost use Rattle.std.specs.Prelude.{◌≡◌, ℕ, ◌+◌, ◌≤◌, true, length, Option, option_map, is_some, IfOk};
 ghost use Rattle.tree_data.specs.Seen.{tree_of};
 ghost use Rattle.tree_data.specs.Trees.{Tree};
 ghost use Rattle.c_parser.specs.declared.kinds.Kind.TheVariants.{Semicolon, CloseParen};
@@ -12,8 +12,8 @@ ghost use Rattle.stmt_parser.specs.Reading as spec;
 ghost use Rattle.stmt_parser.specs.Reading.{HoldsOptional, HoldsTest};
 
 use crate::fronts::ends_expression;
-use c_parser::{Kind, Scope, Stop, expression_at};
-use std::alloc::Global;
+use c_parser::{Kind, Scope, Stop, expression_at, past_expression};
+use std::alloc::{AllocError, Global};
 use tree_data::Expr;
 
 // Nonterminals of expressions (6.5.17, 6.6).
@@ -65,35 +65,71 @@ pub(crate) fn test(alloc: Global, scope: &Scope<'_>, at: u32) -> Result<(Expr, u
     Ok((expr, closing))
 }
 
-// What stands in the parentheses of a `for` behind its first part: two expressions, each if it is there, the numbers of the `;` between them and of
-// the `)`.
-pub(crate) fn tail(
-    alloc: Global,
-    scope: &Scope<'_>,
-    at: u32,
-) -> Result<(Option<Expr>, u32, Option<Expr>, u32), Stop>
-    requires law { PartsLaw }
-    requires size { length scope.now.kinds ≤ 2000000 }
-    requires inside { at ≤ length scope.now.kinds }
-    ensures found { IfOk result (λ r. FoundTail scope.now scope.now at (option_map tree_of r.0) r.1 (option_map tree_of r.2) r.3) }
-    ensures only { (y : Option Tree) → (n : ℕ) → (z : Option Tree) → (c : ℕ) → HoldsOptional scope.now y at n
-        → kind_in scope.now n ≡ Semicolon → HoldsOptional (past_optional scope.now y) z (n + 1) c
-        → kind_in scope.now c ≡ CloseParen
-        → MustGive result (λ r. (option_map tree_of r.0 ≡ y) × (r.1 ≡ n) × (option_map tree_of r.2 ≡ z) × (r.3 ≡ c)) }
+// Whether it is there.
+fn stands(expr: &Option<Expr>) -> bool
+    ensures { result ≡ is_some (option_map tree_of expr.now) }
 {
-    let (test, middle) = match optional(alloc, scope, at) {
+    match expr {
+        Some(_) => true,
+        None => false,
+    }
+}
+
+// The identifiers in force behind an expression, if it is there, that stands from one place to another.
+pub(crate) fn behind<'a>(
+    alloc: Global,
+    scope: Scope<'a>,
+    expr: &Option<Expr>,
+    from: u32,
+    to: u32,
+) -> Result<Scope<'a>, AllocError>
+    ensures size { IfOk result (λ s. length s.kinds ≡ length scope.entry.kinds) }
+    ensures past { IfOk result (λ s. HoldsOptional scope.entry (option_map tree_of expr.now) from to
+        → s ≡ past_optional scope.entry (option_map tree_of expr.now)) }
+{
+    if !stands(expr) {
+        return Ok(scope);
+    }
+    let inside = past_expression(alloc, scope, from, to)?;
+    Ok(inside)
+}
+
+// What stands in the parentheses of a `for` behind its first part: two expressions, each if it is there, the number of the `;` between them, the
+// identifiers in force behind them, and the number of the `)`.
+pub(crate) fn tail<'a>(
+    alloc: Global,
+    scope: Scope<'a>,
+    at: u32,
+) -> Result<(Option<Expr>, u32, Option<Expr>, Scope<'a>, u32), Stop>
+    requires law { PartsLaw }
+    requires size { length scope.kinds ≤ 2000000 }
+    requires inside { at ≤ length scope.kinds }
+    ensures found { IfOk result (λ r. FoundTail scope.entry scope.entry at (option_map tree_of r.0) r.1 (option_map tree_of r.2) r.4) }
+    ensures past { IfOk result (λ r. r.3 ≡ past_optional (past_optional scope.entry (option_map tree_of r.0)) (option_map tree_of r.2)) }
+    ensures only { (y : Option Tree) → (n : ℕ) → (z : Option Tree) → (c : ℕ) → HoldsOptional scope.entry y at n
+        → kind_in scope.entry n ≡ Semicolon → HoldsOptional (past_optional scope.entry y) z (n + 1) c
+        → kind_in scope.entry c ≡ CloseParen
+        → MustGive result (λ r. (option_map tree_of r.0 ≡ y) × (r.1 ≡ n) × (option_map tree_of r.2 ≡ z) × (r.4 ≡ c)) }
+{
+    let (test, middle) = match optional(alloc, &scope, at) {
         Ok(found) => found,
         Err(stop) => return Err(stop),
     };
     let Kind::Semicolon = scope.kind_at(middle) else {
         return Err(Stop::Syntax(middle));
     };
-    let (step, closing) = match optional(alloc, scope, middle + 1) {
+    let Ok(inner) = behind(alloc, scope, &test, at, middle) else {
+        return Err(Stop::NoMemory);
+    };
+    let (step, closing) = match optional(alloc, &inner, middle + 1) {
         Ok(found) => found,
         Err(stop) => return Err(stop),
     };
-    let Kind::CloseParen = scope.kind_at(closing) else {
+    let Kind::CloseParen = inner.kind_at(closing) else {
         return Err(Stop::Syntax(closing));
     };
-    Ok((test, middle, step, closing))
+    let Ok(inside) = behind(alloc, inner, &step, middle + 1, closing) else {
+        return Err(Stop::NoMemory);
+    };
+    Ok((test, middle, step, inside, closing))
 }

@@ -1,6 +1,7 @@
 // Statements, and what blocks consist of (ISO C11 6.8).
 ghost use Rattle.std.specs.Prelude.{◌≡◌, ◌<◌, ◌≤◌, true, length, IfOk, IfErr};
 ghost use Rattle.tree_data.specs.Stated.{stmt_of, item_of};
+ghost use Rattle.tree_data.specs.Statements.{Stated_of};
 ghost use Rattle.c_parser.specs.declared.kinds.Kind.TheVariants as kind;
 ghost use Rattle.c_parser.specs.Parts.{PartsLaw};
 ghost use Rattle.c_parser.specs.Words.{kind_in};
@@ -13,6 +14,7 @@ ghost use Rattle.stmt_parser.specs.Steps.{FoundStep, behind_step};
 use crate::cores::{breaks, continues, expression, goto_label, returns};
 use crate::frames::Progress;
 use crate::fronts::{Front, declares_at, front_at};
+use crate::outside::outside;
 use crate::steps::{
     Step, case_step, default_step, do_step, for_step, if_step, label_step, switch_step, taken,
     while_step,
@@ -43,7 +45,7 @@ fn item<'a>(alloc: Global, scope: Scope<'a>, at: u32) -> Result<(Item, Scope<'a>
         return Ok((item, behind, end));
     }
     match statement(alloc, &scope, at) {
-        Ok((stmt, end)) => Ok((Item::stated(stmt), scope, end)),
+        Ok((stmt, behind, end)) => Ok((Item::stated(stmt), behind, end)),
         Err(stop) => Err(stop),
     }
 }
@@ -81,19 +83,28 @@ pub(crate) fn block(alloc: Global, scope: &Scope<'_>, at: u32) -> Result<(Stmt, 
     }
 }
 
-// A statement in which others stand in braces, or none.
+// A statement in which others stand in braces, or none, and the identifiers in force behind it.
 #[cycle(statements)]
-fn core(alloc: Global, scope: &Scope<'_>, at: u32, front: Front) -> Result<(Stmt, u32), Stop>
+fn core<'a>(
+    alloc: Global,
+    scope: Scope<'a>,
+    at: u32,
+    front: Front,
+) -> Result<(Stmt, Scope<'a>, u32), Stop>
     requires law { PartsLaw }
-    requires size { length scope.now.kinds ≤ 2000000 }
-    requires inside { at ≤ length scope.now.kinds }
-    requires front { spec.IsFront scope.now at front }
+    requires size { length scope.kinds ≤ 2000000 }
+    requires inside { at ≤ length scope.kinds }
+    requires front { spec.IsFront scope at front }
     requires core { spec.IsCore front }
-    ensures found { IfOk result (λ r. FoundStatement scope.now at (stmt_of r.0) r.1) }
-    ensures fails { IfErr result (FailsStatement scope.now at) }
+    ensures found { IfOk result (λ r. FoundStatement scope.entry at (stmt_of r.0) r.2) }
+    ensures past { IfOk result (λ r. r.1 ≡ past_item scope.entry (Stated_of (stmt_of r.0))) }
+    ensures fails { IfErr result (FailsStatement scope.entry at) }
 {
     match front {
-        Front::Block => block(alloc, scope, at),
+        Front::Block => match block(alloc, &scope, at) {
+            Ok((stmt, end)) => Ok((stmt, scope, end)),
+            Err(stop) => Err(stop),
+        },
         Front::Goto => goto_label(scope, at),
         Front::Continue => continues(scope, at),
         Front::Break => breaks(scope, at),
@@ -122,20 +133,22 @@ fn step_at<'a>(alloc: Global, scope: Scope<'a>, at: u32) -> Result<(Step, Scope<
         Front::Default => default_step(scope, at),
         Front::Switch => switch_step(alloc, scope, at),
         Front::While => while_step(alloc, scope, at),
-        _ => match core(alloc, &scope, at, front) {
-            Ok((stmt, end)) => Ok((Step::Whole(stmt), scope, end)),
+        _ => match core(alloc, scope, at, front) {
+            Ok((stmt, behind, end)) => Ok((Step::Whole(stmt), behind, end)),
             Err(stop) => Err(stop),
         },
     }
 }
 
-// A statement, from left to right: what awaits a statement waits on a list of its own, so that only braces need the machine's stack.
+// A statement, from left to right, and the identifiers in force behind it: what awaits a statement waits on a list of its own, so that only
+// braces need the machine's stack.
 #[cycle(statements)]
-fn statement(alloc: Global, scope: &Scope<'_>, at: u32) -> Result<(Stmt, u32), Stop>
+fn statement<'a>(alloc: Global, scope: &Scope<'a>, at: u32) -> Result<(Stmt, Scope<'a>, u32), Stop>
     requires law { PartsLaw }
     requires size { length scope.now.kinds ≤ 2000000 }
     requires inside { at ≤ length scope.now.kinds }
-    ensures found { IfOk result (λ r. FoundStatement scope.now at (stmt_of r.0) r.1) }
+    ensures found { IfOk result (λ r. FoundStatement scope.now at (stmt_of r.0) r.2) }
+    ensures past { IfOk result (λ r. r.1 ≡ past_item scope.now (Stated_of (stmt_of r.0))) }
     ensures fails { IfErr result (FailsStatement scope.now at) }
 {
     let mut frames = Vec::new(alloc);
@@ -144,22 +157,35 @@ fn statement(alloc: Global, scope: &Scope<'_>, at: u32) -> Result<(Stmt, u32), S
         Ok(shared) => shared,
         Err(_) => return Err(Stop::NoMemory),
     };
+    let mut outer = None;
     let mut place = at;
     'steps: loop {
+        let Ok(front) = inner.share() else {
+            return Err(Stop::NoMemory);
+        };
         let (step, behind, next) = match step_at(alloc, inner, place) {
             Ok(found) => found,
             Err(stop) => return Err(stop),
+        };
+        let Ok(known) = outside(outer, front, place, &step, &behind) else {
+            return Err(Stop::NoMemory);
         };
         let progress = match taken(alloc, scope, at, frames, leads, place, step, behind, next) {
             Ok(progress) => progress,
             Err(stop) => return Err(stop),
         };
         match progress {
-            Progress::Whole(stmt, end) => return Ok((stmt, end)),
-            Progress::Goes(more, front, outer, end) => {
+            Progress::Whole(stmt, end) => {
+                let Some(last) = known else {
+                    return Err(Stop::NoMemory);
+                };
+                return Ok((stmt, last, end));
+            }
+            Progress::Goes(more, front, within, end) => {
                 frames = more;
                 leads = front;
-                inner = outer;
+                inner = within;
+                outer = known;
                 place = end;
             }
         }

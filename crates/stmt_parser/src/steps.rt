@@ -7,9 +7,9 @@ ghost use Rattle.c_parser.specs.Words.{kind_in};
 ghost use Rattle.stmt_parser.specs.Found.{FailsStatement};
 ghost use Rattle.stmt_parser.specs.Frames.{Goes, GoesPast};
 ghost use Rattle.stmt_parser.specs.Fronts as spec;
-ghost use Rattle.stmt_parser.specs.Steps.{FoundStep, Stepped, behind_step};
+ghost use Rattle.stmt_parser.specs.Steps.{FoundStep, Stepped, GoesOn, behind_step};
 
-use crate::frames::{Frame, Opener, Progress, close, opened};
+use crate::frames::{Frame, Opener, Progress, close, inside_opener, opened};
 use crate::leads::{case, default_label, for_lead, label, switch, while_test};
 use crate::parts::test;
 use c_parser::{Scope, Stop};
@@ -38,8 +38,8 @@ pub(crate) fn case_step<'a>(
     ensures past { IfOk result (λ r. r.1 ≡ behind_step scope.entry r.0) }
     ensures fails { IfErr result (FailsStatement scope.entry at) }
 {
-    match case(alloc, &scope, at) {
-        Ok((lead, end)) => Ok((Step::Led(lead), scope, end)),
+    match case(alloc, scope, at) {
+        Ok((lead, inside, end)) => Ok((Step::Led(lead), inside, end)),
         Err(stop) => Err(stop),
     }
 }
@@ -74,8 +74,8 @@ pub(crate) fn switch_step<'a>(
     ensures past { IfOk result (λ r. r.1 ≡ behind_step scope.entry r.0) }
     ensures fails { IfErr result (FailsStatement scope.entry at) }
 {
-    match switch(alloc, &scope, at) {
-        Ok((lead, end)) => Ok((Step::Led(lead), scope, end)),
+    match switch(alloc, scope, at) {
+        Ok((lead, inside, end)) => Ok((Step::Led(lead), inside, end)),
         Err(stop) => Err(stop),
     }
 }
@@ -94,8 +94,8 @@ pub(crate) fn while_step<'a>(
     ensures past { IfOk result (λ r. r.1 ≡ behind_step scope.entry r.0) }
     ensures fails { IfErr result (FailsStatement scope.entry at) }
 {
-    match while_test(alloc, &scope, at) {
-        Ok((lead, end)) => Ok((Step::Led(lead), scope, end)),
+    match while_test(alloc, scope, at) {
+        Ok((lead, inside, end)) => Ok((Step::Led(lead), inside, end)),
         Err(stop) => Err(stop),
     }
 }
@@ -180,6 +180,7 @@ pub(crate) fn taken<'a>(
     requires stepped { Stepped scope.now at frames.items (leads_of leads.items) place step behind next }
     ensures goes { IfOk result (Goes scope.now at) }
     ensures forth { IfOk result (GoesPast place) }
+    ensures led { IfOk result (GoesOn step behind.entry next) }
     ensures fails { IfErr result (FailsStatement scope.now at) }
 {
     match step {
@@ -191,11 +192,11 @@ pub(crate) fn taken<'a>(
             Ok(Progress::Goes(frames, leads, behind, next))
         }
         Step::Opened(opener) => {
-            let Ok(shared) = behind.share() else {
+            let Ok(inner) = inside_opener(alloc, &behind, place, &opener) else {
                 return Err(Stop::NoMemory);
             };
-            match opened(frames, leads, place, opener, shared) {
-                Ok(frames) => Ok(Progress::Goes(frames, Vec::new(alloc), behind, next)),
+            match opened(frames, leads, place, opener, behind) {
+                Ok(frames) => Ok(Progress::Goes(frames, Vec::new(alloc), inner, next)),
                 Err(_) => Err(Stop::NoMemory),
             }
         }

@@ -19,18 +19,18 @@ returns-in-None c = record {
 
 pub settle-requires-clause-size : goal.settle-requires-clause-size
 settle-requires-clause-size c =
-    let freed = awaited_less _ _ _ _ _ c.in-Some.ensures _ _ c.frames.invariant.awaited in
+    let freed = awaited_less c.requires.law _ _ _ _ _ c.in-Some.ensures _ _ c.frames.invariant.awaited in
     subst (λ ks. length ks ≤ 2000000) (sym freed.kinds) c.requires.size
 
 pub settle-requires-clause-opens : goal.settle-requires-clause-opens
-settle-requires-clause-opens c = (awaited_less _ _ _ _ _ c.in-Some.ensures _ _ c.frames.invariant.awaited).opens
+settle-requires-clause-opens c = (awaited_less c.requires.law _ _ _ _ _ c.in-Some.ensures _ _ c.frames.invariant.awaited).opens
 
 pub settle-requires-clause-found : goal.settle-requires-clause-found
-settle-requires-clause-found c = (awaited_less _ _ _ _ _ c.in-Some.ensures _ _ c.frames.invariant.awaited).found
+settle-requires-clause-found c = (awaited_less c.requires.law _ _ _ _ _ c.in-Some.ensures _ _ c.frames.invariant.awaited).found
 
 pub frames-preserved : goal.frames-preserved
 frames-preserved c =
-    let freed = awaited_less _ _ _ _ _ c.in-Some.ensures _ _ c.frames.invariant.awaited in
+    let freed = awaited_less c.requires.law _ _ _ _ _ c.in-Some.ensures _ _ c.frames.invariant.awaited in
     let past : c.frames.end ≤ c.in-Whole.next = subst (SettlesPast c.frames.end) c.in-Whole.is c.in-Ok-settle.ensures.forth in
     let before : c.args.end ≤ c.frames.end = c.frames.invariant.forth in
     record {
@@ -42,12 +42,12 @@ frames-preserved c =
 
 pub returns-in-Goes : goal.returns-in-Goes
 returns-in-Goes c =
-    let freed = awaited_less _ _ _ _ _ c.in-Some.ensures _ _ c.frames.invariant.awaited in
+    let freed = awaited_less c.requires.law _ _ _ _ _ c.in-Some.ensures _ _ c.frames.invariant.awaited in
     let past : c.frames.end < c.in-Goes.next = subst (SettlesPast c.frames.end) c.in-Goes.is c.in-Ok-settle.ensures.forth in
     let before : c.args.end ≤ c.frames.end = c.frames.invariant.forth in
     record {
       goes =
-          freed_led _ _ _ _ _ _ freed _ _ _
+          freed_led c.requires.law _ _ _ _ _ _ freed _ _ _
           (subst (Settles freed.base freed.start) c.in-Goes.is (c.in-Ok-settle.ensures.settled freed.base freed.start freed.leading));
       forth = omega (arith, past, before);
       fails = tt;
@@ -58,5 +58,5 @@ returns-in-Err-settle c = record {
   goes = tt;
   forth = tt;
   fails =
-      freed_fails c.requires.law _ _ _ _ _ _ (awaited_less _ _ _ _ _ c.in-Some.ensures _ _ c.frames.invariant.awaited) _ c.in-Err-settle.ensures.fails;
+      freed_fails c.requires.law _ _ _ _ _ _ (awaited_less c.requires.law _ _ _ _ _ c.in-Some.ensures _ _ c.frames.invariant.awaited) _ c.in-Err-settle.ensures.fails;
 }

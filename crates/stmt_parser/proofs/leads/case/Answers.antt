@@ -21,7 +21,7 @@ returns-in_default c = record {
 
 pub returns-in-Ok-case : goal.returns-in-Ok-case
 returns-in-Ok-case c = record {
-  found = subst (λ l. FoundLead c.args.scope.now c.args.at l (c.in-Ok.found.1 + 1)) (sym c.in-Ok-case.ensures) (case_found _ _ c.requires.kind _ _ c.in-Ok.ensures.found (sym c.in-Colon.ensures.kind) c.in-Colon.ensures.inside);
-  past = ap (inside c.args.scope.now) c.in-Ok-case.ensures;
+  found = subst (λ l. FoundLead c.args.scope c.args.at l (c.in-Ok.found.1 + 1)) (sym c.in-Ok-case.ensures) (case_found _ _ c.requires.kind _ _ c.in-Ok.ensures.found (sym c.in-Colon.ensures.kind) c.in-Colon.ensures.inside);
+  past = c.in-Ok-past_expression.ensures.past _ c.in-Ok.ensures.found.reads.1 ∙ sym (ap (inside c.args.scope) c.in-Ok-case.ensures);
   fails = tt;
 }

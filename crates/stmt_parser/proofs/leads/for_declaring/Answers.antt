@@ -22,10 +22,11 @@ returns-in-Err-tail c = record {
 
 pub returns-in-Ok-for_declaring : goal.returns-in-Ok-for_declaring
 returns-in-Ok-for_declaring c = record {
-  found = subst (λ l. FoundLead c.args.scope c.args.at l (c.in-Ok-tail.found.3 + 1)) (sym c.in-Ok-for_declaring.ensures) (declaring_found c.requires.law _ _ c.requires.kind c.requires.opening _ _ c.in-Ok.ensures.found _ c.in-Ok.ensures.past _ _ _ _ c.in-Ok-tail.ensures.found);
+  found = subst (λ l. FoundLead c.args.scope c.args.at l (c.in-Ok-tail.found.4 + 1)) (sym c.in-Ok-for_declaring.ensures) (declaring_found c.requires.law _ _ c.requires.kind c.requires.opening _ _ c.in-Ok.ensures.found _ c.in-Ok.ensures.past _ _ _ _ c.in-Ok-tail.ensures.found);
   past =
       declaring_past
       c.args.scope
+      _
       _
       (heading_of c.in-Ok.found.0)
       c.in-Ok.ensures.past
@@ -34,7 +35,8 @@ returns-in-Ok-for_declaring c = record {
       (option_map tree_of c.in-Ok-tail.found.0)
       c.in-Ok-tail.found.1
       (option_map tree_of c.in-Ok-tail.found.2)
-      c.in-Ok-tail.found.3
+      c.in-Ok-tail.found.4
+      c.in-Ok-tail.ensures.past
       ∙ sym (ap (inside c.args.scope) c.in-Ok-for_declaring.ensures);
   fails = tt;
 }

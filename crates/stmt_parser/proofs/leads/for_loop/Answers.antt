@@ -24,21 +24,26 @@ pub returns-in-Err-tail : goal.returns-in-Err-tail
 returns-in-Err-tail c = record {
   found = tt;
   past = tt;
-  fails = loop_fails c.requires.law _ _ c.requires.kind c.requires.declares _ _ c.in-Ok.ensures.only _ c.in-Err-tail.ensures.only;
+  fails = loop_fails c.requires.law _ _ c.requires.kind c.requires.declares _ _ c.in-Ok.ensures.only _ (c.in-Ok-behind.ensures.past c.in-Ok.ensures.found.reads) _ c.in-Err-tail.ensures.only;
 }
 
 pub returns-in-Ok-for_loop : goal.returns-in-Ok-for_loop
 returns-in-Ok-for_loop c = record {
-  found = subst (λ l. FoundLead c.args.scope.now c.args.at l (c.in-Ok-tail.found.3 + 1)) (sym c.in-Ok-for_loop.ensures) (loop_found _ _ c.requires.kind c.requires.opening _ _ c.in-Ok.ensures.found (sym c.in-Semicolon.ensures.kind) _ _ _ _ c.in-Ok-tail.ensures.found);
-  past = ap (inside c.args.scope.now) c.in-Ok-for_loop.ensures ∙ loop_past
-      c.args.scope.now
+  found = subst (λ l. FoundLead c.args.scope c.args.at l (c.in-Ok-tail.found.4 + 1)) (sym c.in-Ok-for_loop.ensures) (loop_found c.requires.law _ _ c.requires.kind c.requires.opening _ _ c.in-Ok.ensures.found (sym c.in-Semicolon.ensures.kind) _ (c.in-Ok-behind.ensures.past c.in-Ok.ensures.found.reads) _ _ _ _ c.in-Ok-tail.ensures.found);
+  past = loop_past
+      c.args.scope
+      _
+      _
       c.args.at
       (c.args.at + 1)
       (option_map tree_of c.in-Ok.found.0)
+      (c.in-Ok-behind.ensures.past c.in-Ok.ensures.found.reads)
       c.in-Ok.found.1
       (option_map tree_of c.in-Ok-tail.found.0)
       c.in-Ok-tail.found.1
       (option_map tree_of c.in-Ok-tail.found.2)
-      c.in-Ok-tail.found.3;
+      c.in-Ok-tail.found.4
+      c.in-Ok-tail.ensures.past
+      ∙ sym (ap (inside c.args.scope) c.in-Ok-for_loop.ensures);
   fails = tt;
 }

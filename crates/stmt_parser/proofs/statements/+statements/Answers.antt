@@ -1,11 +1,12 @@
-use Rattle.std.proofs.Common.{◌∙◌, sym, ap, subst, ◌+◌}
+use Rattle.std.proofs.Common.{◌∙◌, refl, sym, ap, subst, ◌+◌, None}
 use Rattle.tree_data.specs.Stated.{stmt_of, item_of, leads_of, items_of}
 use Rattle.stmt_parser.specs.Found.{FoundStatement, FoundItem}
 use Rattle.stmt_parser.specs.InForce.{past_item}
 use Rattle.stmt_parser.specs.Bodies.{is_block}
 use Rattle.stmt_parser.specs.Frames.{Goes}
 use Rattle.stmt_parser.proofs.FramesRead.{pending_begins, pending_fails}
-use Rattle.stmt_parser.proofs.StatementsRead.{mapped, declared_found, stated_found, stated_past, declared_fails, stated_fails, blocking_begins, blocking_turns, blocking_fails, blocking_ends}
+use Rattle.stmt_parser.proofs.OutsideRead.{Reaches, block_past, outside_begins, outside_goes, outside_ends}
+use Rattle.stmt_parser.proofs.StatementsRead.{mapped, declared_found, stated_found, declared_fails, stated_fails, blocking_begins, blocking_turns, blocking_fails, blocking_ends}
 use Rattle.stmt_parser.proofs.statements.+statements.Goals as goal
 
 -- items
@@ -41,7 +42,7 @@ item-returns-in-Ok-statement t c = record {
       (λ i. FoundItem c.args.scope c.args.at i c.in-Ok-statement.end)
       (sym c.stated.ensures)
       (stated_found _ _ _ _ c.in-Ok-statement.ensures.found);
-  past = sym (ap (past_item c.args.scope) c.stated.ensures ∙ stated_past c.args.scope (stmt_of c.in-Ok-statement.stmt));
+  past = c.in-Ok-statement.ensures.past ∙ sym (ap (past_item c.args.scope) c.stated.ensures);
   fails = tt;
 }
 
@@ -117,21 +118,49 @@ block-items-preserved t c =
     (ap items_of c.in-Ok-push.ensures.items ∙ mapped item_of _ _)
 
 -- statements
+pub core-returns-in-Ok : goal.core-returns-in-Ok
+core-returns-in-Ok t c = record {
+  found = c.in-Ok.ensures.found;
+  past = block_past c.args.scope (stmt_of c.in-Ok.stmt) c.in-Ok.ensures.braced;
+  fails = tt;
+}
+
 pub statement-steps-init : goal.statement-steps-init
-statement-steps-init t c =
-    pending_begins _ _ c.in-Ok.ensures _ c.requires.inside _ c.new-frames.ensures.items _ (ap leads_of c.new-leads.ensures.items)
+statement-steps-init t c = record {
+  pending =
+      pending_begins c.requires.law _ _ c.in-Ok.ensures _ c.requires.inside _ c.new-frames.ensures.items _ (ap leads_of c.new-leads.ensures.items);
+  outside = outside_begins _ _ c.in-Ok.ensures _ None refl;
+  kinds = ap (λ w. w.kinds) c.in-Ok.ensures;
+  within = c.requires.inside;
+}
 
 pub statement-returns-in-Err-step_at : goal.statement-returns-in-Err-step_at
 statement-returns-in-Err-step_at t c = record {
   found = tt;
-  fails = pending_fails c.requires.law _ _ _ _ _ _ c.steps.invariant _ c.in-Err-step_at.ensures.fails;
+  past = tt;
+  fails = pending_fails c.requires.law _ _ _ _ _ _ c.steps.invariant.pending _ c.in-Err-step_at.ensures.fails;
 }
 
 pub statement-returns-in-Whole : goal.statement-returns-in-Whole
-statement-returns-in-Whole t c = record {
-  found = subst (Goes c.args.scope.now c.args.at) c.in-Whole.is c.in-Ok-taken.ensures.goes;
-  fails = tt;
-}
+statement-returns-in-Whole t c =
+    let found = subst (Goes c.args.scope.now c.args.at) c.in-Whole.is c.in-Ok-taken.ensures.goes in
+    record {
+      found = found;
+      past =
+          outside_ends c.requires.law _ _ _ _ _ c.steps.invariant.outside _ c.in-Ok-share.ensures _ _ c.in-Ok-step_at.ensures.found _
+          c.in-Ok-step_at.ensures.past _ c.in-Ok-outside.ensures _ c.in-Some.is _ _ found;
+      fails = tt;
+    }
 
 pub statement-steps-preserved : goal.statement-steps-preserved
-statement-steps-preserved t c = subst (Goes c.args.scope.now c.args.at) c.in-Goes.is c.in-Ok-taken.ensures.goes
+statement-steps-preserved t c =
+    let pending = subst (Goes c.args.scope.now c.args.at) c.in-Goes.is c.in-Ok-taken.ensures.goes in
+    record {
+      pending = pending;
+      kinds = pending.kinds;
+      within = pending.within;
+      outside =
+          outside_goes c.requires.law _ _ _ _ _ c.steps.invariant.outside _ c.in-Ok-share.ensures _ _ c.in-Ok-step_at.ensures.found _
+          c.in-Ok-step_at.ensures.past _ c.in-Ok-outside.ensures _ c.in-Ok-taken.ensures.led _ _
+          (subst (λ p. Reaches p c.in-Goes.within c.in-Goes.end) (sym c.in-Goes.is) (refl, refl));
+    }
