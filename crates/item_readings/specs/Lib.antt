@@ -1,2 +1,4 @@
 pub mod Readings
+pub mod Search
 pub mod Seen
+pub mod TheReader

@@ -1,5 +1,5 @@
 -- The one tree of an item's head or body as a function of its tokens, and the refusal where there is none (ISO C11 6.7, 6.8.2, 6.9).
-use Rattle.std.specs.Prelude.{◌≡◌, ℕ, List, length, Option, Some, None}
+use Rattle.std.specs.Prelude.{◌≡◌, ℕ, List, length, Option, Some, None, Bool, nat_lt, if◌then◌else◌}
 use Rattle.tok_data.specs.declared.tokens.OutToken.{OutToken}
 use Rattle.tree_data.specs.Trees.{Heading}
 use Rattle.tree_data.specs.Statements.{Statement}
@@ -52,14 +52,21 @@ head_in r w = reading (too_deep w.kinds) (r.head w)
 abbrev pub body_in : Reader → Words → Reading Statement
 body_in r w = reading (too_deep w.kinds) (r.body w)
 
+-- more tokens than any item of a unit has are not read
+abbrev pub most_tokens : ℕ
+most_tokens = 2000000
+
+abbrev pub are_many : List OutToken → Bool
+are_many tokens = nat_lt most_tokens (length tokens)
+
 -- where these names are typedef names in front of the item
 abbrev pub head_reading : Reader → List (List ℕ) → List OutToken → Reading Heading
-head_reading r names tokens = head_in r (words_of names tokens)
+head_reading r names tokens = if are_many tokens then Refused no_tree 0 else head_in r (words_of names tokens)
 
 abbrev pub body_reading : Reader → List (List ℕ) → List OutToken → Reading Statement
-body_reading r names tokens = body_in r (words_of names tokens)
+body_reading r names tokens = if are_many tokens then Refused no_tree 0 else body_in r (words_of names tokens)
 
--- a relation to a reader is one to all
+-- what every reader says
 abbrev pub ReadsHead : List (List ℕ) → List OutToken → Reading Heading → Type 0
 ReadsHead names tokens x = (r : Reader) → IsReader r → x ≡ head_reading r names tokens
 

@@ -1,5 +1,6 @@
 // Laws on readers. They have nothing to run; their contracts are the laws.
-ghost use Rattle.item_readings.specs.Readings.{BodiesAgree};
+ghost use Rattle.item_readings.specs.Readings.{BodiesAgree, IsReader};
+ghost use Rattle.item_readings.specs.TheReader.{the_reader};
 
 use stmt_parser::body_reading_is_unique;
 
@@ -9,3 +10,9 @@ pub fn bodies_agree()
 {
     body_reading_is_unique();
 }
+
+/// There is a reader: one that finds a tree of the grammar wherever there is one.
+#[tactic(auto, using(crate::specs::TheReader::is_reader))]
+pub fn readings_exist()
+    ensures { IsReader the_reader }
+{}

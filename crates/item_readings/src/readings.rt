@@ -1,5 +1,5 @@
 // Heads and bodies of items, read.
-ghost use Rattle.std.specs.Prelude.{◌≤◌, length, IfOk};
+ghost use Rattle.std.specs.Prelude.{IfOk};
 ghost use Rattle.item_readings.specs.Readings as spec;
 ghost use Rattle.item_readings.specs.Seen.{head_seen, body_seen};
 
@@ -31,8 +31,8 @@ pub enum BodyReading {
     Refused(Refusal),
 }
 
-/// The tree of an item's head (ISO C11 6.7, 6.9), as a function of its tokens and of the names that are typedef names in front of it. The tokens
-/// are at most 2,000,000.
+/// The tree of an item's head (ISO C11 6.7, 6.9), as a function of its tokens and of the names that are typedef names in front of it. More than
+/// 2,000,000 tokens, which no item of a unit has, are refused by rule 301 at the first.
 ///
 /// Errors: want of memory.
 pub fn read_head(
@@ -40,9 +40,11 @@ pub fn read_head(
     tokens: &[OutToken],
     names: &NameSet,
 ) -> Result<HeadReading, AllocError>
-    requires size { length tokens.now ≤ 2000000 }
     ensures reading { IfOk result (λ x. spec.ReadsHead names.now tokens.now (head_seen x)) }
 {
+    if tokens.len() > 2_000_000 {
+        return Ok(HeadReading::Refused(Refusal { rule: 301, at: 0 }));
+    }
     match parse_head(alloc, tokens, names) {
         Ok(head) => Ok(HeadReading::Tree(head)),
         Err(ParseError::Syntax(at)) => Ok(HeadReading::Refused(Refusal { rule: 301, at })),
@@ -59,9 +61,11 @@ pub fn read_body(
     tokens: &[OutToken],
     names: &NameSet,
 ) -> Result<BodyReading, AllocError>
-    requires size { length tokens.now ≤ 2000000 }
     ensures reading { IfOk result (λ x. spec.ReadsBody names.now tokens.now (body_seen x)) }
 {
+    if tokens.len() > 2_000_000 {
+        return Ok(BodyReading::Refused(Refusal { rule: 301, at: 0 }));
+    }
     match parse_body(alloc, tokens, names) {
         Ok(body) => Ok(BodyReading::Tree(body)),
         Err(ParseError::Syntax(at)) => Ok(BodyReading::Refused(Refusal { rule: 301, at })),

@@ -1,0 +1,16 @@
+pub mod AllParts
+pub mod AllStatements
+pub mod Deciding
+pub mod Declarators
+pub mod Derivings
+pub mod Expressions
+pub mod Heads
+pub mod Initials
+pub mod Leads
+pub mod Lists
+pub mod Members
+pub mod Operators
+pub mod Searches
+pub mod Specifiers
+pub mod StatementSearches
+pub mod Statements
