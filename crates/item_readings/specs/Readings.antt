@@ -73,6 +73,9 @@ ReadsHead names tokens x = (r : Reader) → IsReader r → x ≡ head_reading r 
 abbrev pub ReadsBody : List (List ℕ) → List OutToken → Reading Statement → Type 0
 ReadsBody names tokens x = (r : Reader) → IsReader r → x ≡ body_reading r names tokens
 
--- any two readers say the same of the words of bodies
+-- any two readers say the same of the words of heads, and of those of bodies
+abbrev pub HeadsAgree : Type 0
+HeadsAgree = (r s : Reader) → IsReader r → IsReader s → (w : Words) → r.head w ≡ s.head w
+
 abbrev pub BodiesAgree : Type 0
 BodiesAgree = (r s : Reader) → IsReader r → IsReader s → (w : Words) → r.body w ≡ s.body w

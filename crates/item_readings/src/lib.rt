@@ -4,5 +4,5 @@
 mod laws;
 mod readings;
 
-pub use laws::{bodies_agree, readings_exist};
+pub use laws::{bodies_agree, heads_agree, readings_exist};
 pub use readings::{BodyReading, HeadReading, Refusal, read_body, read_head};

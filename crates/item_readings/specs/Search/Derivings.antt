@@ -1,13 +1,14 @@
 -- Arrays, functions and their parameters (ISO C11 6.7.6, 6.7.7).
-use Rattle.std.proofs.Common.{◌≡◌, refl, ℕ, suc, ◌+◌, ◌≤◌, arith, List, length, true}
+use Rattle.std.proofs.Common.{◌≡◌, refl, ℕ, suc, ◌+◌, ◌≤◌, arith, List, length, true, false}
 use Rattle.tree_data.specs.Trees.{Tree, Naming, No_parameters, Fixed_of, Variadic_of, Names_of, Parameters, Row, No_more, Parameter_then, Deriving, Array_of, Function_of, Derivings, No_derivings, Deriving_then, Bound, Unsized_of, Any_size_of, Sized_of, Static_sized_of, Sized_static_of}
 use Rattle.c_parser.specs.declared.kinds.Kind.{Kind}
 use Rattle.c_parser.specs.declared.kinds.Kind.TheVariants.{CloseBracket, CloseParen, Comma, Ellipsis, Identifier, OpenBracket, OpenParen, Star, Static}
+use Rattle.c_parser.specs.Enumerations.{bars}
 use Rattle.c_parser.specs.Declarators.{AreThere}
 use Rattle.c_parser.specs.Grammar.{past}
 use Rattle.c_parser.specs.Kinds.{kind_at}
 use Rattle.c_parser.specs.Reading.{HoldQualifiers, HoldNames, HoldsNaming, HoldsDeriving, HoldDerivings, HoldParameters, HoldRow, HoldsBound, Reads}
-use Rattle.item_readings.specs.Search.Deciding.{and_then, at_place, first, dec_kind, dec_there}
+use Rattle.item_readings.specs.Search.Deciding.{and_then, at_place, first, dec_bool, dec_kind, dec_there}
 use Rattle.item_readings.specs.Search.Searches.{Search, Within, weight, tree_rank, Searches, next, stays, past_length, inside_kind}
 
 abbrev Deriving_one_array_plan : List Kind → ℕ → (Deriving → ℕ → Type 0) → Type 0
@@ -39,7 +40,8 @@ Deriving_one_function_plan ks a Goal =
     × ((ps : Parameters) × (c : ℕ) × HoldParameters ks ps (a + 1) c
     × ((kind_at ks c ≡ CloseParen)
     × ((b : ℕ) × (b ≡ c + 1)
-    × (Goal (Function_of o ps c) b)))))
+    × ((bars ks o c ≡ false)
+    × (Goal (Function_of o ps c) b))))))
 
 deriving_one_function_decided : (size fuel : ℕ) → Searches size fuel → (ks : List Kind) → length ks ≡ size → (a : ℕ)
     → weight size a + 1 ≤ suc fuel
@@ -52,21 +54,22 @@ deriving_one_function_decided size fuel searches ks long a left Goal found =
     searches.parameters ks long (a + 1) (next size fuel a (a + 1) 1 12 (inside_kind ks size a long OpenParen refl x1) (omega arith) (omega arith) left) _ (λ ps c x2 w2.
     and_then (dec_kind (kind_at ks c) CloseParen refl) (λ x3.
     at_place (c + 1) (
-    found (Function_of a ps c) (c + 1) (refl, x1, x2, x3, refl) (record { forth = omega (arith, w2); inside = (inside_kind ks size a long OpenParen refl x1) }))))))
+    and_then (dec_bool (bars ks a c) false) (λ x5.
+    found (Function_of a ps c) (c + 1) (refl, x1, x2, x3, refl, x5) (record { forth = omega (arith, w2); inside = (inside_kind ks size a long OpenParen refl x1) })))))))
 
 no_deriving_one : (ks : List Kind) → (a : ℕ) → (Goal : Deriving → ℕ → Type 0)
     → (Deriving_one_array_plan ks a Goal → ⊥)
     → (Deriving_one_function_plan ks a Goal → ⊥)
     → (t : Deriving) → (e : ℕ) → HoldsDeriving ks t a e → Goal t e → ⊥
 no_deriving_one ks a Goal n0 n1 (Array_of o x c) b h p0 = n0 (o, h.0, (h.1, (x, c, h.2, (h.3, (b, h.4, p0)))))
-no_deriving_one ks a Goal n0 n1 (Function_of o ps c) b h p0 = n1 (o, h.0, (h.1, (ps, c, h.2, (h.3, (b, h.4, p0)))))
+no_deriving_one ks a Goal n0 n1 (Function_of o ps c) b h p0 = n1 (o, h.0, (h.1, (ps, c, h.2, (h.3, (b, h.4, (h.5, p0))))))
 
 pub deriving_one : (size fuel : ℕ) → Searches size fuel → (ks : List Kind) → length ks ≡ size → (a : ℕ)
     → weight size a + 1 ≤ suc fuel
     → Search Deriving (λ t e. HoldsDeriving ks t a e) (λ t e. Within size a e)
 deriving_one size fuel searches ks long a left Goal found =
     first (deriving_one_array_decided size fuel searches ks long a left Goal found) (λ z. ((Array_of z.0 z.2.1.0 z.2.1.1), z.2.1.3.1.0, (z.1, z.2.0, z.2.1.2, z.2.1.3.0, z.2.1.3.1.1), z.2.1.3.1.2)) (λ n0.
-    first (deriving_one_function_decided size fuel searches ks long a left Goal found) (λ z. ((Function_of z.0 z.2.1.0 z.2.1.1), z.2.1.3.1.0, (z.1, z.2.0, z.2.1.2, z.2.1.3.0, z.2.1.3.1.1), z.2.1.3.1.2)) (λ n1.
+    first (deriving_one_function_decided size fuel searches ks long a left Goal found) (λ z. ((Function_of z.0 z.2.1.0 z.2.1.1), z.2.1.3.1.0, (z.1, z.2.0, z.2.1.2, z.2.1.3.0, z.2.1.3.1.1, z.2.1.3.1.2.0), z.2.1.3.1.2.1)) (λ n1.
     no (λ z. no_deriving_one ks a Goal n0 n1 z.0 z.1 z.2 z.3)))
 
 abbrev Derivings_no_derivings_plan : List Kind → ℕ → (Derivings → ℕ → Type 0) → Type 0

@@ -6,14 +6,14 @@ use Rattle.c_parser.specs.declared.kinds.Kind.TheVariants.{Case, CloseParen, Col
 use Rattle.c_parser.specs.Kinds.{is_word}
 use Rattle.c_parser.specs.Parts.{HoldsDeclaration, past_tree, past_declaration}
 use Rattle.c_parser.specs.Reading.{Reads}
-use Rattle.c_parser.specs.Words.{Words, shown, kind_in}
+use Rattle.c_parser.specs.Words.{Words, shown, shown_from, kind_in}
 use Rattle.stmt_parser.specs.InForce.{past_optional, inside}
 use Rattle.stmt_parser.specs.Reading.{HoldsOptional, HoldsTest, HoldsStatement, HoldsLead, HoldLeads}
 use Rattle.item_readings.specs.Search.Deciding.{and_then, at_place, first, dec_bool, dec_kind}
 use Rattle.item_readings.specs.Search.AllParts.{any_tree}
 use Rattle.item_readings.specs.Search.Heads.{shown_long, any_declaration}
 use Rattle.item_readings.specs.Search.Searches.{Search, Within, weight, next, stays, inside_kind, inside_test}
-use Rattle.item_readings.specs.Search.StatementSearches.{inside_long, optional, Tested, tested, Searches}
+use Rattle.item_readings.specs.Search.StatementSearches.{past_tree_long, inside_long, optional, Tested, tested, Searches}
 
 abbrev Lead_label_plan : Words → ℕ → (Lead → ℕ → Type 0) → Type 0
 Lead_label_plan w a Goal =
@@ -39,7 +39,7 @@ abbrev Lead_case_plan : Words → ℕ → (Lead → ℕ → Type 0) → Type 0
 Lead_case_plan w a Goal =
     (k : ℕ) × (k ≡ a)
     × ((kind_in w a ≡ Case)
-    × ((t : Tree) × (c : ℕ) × Reads (shown w) 3 t (a + 1) c
+    × ((t : Tree) × (c : ℕ) × Reads (shown_from w (a + 1)) 3 t (a + 1) c
     × ((kind_in w c ≡ Colon)
     × ((b : ℕ) × (b ≡ c + 1)
     × (Goal (Case_of k t c) b)))))
@@ -50,7 +50,7 @@ lead_case_decided : (size fuel : ℕ) → Searches size fuel → (w : Words) →
 lead_case_decided size fuel searches w long a left Goal found =
     at_place a (
     and_then (dec_kind (kind_in w a) Case refl) (λ x1.
-    any_tree (shown w) 3 (a + 1) _ (λ t c x2 u2.
+    any_tree (shown_from w (a + 1)) 3 (a + 1) _ (λ t c x2 u2.
     and_then (dec_kind (kind_in w c) Colon refl) (λ x3.
     at_place (c + 1) (
     found (Case_of a t c) (c + 1) (refl, x1, x2, x3, refl) (record { forth = omega (arith, u2.forth); inside = (inside_kind (shown w) size a (shown_long w size long) Case refl x1) }))))))
@@ -109,7 +109,7 @@ lead_if_else_decided size fuel searches w long a left Goal found =
     at_place a (
     and_then (dec_kind (kind_in w a) If refl) (λ x1.
     tested w (a + 1) _ (λ q m x2 u2.
-    searches.statement (past_tree w q.1) long m (next size fuel a m 1 4 (inside_kind (shown w) size a (shown_long w size long) If refl x1) (omega (arith, u2)) (omega arith) left) _ (λ s e x3 u3.
+    searches.statement (past_tree w q.1) (past_tree_long w size q.1 long) m (next size fuel a m 1 4 (inside_kind (shown w) size a (shown_long w size long) If refl x1) (omega (arith, u2)) (omega arith) left) _ (λ s e x3 u3.
     and_then (dec_bool (is_closed s) true) (λ x4.
     and_then (dec_kind (kind_in w e) Else refl) (λ x5.
     at_place (e + 1) (

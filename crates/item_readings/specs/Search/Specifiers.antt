@@ -2,7 +2,7 @@
 use Rattle.std.proofs.Common.{◌≡◌, refl, ℕ, suc, ◌+◌, ◌≤◌, ◌||◌, arith, List, length, Bool, true, false, Option}
 use Rattle.tree_data.specs.Trees.{Tree, Specifying, Word_of, Typedef_of, Tag_of, Atomic_of, Specifyings, No_specifiers, Specifier_then, Naming, Aligned_as_of, Aligned_of, Members_of, Enumerators_of, Members, Enumerator, Counted_of, Given_of, Enumerators, No_enumerators, Enumerator_then}
 use Rattle.c_parser.specs.declared.kinds.Kind.{Kind}
-use Rattle.c_parser.specs.declared.kinds.Kind.TheVariants.{Align, Atomic, CloseBrace, CloseParen, Comma, Enum, Identifier, OpenBrace, OpenParen, Tag}
+use Rattle.c_parser.specs.declared.kinds.Kind.TheVariants.{Align, Atomic, CloseBrace, CloseParen, Comma, Enum, OpenBrace, OpenParen, Tag}
 use Rattle.c_parser.specs.Grammar.{has_type, HasMembers}
 use Rattle.c_parser.specs.Kinds.{kind_at, is_word, is_equals, specifies_at, is_typedef, is_tagging}
 use Rattle.c_parser.specs.Reading.{HoldsComma, HoldsTag, HoldSpecifying, HoldSpecifyings, HoldsEnumerator, HoldEnumerators, HoldMembers, HoldsNaming, Reads}
@@ -288,7 +288,7 @@ specifyings size fuel searches ks long typed a left Goal found =
 abbrev Enumerator_counted_plan : List Kind → ℕ → (Enumerator → ℕ → Type 0) → Type 0
 Enumerator_counted_plan ks a Goal =
     (n : ℕ) × (n ≡ a)
-    × ((kind_at ks a ≡ Identifier)
+    × ((is_word (kind_at ks a) ≡ true)
     × ((b : ℕ) × (b ≡ a + 1)
     × (Goal (Counted_of n) b)))
 
@@ -299,14 +299,14 @@ enumerator_counted_decided : (size fuel : ℕ) → Searches size fuel → (ks : 
     → Dec (Enumerator_counted_plan ks a Goal)
 enumerator_counted_decided size fuel searches ks long a left Goal found =
     at_place a (
-    and_then (dec_kind (kind_at ks a) Identifier refl) (λ x1.
+    and_then (dec_bool (is_word (kind_at ks a)) true) (λ x1.
     at_place (a + 1) (
-    found (Counted_of a) (a + 1) (refl, x1, refl) (record { forth = omega arith; inside = (inside_kind ks size a long Identifier refl x1) }))))
+    found (Counted_of a) (a + 1) (refl, x1, refl) (record { forth = omega arith; inside = (inside_test ks size a long is_word refl x1) }))))
 
 abbrev Enumerator_given_plan : List Kind → ℕ → (Enumerator → ℕ → Type 0) → Type 0
 Enumerator_given_plan ks a Goal =
     (n : ℕ) × (n ≡ a)
-    × ((kind_at ks a ≡ Identifier)
+    × ((is_word (kind_at ks a) ≡ true)
     × ((q : ℕ) × (q ≡ a + 1)
     × ((is_equals (kind_at ks q) ≡ true)
     × ((t : Tree) × (b : ℕ) × Reads ks 3 t (q + 1) b
@@ -319,11 +319,11 @@ enumerator_given_decided : (size fuel : ℕ) → Searches size fuel → (ks : Li
     → Dec (Enumerator_given_plan ks a Goal)
 enumerator_given_decided size fuel searches ks long a left Goal found =
     at_place a (
-    and_then (dec_kind (kind_at ks a) Identifier refl) (λ x1.
+    and_then (dec_bool (is_word (kind_at ks a)) true) (λ x1.
     at_place (a + 1) (
     and_then (dec_bool (is_equals (kind_at ks (a + 1))) true) (λ x3.
-    searches.tree ks long 3 ((a + 1) + 1) (next size fuel a ((a + 1) + 1) 1 (tree_rank 3) (inside_kind ks size a long Identifier refl x1) (omega arith) (omega arith) left) _ (λ t b x4 w4.
-    found (Given_of a (a + 1) t) b (refl, x1, refl, x3, x4.0, x4.1) (record { forth = omega (arith, w4.forth); inside = (inside_kind ks size a long Identifier refl x1) }))))))
+    searches.tree ks long 3 ((a + 1) + 1) (next size fuel a ((a + 1) + 1) 1 (tree_rank 3) (inside_test ks size a long is_word refl x1) (omega arith) (omega arith) left) _ (λ t b x4 w4.
+    found (Given_of a (a + 1) t) b (refl, x1, refl, x3, x4.0, x4.1) (record { forth = omega (arith, w4.forth); inside = (inside_test ks size a long is_word refl x1) }))))))
 
 no_enumerator : (ks : List Kind) → (a : ℕ) → (Goal : Enumerator → ℕ → Type 0)
     → (Enumerator_counted_plan ks a Goal → ⊥)

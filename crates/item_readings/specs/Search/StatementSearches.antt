@@ -3,29 +3,36 @@ use Rattle.std.proofs.Common.{◌≡◌, refl, ap, subst, ◌∙◌, ℕ, ◌+�
 use Rattle.tree_data.specs.Trees.{Tree}
 use Rattle.tree_data.specs.Statements.{Statement, Statement_of, Core, Block_of, Expression_of, Goto_of, Continue_of, Break_of, Return_of, Do_of, Lead, Label_of, Case_of, Default_label_of, If_of, If_else_of, Switch_of, While_of, For_of, For_declaring_of, Leads, No_leads, Lead_then, Item, Declared_of, Stated_of, Items}
 use Rattle.c_parser.specs.declared.kinds.Kind.TheVariants.{CloseParen, OpenParen}
-use Rattle.c_parser.specs.Parts.{past_declaration}
+use Rattle.c_parser.specs.Grammar.{spell}
+use Rattle.c_parser.specs.Parts.{past_tree, past_declaration}
 use Rattle.c_parser.specs.Reading.{Reads}
-use Rattle.c_parser.specs.Words.{Words, shown, kind_in}
+use Rattle.c_parser.specs.Words.{Words, shown_from, kind_in}
 use Rattle.stmt_parser.specs.InForce.{past_optional, inside, all_inside, is_label, past_core, past_led, past_item}
 use Rattle.stmt_parser.specs.Reading.{HoldsOptional, HoldsTest, HoldsStatement, HoldsCore, HoldsLead, HoldLeads, HoldsItem, HoldItems}
 use Rattle.item_readings.specs.Search.Deciding.{and_then, at_place, first, dec_kind}
 use Rattle.item_readings.specs.Search.AllParts.{any_tree}
-use Rattle.item_readings.specs.Search.Heads.{past_head_kinds}
+use Rattle.item_readings.specs.Search.Heads.{past_numbers_kinds, past_head_kinds}
 use Rattle.item_readings.specs.Search.Searches.{Search, Within, weight}
 
 -- inside and behind parts the tokens are as many
+past_tree_kinds : (w : Words) → (t : Tree) → (past_tree w t).kinds ≡ w.kinds
+past_tree_kinds w t = past_numbers_kinds w (spell t)
+
+pub past_tree_long : (w : Words) → (size : ℕ) → (t : Tree) → length w.kinds ≡ size → length (past_tree w t).kinds ≡ size
+past_tree_long w size t long = ap length (past_tree_kinds w t) ∙ long
+
 past_optional_kinds : (w : Words) → (o : Option Tree) → (past_optional w o).kinds ≡ w.kinds
 past_optional_kinds w None = refl
-past_optional_kinds w (Some t) = refl
+past_optional_kinds w (Some t) = past_tree_kinds w t
 
 inside_kinds : (w : Words) → (l : Lead) → (inside w l).kinds ≡ w.kinds
 inside_kinds w (Label_of n c) = refl
-inside_kinds w (Case_of k t c) = refl
+inside_kinds w (Case_of k t c) = past_tree_kinds w t
 inside_kinds w (Default_label_of k c) = refl
-inside_kinds w (If_of k o t c) = refl
-inside_kinds w (If_else_of k o t c s e) = refl
-inside_kinds w (Switch_of k o t c) = refl
-inside_kinds w (While_of k o t c) = refl
+inside_kinds w (If_of k o t c) = past_tree_kinds w t
+inside_kinds w (If_else_of k o t c s e) = past_tree_kinds w t
+inside_kinds w (Switch_of k o t c) = past_tree_kinds w t
+inside_kinds w (While_of k o t c) = past_tree_kinds w t
 inside_kinds w (For_of k o x m y n z c) =
     past_optional_kinds (past_optional (past_optional w x) y) z ∙ (past_optional_kinds (past_optional w x) y ∙ past_optional_kinds w x)
 inside_kinds w (For_declaring_of k o d y n z c) =
@@ -67,14 +74,14 @@ past_item_long w size i long = ap length (past_item_kinds w i) ∙ long
 
 -- expression opt
 no_optional : (w : Words) → (a : ℕ) → (Goal : Option Tree → ℕ → Type 0) → (Goal None a → ⊥)
-    → ((t : Tree) × (e : ℕ) × Reads (shown w) 1 t a e × Goal (Some t) e → ⊥) → (o : Option Tree) → (e : ℕ) → HoldsOptional w o a e → Goal o e → ⊥
+    → ((t : Tree) × (e : ℕ) × Reads (shown_from w a) 1 t a e × Goal (Some t) e → ⊥) → (o : Option Tree) → (e : ℕ) → HoldsOptional w o a e → Goal o e → ⊥
 no_optional w a Goal n0 n1 None e h p = n0 (subst (λ x. Goal None x) h p)
 no_optional w a Goal n0 n1 (Some t) e h p = n1 (t, e, h, p)
 
 pub optional : (w : Words) → (a : ℕ) → Search (Option Tree) (λ o e. HoldsOptional w o a e) (λ o e. a ≤ e)
 optional w a Goal found =
     first (found None a refl (omega arith)) (λ p. (None, a, refl, p)) (λ n0.
-    first (any_tree (shown w) 1 a (λ t e. Goal (Some t) e) (λ t e x u. found (Some t) e x (omega (arith, u.forth)))) (λ z. (Some z.0, z.1, z.2, z.3)) (λ n1.
+    first (any_tree (shown_from w a) 1 a (λ t e. Goal (Some t) e) (λ t e x u. found (Some t) e x (omega (arith, u.forth)))) (λ z. (Some z.0, z.1, z.2, z.3)) (λ n1.
     no (λ z. no_optional w a Goal n0 n1 z.0 z.1 z.2 z.3)))
 
 -- ( expression )
@@ -85,7 +92,7 @@ abbrev Tested_plan : Words → ℕ → (Tested → ℕ → Type 0) → Type 0
 Tested_plan w a Goal =
     (o : ℕ) × (o ≡ a)
     × ((kind_in w a ≡ OpenParen)
-    × ((t : Tree) × (c : ℕ) × Reads (shown w) 1 t (a + 1) c
+    × ((t : Tree) × (c : ℕ) × Reads (shown_from w (a + 1)) 1 t (a + 1) c
     × ((kind_in w c ≡ CloseParen)
     × ((b : ℕ) × (b ≡ c + 1)
     × Goal (o, t, c) b))))
@@ -96,7 +103,7 @@ tested w a Goal found =
     (let plan : Dec (Tested_plan w a Goal) =
     at_place a (
     and_then (dec_kind (kind_in w a) OpenParen refl) (λ x1.
-    any_tree (shown w) 1 (a + 1) _ (λ t c x2 u2.
+    any_tree (shown_from w (a + 1)) 1 (a + 1) _ (λ t c x2 u2.
     and_then (dec_kind (kind_in w c) CloseParen refl) (λ x3.
     at_place (c + 1) (
     found (a, t, c) (c + 1) (refl, x1, x2, x3, refl) (omega (arith, u2.forth))))))) in
