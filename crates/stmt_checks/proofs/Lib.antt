@@ -1,0 +1,4 @@
+mod Bodies
+mod Headings
+mod Lacking
+pub mod Moving

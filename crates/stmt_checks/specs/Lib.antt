@@ -1,0 +1,10 @@
+pub mod Acting
+pub mod Begun
+pub mod Halts
+pub mod Heads
+pub mod Labels
+pub mod Meanings
+pub mod Moves
+pub mod Standings
+pub mod Then
+pub mod TypeNames

@@ -1,0 +1,17 @@
+// Heads and bodies of functions (ISO C11 6.7, 6.8, 6.9): what they ask, and what they mean; of a body what each step of it asks and changes, one
+// after another.
+#![tactic(auto)]
+
+mod acting;
+mod begun;
+mod checking;
+mod halted;
+mod heading;
+mod labels;
+mod meaning;
+mod standing;
+mod steps;
+mod type_names;
+
+pub use checking::check_body;
+pub use heading::elab_head;
