@@ -1,4 +1,5 @@
 mod Bodies
+mod Folds
 mod Headings
 mod Lacking
 pub mod Moving

@@ -1,5 +1,7 @@
 pub mod Acting
 pub mod Begun
+pub mod Folding
+pub mod Folds
 pub mod Halts
 pub mod Heads
 pub mod Labels

@@ -5,6 +5,7 @@
 mod acting;
 mod begun;
 mod checking;
+mod folding;
 mod halted;
 mod heading;
 mod labels;
@@ -14,4 +15,5 @@ mod steps;
 mod type_names;
 
 pub use checking::check_body;
+pub use folding::fold_items;
 pub use heading::elab_head;

@@ -1,0 +1,235 @@
+// The items of a unit, one after another (ISO C11 5.1.1.1, 6.9).
+ghost use Rattle.std.specs.Prelude.{◌≡◌, ◌<◌, ◌≤◌, List, [], ◌∷◌, ◌++◌, drop, take, length, IfOk, IsTrue, OnOk};
+ghost use Rattle.std.specs.List.{list_any};
+ghost use Rattle.earlier_items.specs.Before.{AreBefore};
+ghost use Rattle.item_cut.specs.Items.{body_at};
+ghost use Rattle.item_readings.specs.Readings.{IsReader, Reader};
+ghost use Rattle.scope_tables.specs.declared.meanings.HeadMeaning.{HeadMeaning as Meaning};
+ghost use Rattle.stmt_checks.specs.Folding.{folded_of};
+ghost use Rattle.stmt_checks.specs.Folds as spec;
+
+use crate::checking::check_body;
+use crate::heading::elab_head;
+use earlier_items::Earlier;
+use elab_state::Elab;
+use item_cut::body_start;
+use item_readings::readings_exist;
+use scope_tables::{BodyMeaning, HeadMeaning, UnitMeaning};
+use std::alloc::{AllocError, Global};
+use tok_data::{FileId, OutToken, TokId};
+use type_data::{Fault, ItemName};
+use unit_items::{Item, items_of};
+use unit_meaning::meaning_of;
+
+// What the items so far mean.
+#[derive(Drop)]
+pub(crate) struct Folding {
+    earlier: Earlier,
+    heads: Vec<HeadMeaning>,
+    bodies: Vec<BodyMeaning>,
+}
+
+fn behind(tokens: &[OutToken], at: usize) -> &[OutToken]
+    ensures tokens { result.now ≡ drop at tokens.now }
+    ensures short { length result.now ≤ length tokens.now }
+{
+    if at <= tokens.len() {
+        return tokens.split_at(at).1;
+    }
+    &[]
+}
+
+fn front(tokens: &[OutToken], len: usize) -> &[OutToken]
+    ensures tokens { result.now ≡ take len tokens.now }
+    ensures short { length result.now ≤ length tokens.now }
+{
+    if len <= tokens.len() {
+        return tokens.split_at(len).0;
+    }
+    tokens
+}
+
+fn own<'a>(tokens: &'a [OutToken], item: &Item) -> &'a [OutToken]
+    ensures tokens { result.now ≡ spec.own tokens.now item.now }
+    ensures short { length result.now ≤ length tokens.now }
+{
+    let len = item.end.saturating_sub(item.start);
+    front(behind(tokens, item.start as usize), len as usize)
+}
+
+fn head(
+    alloc: Global,
+    name: &ItemName,
+    tokens: &[OutToken],
+    earlier: &Earlier,
+) -> Result<HeadMeaning, AllocError>
+    ensures { IfOk result (λ h. (r : Reader) → IsReader r → (hs : List Meaning) → AreBefore hs earlier.now → h ≡ spec.head_of r name.now tokens.now hs) }
+{
+    readings_exist();
+    let elab = elab_head(alloc, name, tokens, earlier.known())?;
+    match elab {
+        Elab::Done(meaning) => Ok(meaning),
+        Elab::Need(_) => unreachable!(),
+    }
+}
+
+fn body(
+    alloc: Global,
+    tokens: &[OutToken],
+    base: u32,
+    head: &HeadMeaning,
+    earlier: &Earlier,
+) -> Result<BodyMeaning, AllocError>
+    ensures { IfOk result (λ b. (r : Reader) → IsReader r → (hs : List Meaning) → AreBefore hs earlier.now → b ≡ spec.body_of r head.now.item tokens.now base head.now hs) }
+{
+    readings_exist();
+    let elab = check_body(alloc, tokens, base, head, earlier.known())?;
+    match elab {
+        Elab::Done(meaning) => Ok(meaning),
+        Elab::Need(_) => unreachable!(),
+    }
+}
+
+fn is_syntax(fault: &Fault) -> bool
+    ensures { result ≡ spec.is_syntax fault.now }
+{
+    fault.rule == 301 || (fault.rule == 302 || fault.rule == 303)
+}
+
+fn are_syntax(faults: &[Fault]) -> bool
+    ensures { result ≡ list_any spec.is_syntax faults.now }
+{
+    faults.iter().any(|fault| is_syntax(fault))
+}
+
+#[tactic(auto, unfolding(crate::specs::Folds::is_read))]
+fn is_read(head: &HeadMeaning) -> bool
+    ensures { result ≡ spec.is_read head.now }
+{
+    !are_syntax(head.faults.as_slice())
+}
+
+fn is_checked(tokens: &[OutToken], at: usize, head: &HeadMeaning) -> bool
+    requires at { at ≡ body_at tokens.now }
+    ensures checked { result ≡ spec.is_checked tokens.now head.now }
+    ensures inside { IsTrue result → at < length tokens.now }
+{
+    at < tokens.len() && is_read(head)
+}
+
+// The body of an item, behind this head and at this token of the item.
+fn body_at(
+    alloc: Global,
+    tokens: &[OutToken],
+    at: usize,
+    head: &HeadMeaning,
+    earlier: &Earlier,
+) -> Result<BodyMeaning, AllocError>
+    requires at { at ≡ body_at tokens.now }
+    requires inside { at < length tokens.now }
+    requires size { length tokens.now ≤ 2000000 }
+    ensures { IfOk result (λ b. (r : Reader) → IsReader r → (hs : List Meaning) → AreBefore hs earlier.now → b ≡ spec.body r tokens.now head.now hs) }
+{
+    match body(alloc, behind(tokens, at), at as u32, head, earlier) {
+        Ok(meaning) => Ok(meaning),
+        Err(error) => Err(error),
+    }
+}
+
+fn add_body(
+    alloc: Global,
+    bodies: &mut Vec<BodyMeaning>,
+    tokens: &[OutToken],
+    at: usize,
+    head: &HeadMeaning,
+    earlier: &Earlier,
+) -> Result<(), AllocError>
+    requires at { at ≡ body_at tokens.now }
+    requires size { length tokens.now ≤ 2000000 }
+    ensures { OnOk result ((r : Reader) → IsReader r → (hs : List Meaning) → AreBefore hs earlier.now → bodies.new.items ≡ spec.with_bodies r tokens.now head.now hs bodies.old.items) }
+{
+    if !is_checked(tokens, at, head) {
+        return Ok(());
+    }
+    let meaning = body_at(alloc, tokens, at, head, earlier)?;
+    bodies.push(meaning)?;
+    Ok(())
+}
+
+impl Folding {
+    fn new(alloc: Global) -> Folding
+        ensures known { AreBefore [] result.earlier }
+        ensures items { folded_of result ≡ spec.nothing }
+    {
+        Folding {
+            earlier: Earlier::new(alloc),
+            heads: Vec::new(alloc),
+            bodies: Vec::new(alloc),
+        }
+    }
+
+    // An item's head is known from now on.
+    fn add_head(&mut self, alloc: Global, head: HeadMeaning) -> Result<(), AllocError>
+        ensures known { OnOk result ((hs : List Meaning) → AreBefore hs self.old.earlier → AreBefore (hs ++ head ∷ []) self.new.earlier) }
+        ensures heads { OnOk result (self.new.heads.items ≡ self.old.heads.items ++ head ∷ []) }
+        ensures bodies { OnOk result (self.new.bodies.items ≡ self.old.bodies.items) }
+    {
+        self.earlier.add(alloc, &head)?;
+        self.heads.push(head)?;
+        Ok(())
+    }
+
+    // The next item.
+    fn add(&mut self, alloc: Global, name: &ItemName, tokens: &[OutToken]) -> Result<(), AllocError>
+        requires known { AreBefore self.old.heads.items self.old.earlier }
+        requires size { length tokens.now ≤ 2000000 }
+        ensures known { OnOk result (AreBefore self.new.heads.items self.new.earlier) }
+        ensures items { OnOk result ((r : Reader) → IsReader r → folded_of self.new ≡ spec.with_head r tokens.now (spec.head r name.now tokens.now self.old.heads.items) (folded_of self.old)) }
+    {
+        let at = body_start(tokens);
+        let head = head(alloc, name, front(tokens, at + 1), &self.earlier)?;
+        add_body(alloc, &mut self.bodies, tokens, at, &head, &self.earlier)?;
+        match self.add_head(alloc, head) {
+            Ok(()) => Ok(()),
+            Err(error) => Err(error),
+        }
+    }
+}
+
+// All items of a unit.
+fn fold(alloc: Global, tokens: &[OutToken], items: &[Item]) -> Result<Folding, AllocError>
+    requires size { length tokens.now ≤ 2000000 }
+    ensures { IfOk result (λ f. (r : Reader) → IsReader r → folded_of f ≡ spec.all_items r tokens.now spec.nothing items.now) }
+{
+    let mut folding = Folding::new(alloc);
+    'items: for item in items {
+        folding.add(alloc, &item.name, own(tokens, item))?;
+    }
+    Ok(folding)
+}
+
+/// What a unit means by its output tokens and the texts that it entered (ISO C11 5.1.1.1, 6.9), without what its directives show: its items in their order, each
+/// judged by what the heads in front of it declare, and then the unit's end. A body is looked at where its head was read. A unit has at most 2,000,000
+/// tokens. The cost is that of the items. It fails for want of memory alone.
+pub fn fold_items(
+    alloc: Global,
+    tokens: &[OutToken],
+    entered: &[(FileId, TokId)],
+) -> Result<UnitMeaning, AllocError>
+    requires size { length tokens.now ≤ 2000000 }
+    ensures { IfOk result (λ m. (r : Reader) → IsReader r → m ≡ spec.unit_meaning r tokens.now entered.now) }
+{
+    let items = items_of(alloc, tokens)?;
+    let folding = fold(alloc, tokens, &items)?;
+    match meaning_of(
+        alloc,
+        tokens,
+        &items,
+        entered,
+        &folding.heads,
+        &folding.bodies,
+    ) {
+        Ok(meaning) => Ok(meaning),
+        Err(error) => Err(error),
+    }
+}
