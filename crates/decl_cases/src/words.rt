@@ -53,6 +53,7 @@ fn read_word(decl: &mut DeclParts, word: &str) {
         "const" => decl.qual.is_const = true,
         "init" => decl.has_init = true,
         "body" => decl.has_body = true,
+        "bare" => decl.has_list = false,
         _ => {}
     }
 }
@@ -81,6 +82,7 @@ pub fn parts_of(alloc: Global, number: u32, line: &str) -> Result<Option<DeclPar
         scope: scope_named(scope),
         has_init: false,
         has_body: false,
+        has_list: true,
     };
     for word in words {
         read_word(&mut decl, word);

@@ -51,7 +51,7 @@ misshaped tags d =
 
 -- 6.9.1p2: what has a body is declared as a function
 abbrev pub has_no_function : DeclParts → Bool
-has_no_function d = d.has_body && not (is_parameter d.scope) && not (is_function d)
+has_no_function d = d.has_body && not (is_parameter d.scope) && not (is_function d && d.has_list)
 
 -- 6.9.1p5: a parameter of a definition has a name
 abbrev pub has_no_name : DeclParts → Bool

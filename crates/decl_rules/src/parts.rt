@@ -40,4 +40,6 @@ pub struct DeclParts {
     pub has_init: bool,
     /// It is that of a function definition, or a parameter of one.
     pub has_body: bool,
+    /// Its declarator has a list of parameters next to the name.
+    pub has_list: bool,
 }

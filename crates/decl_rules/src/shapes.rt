@@ -114,7 +114,7 @@ pub(crate) fn misshaped(
 pub(crate) fn has_no_function(decl: &DeclParts) -> bool
     ensures { result ≡ spec.has_no_function decl.now }
 {
-    decl.has_body && !is_parameter(decl.scope) && !is_function(decl)
+    decl.has_body && !is_parameter(decl.scope) && !(is_function(decl) && decl.has_list)
 }
 
 pub(crate) fn has_no_name(decl: &DeclParts) -> bool

@@ -27,7 +27,7 @@ use Rattle.elab_core.specs.Declarators.{begun, declarator, initialized, is_exter
 use Rattle.elab_core.specs.Ends.{name_of, specifiers_begin}
 use Rattle.elab_core.specs.Expressions.{assertion, based, derived_by, initial}
 use Rattle.elab_core.specs.Notes.{noted}
-use Rattle.elab_core.specs.Specifiers.{is_function}
+use Rattle.elab_core.specs.Specifiers.{is_function, no_type}
 use Rattle.elab_core.specs.Tags.{keyword_kind}
 
 abbrev pub evaluated : Where
@@ -102,9 +102,9 @@ with_initial c i d w e m = and_then (initialized_by c i e m) (λ now. gives (dec
 abbrev pub declared_as : Context → Specifyings → Gathered → Option Initial → DeclParts → Walked → Made → Doing Walked
 declared_as c ss g i d w m = follow (declarator c (places (specifiers_begin ss) g) d.at d m) (λ e now. with_initial c i d w e now)
 
--- a declarator of a declaration has a name
+-- a declarator of a declaration has a name; that of a function definition has a list of parameters next to it where these are told (6.9.1p2)
 abbrev pub named : Context → Specifyings → Gathered → Bool → Option Initial → Option ℕ → Typed → Walked → Made → Doing Walked
-named c ss g body i (Some n) t w m = declared_as c ss g i (parts c g n t (is_some i) body (scope_kind m)) w m
+named c ss g body i (Some n) t w m = declared_as c ss g i (parts c g n t (is_some i) body (is_some m.params) (scope_kind m)) w m
 named c ss g body i None t w m = gives w m
 
 abbrev pub one : Context → Specifyings → Gathered → Typed → Bool → Declaring × Option Initial → Walked → Made → Doing Walked
@@ -130,8 +130,20 @@ walked c ss ds body g ty m = walked_from c ss ds body g ty no_declarator m
 abbrev pub declarators : Context → Specifyings → List (Declaring × Option Initial) → Bool → Gathered → Typed → Made → Doing Declaration
 declarators c ss ds body g ty m = walked c ss ds body g ty (without ss g ty ds m)
 
-abbrev pub specified : Context → Specifyings → List (Declaring × Option Initial) → Bool → Made → Doing Declaration
-specified c ss ds body m = follow (based c evaluated ss m) (λ b now. declarators c ss ds body b.0 b.1 now)
+-- 6.8.5p3: in the first part of a `for` these are told for the whole, and its declarators have a faulty part
+abbrev pub is_barred : Storage → Bool
+is_barred storage.Static = true
+is_barred storage.Extern = true
+is_barred storage.Typedef = true
+is_barred storage.None = false
+is_barred storage.Auto = false
+is_barred storage.Register = false
+
+abbrev pub typed_in : Bool → Gathered → Typed → Typed
+typed_in in_for g t = if in_for && (is_barred g.storage || is_some g.thread_at) then no_type else t
+
+abbrev pub specified : Context → Bool → Specifyings → List (Declaring × Option Initial) → Bool → Made → Doing Declaration
+specified c in_for ss ds body m = follow (based c evaluated ss m) (λ b now. declarators c ss ds body b.0 (typed_in in_for b.0 b.1) now)
 
 -- 6.7.2.3p7: a structure's or union's tag alone
 abbrev pub holds_alone : Context → ℕ → ℕ → Option (ℕ × ℕ)
@@ -159,13 +171,14 @@ lone_tag c ss (x ∷ xs) = None
 abbrev pub alone_told : Context → ℕ → ℕ → Made → Doing Declaration
 alone_told c k n m = and_then (alone c k n m) (λ now. gives (told_of_nothing k) now)
 
-abbrev pub declares : Context → Specifyings → List (Declaring × Option Initial) → Bool → Option (ℕ × ℕ) → Made → Doing Declaration
-declares c ss ds body None m = specified c ss ds body m
-declares c ss ds body (Some t) m = alone_told c t.0 t.1 m
+abbrev pub declares : Context → Bool → Specifyings → List (Declaring × Option Initial) → Bool → Option (ℕ × ℕ) → Made → Doing Declaration
+declares c in_for ss ds body None m = specified c in_for ss ds body m
+declares c in_for ss ds body (Some t) m = alone_told c t.0 t.1 m
 
 abbrev pub keyword : Assertion → ℕ
 keyword (Assertion_of k o t x ns e z) = k
 
-abbrev pub declaration : Context → Heading → Made → Doing Declaration
-declaration c (Declares_of ss ds body) m = declares c ss ds body (lone_tag c ss ds) m
-declaration c (Asserts_of a) m = and_then (assertion c evaluated a m) (λ now. gives (told_of_nothing (keyword a)) now)
+-- `in_for` says that it is the first part of a `for`
+abbrev pub declaration : Context → Bool → Heading → Made → Doing Declaration
+declaration c in_for (Declares_of ss ds body) m = declares c in_for ss ds body (lone_tag c ss ds) m
+declaration c in_for (Asserts_of a) m = and_then (assertion c evaluated a m) (λ now. gives (told_of_nothing (keyword a)) now)

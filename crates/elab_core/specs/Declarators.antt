@@ -38,9 +38,9 @@ use Rattle.elab_core.specs.Specifiers.{is_function}
 
 -- ---- what its rows read
 
--- the name is the token n
-abbrev pub parts : Context → Gathered → ℕ → Typed → Bool → Bool → ScopeKind → DeclParts
-parts c g n t init body k = record {
+-- the name is the token n; `body` says that it is one of a function definition, and `list` that parameters are listed next to the name
+abbrev pub parts : Context → Gathered → ℕ → Typed → Bool → Bool → Bool → ScopeKind → DeclParts
+parts c g n t init body list k = record {
   name = spelling c.tokens n;
   at = n;
   tok = own_token c n;
@@ -55,6 +55,7 @@ parts c g n t init body k = record {
   scope = k;
   has_init = init;
   has_body = body;
+  has_list = list;
 }
 
 abbrev pub is_typedef : Storage → Bool

@@ -97,15 +97,16 @@ parts c body g at own t = record {
   inline = g.inline;
   noreturn = g.noreturn;
   thread = not (is_none g.thread_at);
-  align = None;
+  align = g.align.value;
   ty = t.ty;
   qual = t.qual;
   scope = scope.Prototype;
   has_init = false;
   has_body = body;
+  has_list = false;
 }
 
--- 406 and 416 stand on the specifier
+-- 406, 416 and 417 stand on the specifier
 abbrev pub or_at : Option ℕ → ℕ → ℕ
 or_at (Some n) at = n
 or_at None at = at
@@ -118,6 +119,7 @@ abbrev pub place_of : Gathered → ℕ → ℕ → ℕ
 place_of g rule at =
     if rule == 406 then or_at (first_of g.storage_at g.thread_at) at
     else if rule == 416 then or_at g.function_at at
+    else if rule == 417 then or_at g.align.at at
     else at
 
 abbrev pub placed : Gathered → Fault → Fault

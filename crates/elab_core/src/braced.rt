@@ -1,17 +1,16 @@
 // The initializer of a compound literal (ISO C11 6.5.2.5, 6.7.9), piece by piece.
 ghost use Rattle.std.specs.Prelude.{◌≡◌, IfOk, OnOk};
 ghost use Rattle.elab_core.specs.Braced as spec;
-ghost use Rattle.elab_core.specs.Constants;
+ghost use Rattle.elab_state.specs.Doings.{with_fault};
 
-use crate::constants::needed;
 use crate::shapes::{Filling, Typed};
 use elab_state::Made;
 use expr_rules::Form;
 use init_rules::{InitPiece, InitState, Stack, completed, init_step};
 use scope_tables::ScopeKind;
 use std::alloc::{AllocError, Global};
-use type_data::{CType, CheckError, Judged, Node, Value};
-use type_rel::is_bad;
+use type_data::{CType, CheckError, Constancy, Fault, Judged, Node, Value};
+use type_rel::{converted, is_bad};
 
 pub(crate) fn is_file(kind: ScopeKind) -> bool
     ensures { result ≡ spec.is_file kind }
@@ -99,39 +98,87 @@ pub fn express(
     Ok(())
 }
 
-fn index_piece(value: Option<Value>) -> InitPiece
-    ensures { result ≡ spec.index_piece (Constants.as_needed value) }
+fn value_of(value: Value) -> Value
+    ensures { result ≡ spec.value_of value }
 {
     match value {
-        Some(value) => InitPiece::Index(value),
-        None => InitPiece::Index(Value::Faulty(0)),
+        Value::Known(_) => value,
+        Value::Unknown => value,
+        Value::Faulty(_) => Value::Faulty(531),
     }
 }
 
-fn lacks(value: Option<Value>) -> bool
-    ensures { result ≡ spec.lacks (Constants.as_needed value) }
+fn index_of(constant: Constancy) -> Value
+    ensures { result ≡ spec.index_of constant }
 {
-    match value {
-        Some(_) => false,
-        None => true,
+    match constant {
+        Constancy::Int(value) => value_of(value),
+        Constancy::No => Value::Faulty(530),
+        Constancy::Arith => Value::Faulty(530),
+        Constancy::Addr => Value::Faulty(530),
+        Constancy::Null => Value::Faulty(530),
     }
 }
 
-fn designate_by(
+// The value of a designator, or the rule that it breaks.
+fn index_value(alloc: Global, judged: &Judged) -> Result<Value, AllocError>
+    ensures { IfOk result (λ v. v ≡ spec.index_value judged.now) }
+{
+    if is_bad(&judged.ty) {
+        return Ok(Value::Faulty(0));
+    }
+    let value = converted(alloc, judged)?;
+    Ok(index_of(value.constant))
+}
+
+#[tactic(auto, unfolding(crate::specs::Braced::on_value))]
+fn on_value(begins: u32, fault: Fault) -> Fault
+    ensures { result ≡ spec.on_value begins fault }
+{
+    if fault.rule == 530 || fault.rule == 531 {
+        return Fault {
+            rule: fault.rule,
+            at: begins,
+            names: fault.names,
+            types: fault.types,
+        };
+    }
+    fault
+}
+
+fn tell(made: &mut Made, begins: u32, fault: Fault) -> Result<(), AllocError>
+    ensures { OnOk result (made.new ≡ with_fault (spec.on_value begins fault) made.old) }
+{
+    let fault = on_value(begins, fault);
+    made.faults.push(fault)?;
+    Ok(())
+}
+
+// Reads a piece whose fault stands on the token `opening`, or on `begins` where it is one of a designator's value.
+fn fill_by(
     alloc: Global,
     made: &mut Made,
     filling: &mut Filling,
     opening: u32,
-    value: Option<Value>,
+    begins: u32,
+    piece: &InitPiece,
 ) -> Result<(), AllocError>
-    ensures { OnOk result ((filling.new, made.new) ≡ spec.designated_by opening (Constants.as_needed value) filling.old made.old) }
+    ensures { OnOk result ((filling.new, made.new) ≡ spec.filled_by opening begins piece.now filling.old made.old) }
 {
-    doubt(filling, lacks(value));
-    let piece = index_piece(value);
-    fill(alloc, made, filling, opening, &piece)
+    filling.state.at = opening;
+    match init_step(alloc, &mut filling.state, piece, &made.tags) {
+        Ok(()) => Ok(()),
+        Err(CheckError::Broken(fault)) => {
+            tell(made, begins, fault)?;
+            filling.faulty = true;
+            Ok(())
+        }
+        Err(CheckError::NoMemory) => Err(AllocError),
+    }
 }
 
-/// Reads a designator in brackets, whose `[` is the token `opening` and whose expression begins with the token `begins`.
+/// Reads a designator in brackets, whose `[` is the token `opening` and whose expression begins with the token `begins`: 530 and 531 stand on
+/// the expression, and where nothing is checked of its list nothing is told.
 pub fn designate(
     alloc: Global,
     made: &mut Made,
@@ -142,8 +189,10 @@ pub fn designate(
 ) -> Result<(), AllocError>
     ensures { OnOk result ((filling.new, made.new) ≡ spec.designated opening begins index.now filling.old made.old) }
 {
-    let value = needed(alloc, made, begins, index)?;
-    designate_by(alloc, made, filling, opening, value)
+    doubt(filling, is_bad(&index.ty));
+    let value = index_value(alloc, index)?;
+    let piece = InitPiece::Index(value);
+    fill_by(alloc, made, filling, opening, begins, &piece)
 }
 
 fn whole_type(alloc: Global, filling: &Filling) -> Result<CType, AllocError>

@@ -21,7 +21,7 @@ use crate::ends::{name_of, specs_begin};
 use crate::notes::note;
 use crate::operators::keyword_kind;
 use crate::shapes::{Filling, Gathered, Typed};
-use crate::specifiers::is_function;
+use crate::specifiers::{is_function, no_type};
 use decl_rules::{DeclParts, Storage};
 use elab_state::{Around, Grown, Halt, Made, Where, spelling};
 use head_rules::{BareParts, bare_declaration};
@@ -272,6 +272,16 @@ fn has_init(init: &Option<Init>) -> bool
     }
 }
 
+// What a function definition's declarator lists is told behind it.
+fn has_list(made: &Made) -> bool
+    ensures { result ≡ is_some made.now.params }
+{
+    match &made.params {
+        Some(_) => true,
+        None => false,
+    }
+}
+
 fn parts(
     alloc: Global,
     around: &Around<'_>,
@@ -282,10 +292,21 @@ fn parts(
     at: u32,
     typed: Typed,
 ) -> Result<DeclParts, AllocError>
-    ensures { IfOk result (λ d. d ≡ row.parts (context_of around.now) gathered.now at typed (is_some (option_map seen.initial_of init.now)) body (scope_kind made.now)) }
+    ensures { IfOk result (λ d. d ≡ row.parts (context_of around.now) gathered.now at typed (is_some (option_map seen.initial_of init.now)) body (is_some made.now.params) (scope_kind made.now)) }
 {
     let init = has_init(init);
-    decl_parts(alloc, around, gathered, at, typed, init, body, made.kind())
+    let list = has_list(made);
+    decl_parts(
+        alloc,
+        around,
+        gathered,
+        at,
+        typed,
+        init,
+        body,
+        list,
+        made.kind(),
+    )
 }
 
 fn declare_named(
@@ -492,24 +513,49 @@ fn declare_declarators(
     walk(alloc, around, made, specs, gathered, typed, body, pairs)
 }
 
+fn is_barred(storage: Storage) -> bool
+    ensures { result ≡ spec.is_barred storage }
+{
+    match storage {
+        Storage::Static => true,
+        Storage::Extern => true,
+        Storage::Typedef => true,
+        Storage::None => false,
+        Storage::Auto => false,
+        Storage::Register => false,
+    }
+}
+
+// 6.8.5p3: what the first part of a `for` doesn't take is told for the whole of it, and nothing of its declarators.
+fn typed_in(in_for: bool, gathered: &Gathered, typed: Typed) -> Typed
+    ensures { result ≡ spec.typed_in in_for gathered.now typed }
+{
+    if in_for && (is_barred(gathered.storage) || gathered.thread_at.is_some()) {
+        return no_type();
+    }
+    typed
+}
+
 // The declarators of a head, whose specifiers are these.
 fn declare_listed(
     alloc: Global,
     around: &Around<'_>,
+    in_for: bool,
     made: &mut Made,
     head: &Head,
     gathered: &Gathered,
-    typed: &Typed,
+    typed: Typed,
 ) -> Result<Declaration, Halt>
-    ensures { Comes (told_of around.now) (spec.declarators (context_of around.now) (seen.specs_of head.now.specs) (declared_of head.now.declarators.items) head.now.has_body gathered.now typed.now made.old) (λ d. d) result made.new }
+    ensures { Comes (told_of around.now) (spec.declarators (context_of around.now) (seen.specs_of head.now.specs) (declared_of head.now.declarators.items) head.now.has_body gathered.now (spec.typed_in in_for gathered.now typed) made.old) (λ d. d) result made.new }
 {
+    let typed = typed_in(in_for, gathered, typed);
     declare_declarators(
         alloc,
         around,
         made,
         &head.specs,
         gathered,
-        typed,
+        &typed,
         head.has_body,
         head.declarators.as_slice(),
     )
@@ -518,16 +564,17 @@ fn declare_listed(
 fn declare_specified(
     alloc: Global,
     around: &Around<'_>,
+    in_for: bool,
     made: &mut Made,
     head: &Head,
 ) -> Result<Declaration, Halt>
-    ensures { Comes (told_of around.now) (spec.specified (context_of around.now) (seen.specs_of head.now.specs) (declared_of head.now.declarators.items) head.now.has_body made.old) (λ d. d) result made.new }
+    ensures { Comes (told_of around.now) (spec.specified (context_of around.now) in_for (seen.specs_of head.now.specs) (declared_of head.now.declarators.items) head.now.has_body made.old) (λ d. d) result made.new }
 {
     let (gathered, typed) = match based(alloc, around, EVALUATED, made, &head.specs) {
         Ok(done) => done,
         Err(halt) => return Err(halt),
     };
-    declare_listed(alloc, around, made, head, &gathered, &typed)
+    declare_listed(alloc, around, in_for, made, head, &gathered, typed)
 }
 
 fn holds_alone(around: &Around<'_>, keyword: u32, at: u32) -> Option<(u32, u32)>
@@ -607,24 +654,26 @@ fn declare_alone(
 fn declare(
     alloc: Global,
     around: &Around<'_>,
+    in_for: bool,
     made: &mut Made,
     head: &Head,
 ) -> Result<Declaration, Halt>
-    ensures { Comes (told_of around.now) (spec.declares (context_of around.now) (seen.specs_of head.now.specs) (declared_of head.now.declarators.items) head.now.has_body (spec.lone_tag (context_of around.now) (seen.specs_of head.now.specs) (declared_of head.now.declarators.items)) made.old) (λ d. d) result made.new }
+    ensures { Comes (told_of around.now) (spec.declares (context_of around.now) in_for (seen.specs_of head.now.specs) (declared_of head.now.declarators.items) head.now.has_body (spec.lone_tag (context_of around.now) (seen.specs_of head.now.specs) (declared_of head.now.declarators.items)) made.old) (λ d. d) result made.new }
 {
     match lone_tag(around, head) {
         Some((keyword, at)) => declare_alone(alloc, around, made, keyword, at),
-        None => declare_specified(alloc, around, made, head),
+        None => declare_specified(alloc, around, in_for, made, head),
     }
 }
 
 fn assert(
     alloc: Global,
     around: &Around<'_>,
+    in_for: bool,
     made: &mut Made,
     assertion: &Assertion,
 ) -> Result<Declaration, Halt>
-    ensures { Comes (told_of around.now) (spec.declaration (context_of around.now) (trees.Asserts_of (seen.assertion_of assertion.now)) made.old) (λ d. d) result made.new }
+    ensures { Comes (told_of around.now) (spec.declaration (context_of around.now) in_for (trees.Asserts_of (seen.assertion_of assertion.now)) made.old) (λ d. d) result made.new }
 {
     match asserted(alloc, around, EVALUATED, made, assertion) {
         Ok(()) => Ok(told_of_nothing(alloc, assertion.keyword)),
@@ -633,17 +682,19 @@ fn assert(
 }
 
 /// A declaration, or a static assertion, in the innermost scope, which is the file's or a block's: what its names denote from here on, and what
-/// it states. What is known of earlier items is asked for, one question at a time. Its faults are noted.
+/// it states. `in_for` says that it is the first part of a `for`, whose storage class is told there: its declarators have none of the rules'
+/// faults then (6.8.5p3). What is known of earlier items is asked for, one question at a time. Its faults are noted.
 pub fn declare_in(
     alloc: Global,
     around: &Around<'_>,
+    in_for: bool,
     made: &mut Made,
     head: &Head,
 ) -> Result<Declaration, Halt>
-    ensures { Comes (told_of around.now) (spec.declaration (context_of around.now) (heading_of head.now) made.old) (λ d. d) result made.new }
+    ensures { Comes (told_of around.now) (spec.declaration (context_of around.now) in_for (heading_of head.now) made.old) (λ d. d) result made.new }
 {
     match &head.assertion {
-        Some(assertion) => assert(alloc, around, made, assertion),
-        None => declare(alloc, around, made, head),
+        Some(assertion) => assert(alloc, around, in_for, made, assertion),
+        None => declare(alloc, around, in_for, made, head),
     }
 }

@@ -17,8 +17,8 @@ use std::alloc::{AllocError, Global};
 use type_data::{CType, CheckError, Fault, Node, Space};
 use type_rel::{is_bad, is_open_array};
 
-/// What the rows of a declarator read, whose name is the token `at`, which has this type, and an initializer or a body where `init` and
-/// `body` say so.
+/// What the rows of a declarator read, whose name is the token `at`, which has this type, and an initializer, a body, or a list of parameters
+/// next to the name where `init`, `body` and `list` say so.
 pub fn decl_parts(
     alloc: Global,
     around: &Around<'_>,
@@ -27,9 +27,10 @@ pub fn decl_parts(
     typed: Typed,
     init: bool,
     body: bool,
+    list: bool,
     scope: ScopeKind,
 ) -> Result<DeclParts, AllocError>
-    ensures { IfOk result (λ d. d ≡ spec.parts (context_of around.now) gathered.now at typed init body scope) }
+    ensures { IfOk result (λ d. d ≡ spec.parts (context_of around.now) gathered.now at typed init body list scope) }
 {
     let name = name_at(alloc, around.tokens, at)?;
     let tok = own_token(around, at)?;
@@ -48,6 +49,7 @@ pub fn decl_parts(
         scope,
         has_init: init,
         has_body: body,
+        has_list: list,
     })
 }
 

@@ -125,12 +125,13 @@ fn parts(
         inline: gathered.inline,
         noreturn: gathered.noreturn,
         thread: gathered.thread_at.is_some(),
-        align: None,
+        align: gathered.align.value,
         ty: typed.ty,
         qual: typed.qual,
         scope: ScopeKind::Prototype,
         has_init: false,
         has_body: body,
+        has_list: false,
     })
 }
 
@@ -160,6 +161,9 @@ fn place_of(gathered: &Gathered, rule: u16, at: u32) -> u32
     }
     if rule == 416 {
         return or_at(gathered.function_at, at);
+    }
+    if rule == 417 {
+        return or_at(gathered.align.at, at);
     }
     at
 }
@@ -251,6 +255,7 @@ fn without_type(decl: &DeclParts) -> Result<DeclParts, AllocError>
         scope: decl.scope,
         has_init: decl.has_init,
         has_body: decl.has_body,
+        has_list: decl.has_list,
     })
 }
 

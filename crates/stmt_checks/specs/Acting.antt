@@ -83,7 +83,7 @@ abbrev pub known_by : Standing → Declaration × Made → Standing
 known_by st r = with_made r.1 st
 
 abbrev pub declared : Context → Heading → Standing → Moving
-declared c d st = and_then (declaration c d st.made) (λ r. Gives (known_by st r))
+declared c d st = and_then (declaration c false d st.made) (λ r. Gives (known_by st r))
 
 -- 6.8.5p3
 abbrev pub for_parts : Declaration → ForParts
@@ -93,7 +93,7 @@ abbrev pub tested_for : Standing → Declaration × Made → Standing
 tested_for st r = told (for_fault (for_parts r.0)) (known_by st r)
 
 abbrev pub declared_in_for : Context → Heading → Standing → Moving
-declared_in_for c d st = and_then (declaration c d st.made) (λ r. Gives (tested_for st r))
+declared_in_for c d st = and_then (declaration c true d st.made) (λ r. Gives (tested_for st r))
 
 -- ---- a step, in a function of type `ty` whose labels are `all`, and several
 

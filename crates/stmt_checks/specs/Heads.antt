@@ -53,7 +53,7 @@ abbrev pub meaning_by : Context → Declaration × Made → Asking wants HeadMea
 meaning_by c r = Gives (head_of c.item (found c r))
 
 abbrev pub judged : Context → Heading → Made → Asking wants HeadMeaning
-judged c h m = and_then (declaration c h m) (meaning_by c)
+judged c h m = and_then (declaration c false h m) (meaning_by c)
 
 abbrev pub refusal : Context → ℕ → ℕ → HeadMeaning
 refusal c rule n = head_of c.item (only (fault rule n [] []))

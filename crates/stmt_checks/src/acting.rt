@@ -77,7 +77,7 @@ fn declare(
 ) -> Result<(), Halt>
     ensures { Moves (told_of around.now) (spec.declared (context_of around.now) (heading_of head.now) standing.old) result standing.new }
 {
-    let declaration = match declare_in(alloc, around, &mut standing.made, head) {
+    let declaration = match declare_in(alloc, around, false, &mut standing.made, head) {
         Ok(declaration) => declaration,
         Err(stop) => return Err(stop),
     };
@@ -118,7 +118,7 @@ fn declare_in_for(
 ) -> Result<(), Halt>
     ensures { Moves (told_of around.now) (spec.declared_in_for (context_of around.now) (heading_of head.now) standing.old) result standing.new }
 {
-    let declaration = match declare_in(alloc, around, &mut standing.made, head) {
+    let declaration = match declare_in(alloc, around, true, &mut standing.made, head) {
         Ok(declaration) => declaration,
         Err(stop) => return Err(stop),
     };

@@ -78,7 +78,7 @@ fn judge(
 ) -> Result<Elab<HeadMeaning>, AllocError>
     ensures { IfOk result (λ elab. means.Means (run_by (answers_of (told_of around.now)) (spec.judged (context_of around.now) (heading_of head.now) made.old)) elab) }
 {
-    let declaration = match declare_in(alloc, around, made, head) {
+    let declaration = match declare_in(alloc, around, false, made, head) {
         Ok(declaration) => declaration,
         Err(halt) => {
             let asked = asked_by(alloc, halt)?;

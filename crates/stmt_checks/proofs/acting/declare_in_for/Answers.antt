@@ -1,4 +1,4 @@
-use Rattle.std.proofs.Common.{◌≡◌, rules, sym, subst}
+use Rattle.std.proofs.Common.{true, ◌≡◌, rules, sym, subst}
 use Rattle.asking.specs.Asking.{Gives}
 use Rattle.asking.specs.LookUps.{Ends, run_by}
 use Rattle.elab_core.specs.Declarations.{declaration}
@@ -16,13 +16,13 @@ use Rattle.tree_data.specs.Heads.{heading_of}
 
 pub returns-in-Err : goal.returns-in-Err
 returns-in-Err c =
-    stops_on (answered (told_of c.args.around.now)) (declaration (context_of c.args.around.now) (heading_of c.args.head.now) c.args.standing.now.made) (λ r. Gives (tested_for c.args.standing.now r))
+    stops_on (answered (told_of c.args.around.now)) (declaration (context_of c.args.around.now) true (heading_of c.args.head.now) c.args.standing.now.made) (λ r. Gives (tested_for c.args.standing.now r))
     c.in-Err.stop c.in-Err.ensures
 
 pub returns : goal.returns
 returns c =
     let answers = told_of c.args.around.now in
-    let asked = declaration (context_of c.args.around.now) (heading_of c.args.head.now) c.args.standing.now.made in
+    let asked = declaration (context_of c.args.around.now) true (heading_of c.args.head.now) c.args.standing.now.made in
     let st = c.args.standing.now in
     let came : Declaration × Made = (c.in-Ok.declaration, c.declare_in.new.made) in
     let first : run_by (answered answers) asked ≡ Ends came = search rules in

@@ -1,4 +1,4 @@
-use Rattle.std.proofs.Common.{sym, ap, ◌∙◌}
+use Rattle.std.proofs.Common.{false, sym, ap, ◌∙◌}
 use Rattle.asking.specs.LookUps.{Ends, run_by}
 use Rattle.elab_core.specs.Declarations.{declaration}
 use Rattle.elab_state.proofs.Runs.{run_then, stops_on}
@@ -16,10 +16,10 @@ returns-in-Err c =
     let around = context_of c.args.around.now in
     let h = heading_of c.args.head.now in
     needs_as (run_by look (judged around h c.args.made.now)) c.in-Err.halt c.in_ok-asked-in-Err.asked
-    (stops_on look (declaration around h c.args.made.now) (meaning_by around) c.in-Err.halt c.in-Err.ensures) c.in_ok-asked-in-Err.ensures
+    (stops_on look (declaration around false h c.args.made.now) (meaning_by around) c.in-Err.halt c.in-Err.ensures) c.in_ok-asked-in-Err.ensures
 
 pub returns : goal.returns
 returns c =
     let around = context_of c.args.around.now in
-    run_then (answered (told_of c.args.around.now)) (declaration around (heading_of c.args.head.now) c.args.made.now) (meaning_by around) (c.in-Ok.declaration, c.declare_in.new.made) c.in-Ok.ensures
+    run_then (answered (told_of c.args.around.now)) (declaration around false (heading_of c.args.head.now) c.args.made.now) (meaning_by around) (c.in-Ok.declaration, c.declare_in.new.made) c.in-Ok.ensures
     ∙ ap (λ x. Ends x) (sym (c.in_ok-meaning.ensures ∙ ap (λ f. head_of around.item f) c.in_ok-found.ensures))
