@@ -1,19 +1,15 @@
 // The items in front of an item.
 ghost use Rattle.std.specs.Prelude.{◌≡◌, [], ◌∷◌, ◌++◌, List, Some, IfOk, OnOk, option_map};
 ghost use Rattle.earlier_items.specs.Before.{AreBefore, said};
-ghost use Rattle.earlier_items.specs.Typedefs as types;
 ghost use Rattle.elab_state.specs.Wants.{answered};
 ghost use Rattle.elab_state.specs.declared.wants.Wanted.{Wanted as Question};
 ghost use Rattle.scope_tables.specs.declared.meanings.HeadMeaning.{HeadMeaning as Head};
 
 use crate::adding::{bind_all, note_tags, nothing, said_of};
-use crate::typedefs::typedef_names;
 use elab_state::{Known, Wanted};
-use scope_tables::{Binding, Entity, HeadMeaning};
-use shared_text::Name;
+use scope_tables::{Entity, HeadMeaning};
 use std::alloc::{AllocError, Global};
 use std::marker::Model;
-use tok_data::OutToken;
 
 /// What the items that were added, in their order, declare at file scope. What is asked of them is looked up at a constant cost. Contracts
 /// see the answers.
@@ -71,18 +67,5 @@ impl Earlier {
         ensures whole { (q : Question) → answered result.now q ≡ Some (said self.now q) }
     {
         &self.known
-    }
-
-    /// The typedef names among the identifiers of the tokens of an item behind these, each once, in the order of first tokens. In a body
-    /// the names that the function's parameters bind denote what these bind. Its cost is linear in the number of tokens and parameters.
-    pub fn typedef_names(
-        &self,
-        alloc: Global,
-        params: &[Binding],
-        tokens: &[OutToken],
-    ) -> Result<Vec<Name>, AllocError>
-        ensures { IfOk result (λ names. names.items ≡ types.typedef_names (said self.now) params.now tokens.now) }
-    {
-        typedef_names(alloc, &self.known, params, tokens)
     }
 }

@@ -3,6 +3,5 @@
 
 mod adding;
 mod earlier;
-mod typedefs;
 
 pub use earlier::Earlier;

@@ -10,7 +10,7 @@ use tok_data::OutToken;
 use tree_data::{Head, Stmt};
 
 /// Why an item's head or body has no tree: the rule, 301 where no tree of the grammar spells the tokens and 303 where brackets nest past 256
-/// levels; and the number of a token among the item's, the first one for 301 and the bracket that opens the 257th level for 303.
+/// levels; and the number of a token among those that were read, the first one for 301 and the bracket that opens the 257th level for 303.
 #[derive(Clone, Copy, Debug, PartialEq, Eq, Drop)]
 pub struct Refusal {
     pub rule: u16,

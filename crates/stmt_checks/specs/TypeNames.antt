@@ -1,4 +1,4 @@
--- The typedef names among the identifiers of a body, as they are at its front (ISO C11 6.7.8, 6.8.2): behind it the body's own declarations tell.
+-- The typedef names among the identifiers of a head or a body, as they are at its front (ISO C11 6.7.8, 6.8.2): behind it the body's own declarations tell.
 use Rattle.std.specs.Prelude.{ℕ, Bool, true, false, ◌&&◌, List, [], ◌∷◌, Option, Some, None, if◌then◌else◌}
 use Rattle.elab_state.specs.Tokens.{is_identifier}
 use Rattle.scope_tables.specs.Levels.{Scope}

@@ -1,4 +1,4 @@
-// The typedef names among the identifiers of a body, as they are at its front (ISO C11 6.7.8).
+// The typedef names among the identifiers of a head or a body, as they are at its front (ISO C11 6.7.8).
 ghost use Rattle.std.specs.Prelude.{◌≡◌, IfOk, option_map};
 ghost use Rattle.stmt_checks.specs.TypeNames as spec;
 
