@@ -10,6 +10,7 @@ pub mod Joining
 pub mod Kinds
 pub mod Levels
 pub mod MembersFound
+pub mod Noted
 pub mod Numbers
 pub mod Parts
 pub mod Reading

@@ -11,18 +11,18 @@ use Rattle.c_parser.specs.declared.kinds.Kind.TheVariants.{Identifier, TypeName,
 -- punctuators, digraphs as what they stand for
 unfoldable pub marks : List (List ℕ × Kind)
 marks =
-    (codes "(", OpenParen) ∷ (codes ")", CloseParen) ∷ (codes ",", Comma) ∷ (codes "=", Equals)
-    ∷ (codes "...", Ellipsis) ∷ (codes "->", Member) ∷ (codes ".", Dot) ∷ (codes "[", OpenBracket) ∷ (codes "]", CloseBracket)
-    ∷ (codes "*", Star) ∷ (codes "&", Ampersand) ∷ (codes "+", Sign) ∷ (codes "-", Sign)
-    ∷ (codes "==", Equality) ∷ (codes "!=", Equality) ∷ (codes "<", Relation) ∷ (codes ">", Relation)
-    ∷ (codes "<=", Relation) ∷ (codes ">=", Relation) ∷ (codes "&&", And) ∷ (codes "||", Or)
-    ∷ (codes "!", Complement) ∷ (codes "~", Complement) ∷ (codes "++", Step) ∷ (codes "--", Step)
-    ∷ (codes "/", Quotient) ∷ (codes "%", Quotient) ∷ (codes "<<", Shift) ∷ (codes ">>", Shift)
-    ∷ (codes "|", Bar) ∷ (codes "^", Caret) ∷ (codes "?", Question) ∷ (codes ":", Colon)
-    ∷ (codes "+=", Assignment) ∷ (codes "-=", Assignment) ∷ (codes "*=", Assignment) ∷ (codes "/=", Assignment)
-    ∷ (codes "%=", Assignment) ∷ (codes "&=", Assignment) ∷ (codes "|=", Assignment) ∷ (codes "^=", Assignment)
-    ∷ (codes "<<=", Assignment) ∷ (codes ">>=", Assignment) ∷ (codes "{", OpenBrace) ∷ (codes "}", CloseBrace)
-    ∷ (codes "<:", OpenBracket) ∷ (codes ":>", CloseBracket) ∷ (codes "<%", OpenBrace) ∷ (codes "%>", CloseBrace) ∷ (codes ";", Semicolon) ∷ []
+    (codes "(", OpenParen) ∷ (codes ")", CloseParen) ∷ (codes ";", Semicolon) ∷ (codes ",", Comma)
+    ∷ (codes "=", Equals) ∷ (codes "{", OpenBrace) ∷ (codes "}", CloseBrace) ∷ (codes "*", Star)
+    ∷ (codes "->", Member) ∷ (codes ".", Dot) ∷ (codes "[", OpenBracket) ∷ (codes "]", CloseBracket)
+    ∷ (codes "&", Ampersand) ∷ (codes "+", Sign) ∷ (codes "-", Sign) ∷ (codes "<", Relation) ∷ (codes "==", Equality)
+    ∷ (codes "++", Step) ∷ (codes "!=", Equality) ∷ (codes "&&", And) ∷ (codes ">", Relation) ∷ (codes "||", Or)
+    ∷ (codes "!", Complement) ∷ (codes "?", Question) ∷ (codes ":", Colon) ∷ (codes "<<", Shift) ∷ (codes "|", Bar)
+    ∷ (codes "+=", Assignment) ∷ (codes ">=", Relation) ∷ (codes "<=", Relation) ∷ (codes "/", Quotient)
+    ∷ (codes "%", Quotient) ∷ (codes "--", Step) ∷ (codes ">>", Shift) ∷ (codes "|=", Assignment)
+    ∷ (codes "-=", Assignment) ∷ (codes "~", Complement) ∷ (codes "^", Caret) ∷ (codes "...", Ellipsis)
+    ∷ (codes "&=", Assignment) ∷ (codes "<<=", Assignment) ∷ (codes "*=", Assignment) ∷ (codes ">>=", Assignment)
+    ∷ (codes "/=", Assignment) ∷ (codes "^=", Assignment) ∷ (codes "%=", Assignment) ∷ (codes "<:", OpenBracket)
+    ∷ (codes ":>", CloseBracket) ∷ (codes "<%", OpenBrace) ∷ (codes "%>", CloseBrace) ∷ []
 
 abbrev pub lookup : List (List ℕ × Kind) → List ℕ → Kind
 lookup [] text = Other
@@ -34,18 +34,19 @@ mark_of = lookup marks
 -- the keywords that the grammar has so far
 unfoldable pub words : List (List ℕ × Kind)
 words =
-    (codes "sizeof", SizeOf) ∷ (codes "_Alignof", AlignOf) ∷ (codes "const", Qualifier) ∷ (codes "restrict", Qualifier)
-    ∷ (codes "volatile", Qualifier) ∷ (codes "void", TypeWord) ∷ (codes "char", TypeWord) ∷ (codes "short", TypeWord)
-    ∷ (codes "int", TypeWord) ∷ (codes "long", TypeWord) ∷ (codes "float", TypeWord) ∷ (codes "double", TypeWord)
-    ∷ (codes "signed", TypeWord) ∷ (codes "unsigned", TypeWord) ∷ (codes "_Bool", TypeWord)
-    ∷ (codes "_Complex", TypeWord) ∷ (codes "_Imaginary", TypeWord) ∷ (codes "struct", Tag) ∷ (codes "union", Tag)
-    ∷ (codes "enum", Enum) ∷ (codes "_Generic", Generic) ∷ (codes "__offsetof", OffsetOf)
-    ∷ (codes "default", Default) ∷ (codes "_Atomic", Atomic) ∷ (codes "static", Static)
-    ∷ (codes "typedef", Typedef) ∷ (codes "extern", Storage) ∷ (codes "_Thread_local", Storage) ∷ (codes "auto", Storage)
-    ∷ (codes "register", Storage) ∷ (codes "inline", Storage) ∷ (codes "_Noreturn", Storage)
-    ∷ (codes "_Static_assert", Assert)
-    ∷ (codes "if", If) ∷ (codes "else", Else) ∷ (codes "switch", Switch) ∷ (codes "case", Case) ∷ (codes "while", While) ∷ (codes "do", Do)
-    ∷ (codes "for", For) ∷ (codes "goto", Goto) ∷ (codes "continue", Continue) ∷ (codes "break", Break) ∷ (codes "return", Return) ∷ (codes "_Alignas", Align) ∷ []
+    (codes "int", TypeWord) ∷ (codes "return", Return) ∷ (codes "if", If) ∷ (codes "const", Qualifier)
+    ∷ (codes "char", TypeWord) ∷ (codes "unsigned", TypeWord) ∷ (codes "struct", Tag) ∷ (codes "void", TypeWord)
+    ∷ (codes "else", Else) ∷ (codes "static", Static) ∷ (codes "for", For) ∷ (codes "case", Case)
+    ∷ (codes "break", Break) ∷ (codes "long", TypeWord) ∷ (codes "sizeof", SizeOf) ∷ (codes "while", While)
+    ∷ (codes "double", TypeWord) ∷ (codes "default", Default) ∷ (codes "switch", Switch) ∷ (codes "goto", Goto)
+    ∷ (codes "short", TypeWord) ∷ (codes "continue", Continue) ∷ (codes "enum", Enum) ∷ (codes "do", Do)
+    ∷ (codes "extern", Storage) ∷ (codes "union", Tag) ∷ (codes "typedef", Typedef) ∷ (codes "float", TypeWord)
+    ∷ (codes "signed", TypeWord) ∷ (codes "_Bool", TypeWord) ∷ (codes "inline", Storage)
+    ∷ (codes "_Alignof", AlignOf) ∷ (codes "restrict", Qualifier) ∷ (codes "volatile", Qualifier)
+    ∷ (codes "_Complex", TypeWord) ∷ (codes "_Imaginary", TypeWord) ∷ (codes "_Generic", Generic)
+    ∷ (codes "__offsetof", OffsetOf) ∷ (codes "_Atomic", Atomic) ∷ (codes "_Thread_local", Storage)
+    ∷ (codes "auto", Storage) ∷ (codes "register", Storage) ∷ (codes "_Noreturn", Storage)
+    ∷ (codes "_Static_assert", Assert) ∷ (codes "_Alignas", Align) ∷ []
 
 unfoldable pub keyword_of : List ℕ → Kind
 keyword_of = lookup words

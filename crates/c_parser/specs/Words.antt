@@ -1,6 +1,8 @@
 -- Identifiers under the declarations of an item: which of them are typedef names where the parser stands (ISO C11 6.2.1, 6.7.8).
-use Rattle.std.specs.Prelude.{ℕ, zero, suc, ◌+◌, List, [], ◌∷◌, Option, Some, None, Bool, true, false, not, map, length, nat_lt, slice_set, is_none, bytes_eq, if◌then◌else◌}
+use Rattle.std.specs.Prelude.{ℕ, zero, suc, ◌+◌, ◌&&◌, ◌||◌, List, [], ◌∷◌, Option, Some, None, Bool, true, false, not, map, length, nat_lt, slice_set, is_none, bytes_eq, if◌then◌else◌}
 use Rattle.tok_data.specs.declared.tokens.OutToken.{OutToken}
+use Rattle.tok_data.specs.declared.tokens.PpKind.{PpKind}
+use Rattle.tok_data.specs.declared.tokens.PpKind.TheVariants as pp
 use Rattle.c_parser.specs.declared.kinds.Kind.{Kind}
 use Rattle.c_parser.specs.declared.kinds.Kind.TheVariants.{TypeName}
 use Rattle.c_parser.specs.Enumerations.{enumerates, settle}
@@ -50,7 +52,20 @@ abbrev pub past_range : Words → ℕ → ℕ → Words
 past_range w at zero = w
 past_range w at (suc count) = past_range (past_one w at) (at + 1) count
 
--- the first token that spells the text, counted on from `at`, if none was found before
+abbrev pub is_word : PpKind → Bool
+is_word pp.Ident = true
+is_word pp.Number = false
+is_word pp.Char = false
+is_word pp.Str = false
+is_word pp.Header = false
+is_word pp.Punct = false
+is_word pp.Stray = false
+
+-- whether the token is an identifier, or a keyword, of this text
+abbrev pub spells : OutToken → List ℕ → Bool
+spells t text = is_word t.kind && bytes_eq t.spelling text
+
+-- the first such token, counted on from `at`, if none was found before
 abbrev pub first_or : Option ℕ → Bool → ℕ → Option ℕ
 first_or (Some n) here at = Some n
 first_or None true at = Some at
@@ -58,14 +73,14 @@ first_or None false at = None
 
 abbrev pub first_from : ℕ → Option ℕ → List OutToken → List ℕ → Option ℕ
 first_from at found [] text = found
-first_from at found (t ∷ ts) text = first_from (at + 1) (first_or found (bytes_eq t.spelling text) at) ts text
+first_from at found (t ∷ ts) text = first_from (at + 1) (first_or found (spells t text) at) ts text
 
--- an identifier has the number of the first token that spells it
+-- an identifier has the number of the first one that spells it
 abbrev pub first_among : List OutToken → List ℕ → Option ℕ
 first_among tokens text = first_from 0 None tokens text
 
 abbrev pub is_hidden : List (List ℕ) → OutToken → Bool
-is_hidden names t = is_none (number_among names t.spelling)
+is_hidden names t = not (is_word t.kind) || is_none (number_among names t.spelling)
 
 -- where these names are typedef names, and nothing is declared yet
 abbrev pub words_of : List (List ℕ) → List OutToken → Words

@@ -1,7 +1,7 @@
 // The kinds of the tokens of a unit.
-ghost use Rattle.std.specs.Prelude.{◌≡◌, ℕ, List, IfOk, OnOk, map, bytes_eq, option_map, is_none};
-ghost use Rattle.std.specs.HashMap.{get_by_text};
+ghost use Rattle.std.specs.Prelude.{◌≡◌, ℕ, List, IfOk, OnOk, None, Some, map, bytes_eq, option_map, is_none, not, ◌||◌, if◌then◌else◌};
 ghost use Rattle.std.specs.List.{find};
+ghost use Rattle.c_parser.specs.Noted as noted;
 ghost use Rattle.c_parser.specs.Tokens as spec;
 ghost use Rattle.c_parser.specs.Words as words;
 
@@ -12,104 +12,105 @@ use std::alloc::{AllocError, Global};
 use std::collections::HashMap;
 use tok_data::{OutToken, PpKind, is_keyword};
 
+// What is written most stands first, since a look-up goes from the front on.
 static MARKS: [(&str, Kind); 50] = [
     ("(", Kind::OpenParen),
     (")", Kind::CloseParen),
+    (";", Kind::Semicolon),
     (",", Kind::Comma),
     ("=", Kind::Equals),
-    ("...", Kind::Ellipsis),
+    ("{", Kind::OpenBrace),
+    ("}", Kind::CloseBrace),
+    ("*", Kind::Star),
     ("->", Kind::Member),
     (".", Kind::Dot),
     ("[", Kind::OpenBracket),
     ("]", Kind::CloseBracket),
-    ("*", Kind::Star),
     ("&", Kind::Ampersand),
     ("+", Kind::Sign),
     ("-", Kind::Sign),
-    ("==", Kind::Equality),
-    ("!=", Kind::Equality),
     ("<", Kind::Relation),
-    (">", Kind::Relation),
-    ("<=", Kind::Relation),
-    (">=", Kind::Relation),
+    ("==", Kind::Equality),
+    ("++", Kind::Step),
+    ("!=", Kind::Equality),
     ("&&", Kind::And),
+    (">", Kind::Relation),
     ("||", Kind::Or),
     ("!", Kind::Complement),
-    ("~", Kind::Complement),
-    ("++", Kind::Step),
-    ("--", Kind::Step),
-    ("/", Kind::Quotient),
-    ("%", Kind::Quotient),
-    ("<<", Kind::Shift),
-    (">>", Kind::Shift),
-    ("|", Kind::Bar),
-    ("^", Kind::Caret),
     ("?", Kind::Question),
     (":", Kind::Colon),
+    ("<<", Kind::Shift),
+    ("|", Kind::Bar),
     ("+=", Kind::Assignment),
-    ("-=", Kind::Assignment),
-    ("*=", Kind::Assignment),
-    ("/=", Kind::Assignment),
-    ("%=", Kind::Assignment),
-    ("&=", Kind::Assignment),
+    (">=", Kind::Relation),
+    ("<=", Kind::Relation),
+    ("/", Kind::Quotient),
+    ("%", Kind::Quotient),
+    ("--", Kind::Step),
+    (">>", Kind::Shift),
     ("|=", Kind::Assignment),
-    ("^=", Kind::Assignment),
+    ("-=", Kind::Assignment),
+    ("~", Kind::Complement),
+    ("^", Kind::Caret),
+    ("...", Kind::Ellipsis),
+    ("&=", Kind::Assignment),
     ("<<=", Kind::Assignment),
+    ("*=", Kind::Assignment),
     (">>=", Kind::Assignment),
-    ("{", Kind::OpenBrace),
-    ("}", Kind::CloseBrace),
+    ("/=", Kind::Assignment),
+    ("^=", Kind::Assignment),
+    ("%=", Kind::Assignment),
     ("<:", Kind::OpenBracket),
     (":>", Kind::CloseBracket),
     ("<%", Kind::OpenBrace),
     ("%>", Kind::CloseBrace),
-    (";", Kind::Semicolon),
 ];
 
 static WORDS: [(&str, Kind); 45] = [
-    ("sizeof", Kind::SizeOf),
-    ("_Alignof", Kind::AlignOf),
+    ("int", Kind::TypeWord),
+    ("return", Kind::Return),
+    ("if", Kind::If),
     ("const", Kind::Qualifier),
+    ("char", Kind::TypeWord),
+    ("unsigned", Kind::TypeWord),
+    ("struct", Kind::Tag),
+    ("void", Kind::TypeWord),
+    ("else", Kind::Else),
+    ("static", Kind::Static),
+    ("for", Kind::For),
+    ("case", Kind::Case),
+    ("break", Kind::Break),
+    ("long", Kind::TypeWord),
+    ("sizeof", Kind::SizeOf),
+    ("while", Kind::While),
+    ("double", Kind::TypeWord),
+    ("default", Kind::Default),
+    ("switch", Kind::Switch),
+    ("goto", Kind::Goto),
+    ("short", Kind::TypeWord),
+    ("continue", Kind::Continue),
+    ("enum", Kind::Enum),
+    ("do", Kind::Do),
+    ("extern", Kind::Storage),
+    ("union", Kind::Tag),
+    ("typedef", Kind::Typedef),
+    ("float", Kind::TypeWord),
+    ("signed", Kind::TypeWord),
+    ("_Bool", Kind::TypeWord),
+    ("inline", Kind::Storage),
+    ("_Alignof", Kind::AlignOf),
     ("restrict", Kind::Qualifier),
     ("volatile", Kind::Qualifier),
-    ("void", Kind::TypeWord),
-    ("char", Kind::TypeWord),
-    ("short", Kind::TypeWord),
-    ("int", Kind::TypeWord),
-    ("long", Kind::TypeWord),
-    ("float", Kind::TypeWord),
-    ("double", Kind::TypeWord),
-    ("signed", Kind::TypeWord),
-    ("unsigned", Kind::TypeWord),
-    ("_Bool", Kind::TypeWord),
     ("_Complex", Kind::TypeWord),
     ("_Imaginary", Kind::TypeWord),
-    ("struct", Kind::Tag),
-    ("union", Kind::Tag),
-    ("enum", Kind::Enum),
     ("_Generic", Kind::Generic),
     ("__offsetof", Kind::OffsetOf),
-    ("default", Kind::Default),
     ("_Atomic", Kind::Atomic),
-    ("static", Kind::Static),
-    ("typedef", Kind::Typedef),
-    ("extern", Kind::Storage),
     ("_Thread_local", Kind::Storage),
     ("auto", Kind::Storage),
     ("register", Kind::Storage),
-    ("inline", Kind::Storage),
     ("_Noreturn", Kind::Storage),
     ("_Static_assert", Kind::Assert),
-    ("if", Kind::If),
-    ("else", Kind::Else),
-    ("switch", Kind::Switch),
-    ("case", Kind::Case),
-    ("while", Kind::While),
-    ("do", Kind::Do),
-    ("for", Kind::For),
-    ("goto", Kind::Goto),
-    ("continue", Kind::Continue),
-    ("break", Kind::Break),
-    ("return", Kind::Return),
     ("_Alignas", Kind::Align),
 ];
 
@@ -137,17 +138,42 @@ fn keyword_of(text: &str) -> Kind
     }
 }
 
-// The typedef names with their numbers, looked up at a constant cost. Of more than 2^32 names the rest would take memory that isn't there.
-fn typedefs_of(alloc: Global, names: &[Name]) -> Result<HashMap<String, u32>, AllocError>
-    ensures { IfOk result (λ map. (text : List ℕ) → get_by_text map text ≡ spec.number_among names.now text) }
+// The number of this name, found at a constant cost.
+#[tactic(auto, unfolding(crate::specs::Noted::number_in))]
+fn number_in(numbers: &HashMap<Name, u32>, name: &Name) -> Option<u32>
+    ensures { result ≡ noted.number_in numbers.now name.now }
 {
-    let mut typedefs = HashMap::new(alloc);
+    numbers.get(name).copied()
+}
+
+#[tactic(auto, unfolding(crate::specs::Noted::number_in))]
+fn no_numbers(alloc: Global) -> HashMap<Name, u32>
+    ensures { (text : List ℕ) → noted.number_in result text ≡ None }
+{
+    HashMap::new(alloc)
+}
+
+// Gives this name the number; its text is shared.
+#[tactic(auto, unfolding(crate::specs::Noted::number_in))]
+fn put(numbers: &mut HashMap<Name, u32>, name: &Name, number: u32) -> Result<(), AllocError>
+    ensures { OnOk result ((t : List ℕ) → noted.number_in numbers.new t
+        ≡ (if bytes_eq name.now t then Some number else noted.number_in numbers.old t)) }
+{
+    let key = name.share()?;
+    numbers.insert(key, number).map_err(AllocError::from)?;
+    Ok(())
+}
+
+// The typedef names with their numbers. Of more than 2^32 names the rest would take memory that isn't there.
+fn typedefs_of(alloc: Global, names: &[Name]) -> Result<HashMap<Name, u32>, AllocError>
+    ensures { IfOk result (λ map. (text : List ℕ) → noted.number_in map text ≡ spec.number_among names.now text) }
+{
+    let mut typedefs = no_numbers(alloc);
     let mut number = 0u32;
     let mut rest = names;
     'names: while let Some((name, behind)) = rest.split_first() {
         rest = behind;
-        let key = String::from_str(alloc, name.as_str())?;
-        typedefs.insert(key, number).map_err(AllocError::from)?;
+        put(&mut typedefs, name, number)?;
         let Some(next) = number.checked_add(1) else {
             return Err(AllocError);
         };
@@ -157,29 +183,29 @@ fn typedefs_of(alloc: Global, names: &[Name]) -> Result<HashMap<String, u32>, Al
 }
 
 #[tactic(auto, unfolding(crate::specs::Tokens::word_of))]
-fn word_of(typedefs: &HashMap<String, u32>, text: &str) -> Kind
-    ensures { result ≡ spec.word_of (get_by_text typedefs.now text.now) text.now }
+fn word_of(typedefs: &HashMap<Name, u32>, name: &Name) -> Kind
+    ensures { result ≡ spec.word_of (noted.number_in typedefs.now name.now) name.now }
 {
+    let text = name.as_str();
     if is_keyword(text) {
         return keyword_of(text);
     }
-    match typedefs.get(text).copied() {
+    match number_in(typedefs, name) {
         Some(number) => Kind::TypeName(number),
         None => Kind::Identifier,
     }
 }
 
-fn kind_of(typedefs: &HashMap<String, u32>, token: &OutToken) -> Kind
-    ensures { result ≡ spec.kind_of (get_by_text typedefs.now) token.now }
+fn kind_of(typedefs: &HashMap<Name, u32>, token: &OutToken) -> Kind
+    ensures { result ≡ spec.kind_of (noted.number_in typedefs.now) token.now }
 {
-    let text = token.spelling.as_str();
     match token.kind {
-        PpKind::Ident => word_of(typedefs, text),
+        PpKind::Ident => word_of(typedefs, &token.spelling),
         PpKind::Number => Kind::Constant,
         PpKind::Char => Kind::Constant,
         PpKind::Str => Kind::Text,
         PpKind::Header => Kind::Other,
-        PpKind::Punct => mark_of(text),
+        PpKind::Punct => mark_of(token.spelling.as_str()),
         PpKind::Stray => Kind::Other,
     }
 }
@@ -187,11 +213,11 @@ fn kind_of(typedefs: &HashMap<String, u32>, token: &OutToken) -> Kind
 fn kinds_by(
     alloc: Global,
     tokens: &[OutToken],
-    typedefs: &HashMap<String, u32>,
+    typedefs: &HashMap<Name, u32>,
 ) -> Result<Vec<Kind>, AllocError>
-    ensures { IfOk result (λ v. v.items ≡ map (spec.kind_of (get_by_text typedefs.now)) tokens.now) }
+    ensures { IfOk result (λ v. v.items ≡ map (spec.kind_of (noted.number_in typedefs.now)) tokens.now) }
 {
-    let mut out = Vec::new(alloc);
+    let mut out = Vec::with_capacity(alloc, tokens.len())?;
     for token in tokens {
         let kind = kind_of(typedefs, token);
         out.push(kind)?;
@@ -211,16 +237,30 @@ pub(crate) fn kinds_of(
     Ok(kinds)
 }
 
-// The number of each identifier: that of the first token that spells it. Looked up at a constant cost.
-fn firsts_of(alloc: Global, tokens: &[OutToken]) -> Result<HashMap<String, u32>, AllocError>
-    ensures { IfOk result (λ map. (text : List ℕ) → get_by_text map text ≡ words.first_among tokens.now text) }
+fn is_word(kind: PpKind) -> bool
+    ensures { result ≡ words.is_word kind }
 {
-    let mut firsts = HashMap::new(alloc);
+    match kind {
+        PpKind::Ident => true,
+        PpKind::Number => false,
+        PpKind::Char => false,
+        PpKind::Str => false,
+        PpKind::Header => false,
+        PpKind::Punct => false,
+        PpKind::Stray => false,
+    }
+}
+
+// The number of each identifier: that of the first token that spells it. Looked up at a constant cost.
+fn firsts_of(alloc: Global, tokens: &[OutToken]) -> Result<HashMap<Name, u32>, AllocError>
+    ensures { IfOk result (λ map. (text : List ℕ) → noted.number_in map text ≡ words.first_among tokens.now text) }
+{
+    let mut firsts = no_numbers(alloc);
     let mut number = 0u32;
     let mut rest = tokens;
     'firsts: while let Some((token, behind)) = rest.split_first() {
         rest = behind;
-        note(alloc, &mut firsts, token.spelling.as_str(), number)?;
+        note_token(&mut firsts, token, number)?;
         let Some(next) = number.checked_add(1) else {
             return Err(AllocError);
         };
@@ -229,22 +269,32 @@ fn firsts_of(alloc: Global, tokens: &[OutToken]) -> Result<HashMap<String, u32>,
     Ok(firsts)
 }
 
-// Gives the text this number, if it has none.
-fn note(
-    alloc: Global,
-    firsts: &mut HashMap<String, u32>,
-    text: &str,
-    number: u32,
-) -> Result<(), AllocError>
-    ensures { OnOk result ((t : List ℕ) → get_by_text firsts.new t
-        ≡ words.first_or (get_by_text firsts.old t) (bytes_eq text.now t) number) }
+// Gives this name the number, if it has none.
+fn note(firsts: &mut HashMap<Name, u32>, name: &Name, number: u32) -> Result<(), AllocError>
+    ensures { OnOk result ((t : List ℕ) → noted.number_in firsts.new t
+        ≡ words.first_or (noted.number_in firsts.old t) (bytes_eq name.now t) number) }
 {
-    let known = firsts.get(text).copied();
+    let known = number_in(firsts, name);
     let None = known else {
         return Ok(());
     };
-    let key = String::from_str(alloc, text)?;
-    firsts.insert(key, number).map_err(AllocError::from)?;
+    put(firsts, name, number)?;
+    Ok(())
+}
+
+// The same where the token is an identifier.
+fn note_token(
+    firsts: &mut HashMap<Name, u32>,
+    token: &OutToken,
+    number: u32,
+) -> Result<(), AllocError>
+    ensures { OnOk result ((t : List ℕ) → noted.number_in firsts.new t
+        ≡ words.first_or (noted.number_in firsts.old t) (words.spells token.now t) number) }
+{
+    if !is_word(token.kind) {
+        return Ok(());
+    }
+    note(firsts, &token.spelling, number)?;
     Ok(())
 }
 
@@ -257,20 +307,20 @@ pub(crate) fn words_of(alloc: Global, tokens: &[OutToken]) -> Result<Vec<Kind>, 
     Ok(kinds)
 }
 
-fn is_hidden(typedefs: &HashMap<String, u32>, token: &OutToken) -> bool
-    ensures { result ≡ is_none (get_by_text typedefs.now token.now.spelling) }
+fn is_hidden(typedefs: &HashMap<Name, u32>, token: &OutToken) -> bool
+    ensures { result ≡ (not (words.is_word token.now.kind) || is_none (noted.number_in typedefs.now token.now.spelling)) }
 {
-    typedefs.get(token.spelling.as_str()).is_none()
+    !is_word(token.kind) || number_in(typedefs, &token.spelling).is_none()
 }
 
 fn hidden_by(
     alloc: Global,
     tokens: &[OutToken],
-    typedefs: &HashMap<String, u32>,
+    typedefs: &HashMap<Name, u32>,
 ) -> Result<Vec<bool>, AllocError>
-    ensures { IfOk result (λ v. v.items ≡ map (λ t. is_none (get_by_text typedefs.now t.spelling)) tokens.now) }
+    ensures { IfOk result (λ v. v.items ≡ map (λ t. not (words.is_word t.kind) || is_none (noted.number_in typedefs.now t.spelling)) tokens.now) }
 {
-    let mut out = Vec::new(alloc);
+    let mut out = Vec::with_capacity(alloc, tokens.len())?;
     for token in tokens {
         let hidden = is_hidden(typedefs, token);
         out.push(hidden)?;

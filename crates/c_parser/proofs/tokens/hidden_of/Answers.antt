@@ -1,5 +1,5 @@
 use Rattle.std.proofs.Common.{ap, ◌∙◌, map}
-use Rattle.std.specs.HashMap.{get_by_text}
+use Rattle.c_parser.specs.Noted.{number_in}
 use Rattle.c_parser.specs.Tokens.{number_among}
 use Rattle.c_parser.specs.Words.{is_hidden}
 use Rattle.c_parser.proofs.KindLemmas.{same_hidden}
@@ -9,7 +9,7 @@ pub returns : goal.returns
 returns c =
     c.in_ok-hidden.ensures
     ∙ same_hidden
-    (get_by_text c.in_ok-typedefs.typedefs)
+    (number_in c.in_ok-typedefs.typedefs)
     (number_among c.as_slice.result.now)
     c.in_ok-typedefs.ensures
     c.args.tokens.now

@@ -1,7 +1,7 @@
 use Rattle.std.proofs.Common.{◌≡◌, take, map}
-use Rattle.std.specs.HashMap.{get_by_text}
+use Rattle.c_parser.specs.Noted.{number_in}
 use Rattle.c_parser.specs.Tokens.{kind_of}
 use Rattle.c_parser.proofs.tokens.kinds_by.Given as goal
 
 abbrev pub invariant-loop-token : goal.invariant-loop-token
-invariant-loop-token l = l.out.items ≡ map (kind_of (get_by_text l.typedefs)) (take l.token-index l.tokens)
+invariant-loop-token l = l.out.items ≡ map (kind_of (number_in l.typedefs)) (take l.token-index l.tokens)
