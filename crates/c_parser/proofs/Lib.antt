@@ -41,6 +41,7 @@ mod TypeReading
 mod Typed
 mod Types
 mod Uniqueness
+mod Unmarked
 mod Views
 mod Wholes
 mod Words

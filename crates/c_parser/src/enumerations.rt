@@ -1,5 +1,6 @@
 // Which tokens are enumeration constants where an enumerator declares them, whatever is declared else (ISO C11 6.7.2.2, 6.2.1p7).
-ghost use Rattle.std.specs.Prelude.{◌≡◌, ℕ, ◌+◌, ◌<◌, ◌≤◌, ◌&&◌, if◌then◌else◌, length, false, IfOk, OnOk, slice_index_or};
+ghost use Rattle.std.specs.Prelude.{◌≡◌, ℕ, ◌+◌, ◌<◌, ◌≤◌, ◌&&◌, if◌then◌else◌, length, false, [], IfOk, OnOk, slice_index_or};
+ghost use Rattle.std.specs.List.{list_any};
 ghost use Rattle.c_parser.specs.Enumerations as spec;
 
 use crate::brackets::{closes, opens};
@@ -24,6 +25,13 @@ fn opens_list(tokens: &[Kind], at: u32) -> bool
     token_at(tokens, at).is_brace()
         && (before.is_enum()
             || (before.is_word() && token_at(tokens, at.saturating_sub(2)).is_enum()))
+}
+
+// Whether `enum` is among them.
+fn has_enum(tokens: &[Kind]) -> bool
+    ensures { result ≡ list_any spec.is_enum tokens.now }
+{
+    tokens.iter().any(|kind| kind.is_enum())
 }
 
 // The brackets that are open behind this token, the innermost last.
@@ -138,12 +146,26 @@ fn earlier_of(alloc: Global, tokens: &[Kind], constants: &[bool]) -> Result<Vec<
     Ok(earlier)
 }
 
+// No token is marked.
+fn unmarked(alloc: Global) -> Marks
+    ensures constants { result.constants.items ≡ [] }
+    ensures earlier { result.earlier.items ≡ [] }
+{
+    Marks {
+        constants: Vec::new(alloc),
+        earlier: Vec::new(alloc),
+    }
+}
+
 impl Marks {
-    // Of these tokens. Linear.
+    // Of these tokens. Linear, and of tokens without `enum`, as most items are, no memory.
     pub(crate) fn of(alloc: Global, tokens: &[Kind]) -> Result<Marks, AllocError>
         requires { length tokens.now ≤ 2000000 }
         ensures { IfOk result (λ m. spec.AreMarks tokens.now m.constants.items m.earlier.items) }
     {
+        if !has_enum(tokens) {
+            return Ok(unmarked(alloc));
+        }
         let constants = constants_of(alloc, tokens)?;
         let earlier = earlier_of(alloc, tokens, constants.as_slice())?;
         Ok(Marks { constants, earlier })
