@@ -10,6 +10,7 @@ ghost use Rattle.c_parser.specs.Reading.{Reads, HoldsType, HoldFronts, Stops, Fo
 
 use crate::answers::Stop;
 use crate::kinds::{Kind, casts_at, kind_at, size_at, type_at};
+use crate::room::push;
 use crate::scope::Kinds;
 use crate::type_names::type_name;
 use std::alloc::Global;
@@ -142,14 +143,14 @@ pub(crate) fn prefixes(
             Ok(Front::Before(one, next)) => (one, next),
             Ok(Front::Behind(begun)) => return Ok((prefixes, begun)),
             Ok(Front::SizeOfLiteral(_, name, closing)) => {
-                let Ok(()) = prefixes.push(Prefix::operator(end)) else {
+                let Ok(()) = push(&mut prefixes, Prefix::operator(end)) else {
                     return Err(Stop::NoMemory);
                 };
                 return Ok((prefixes, Begun::Literal(end + 1, name, closing)));
             }
             Err(stop) => return Err(stop),
         };
-        let Ok(()) = prefixes.push(one) else {
+        let Ok(()) = push(&mut prefixes, one) else {
             return Err(Stop::NoMemory);
         };
         end = next;

@@ -14,6 +14,7 @@ ghost use Rattle.c_parser.specs.declared.kinds.Kind.{Kind};
 use crate::answers::Stop;
 use crate::expressions::{ASSIGNMENT, level};
 use crate::kinds::{Kind, Named, any_size_at, kind_at, names_at, qualifies_at};
+use crate::room::push;
 use crate::scope::{Kinds, hide};
 use crate::type_names::specified;
 use std::alloc::Global;
@@ -32,7 +33,7 @@ fn qualifiers(alloc: Global, kinds: &Kinds<'_>, at: u32) -> Result<(Vec<u32>, u3
         if !qualifies_at(kinds, end) {
             return Ok((qualifiers, end));
         }
-        let Ok(()) = qualifiers.push(end) else {
+        let Ok(()) = push(&mut qualifiers, end) else {
             return Err(Stop::NoMemory);
         };
         end += 1;
@@ -64,7 +65,7 @@ pub(crate) fn pointers(
             star: end,
             qualifiers,
         };
-        let Ok(()) = pointers.push(pointer) else {
+        let Ok(()) = push(&mut pointers, pointer) else {
             return Err(Stop::NoMemory);
         };
         end = next;
@@ -258,7 +259,7 @@ fn parameter_row(
             Ok(found) => found,
             Err(stop) => return Err(stop),
         };
-        let Ok(()) = more.push((end, one)) else {
+        let Ok(()) = push(&mut more, (end, one)) else {
             return Err(Stop::NoMemory);
         };
         let Ok(further) = hide(alloc, inner, name) else {
@@ -310,7 +311,7 @@ fn more_identifiers(
         let Kind::Identifier = kind_at(kinds, end + 1) else {
             return Err(Stop::Syntax(end + 1));
         };
-        let Ok(()) = more.push((end, end + 1)) else {
+        let Ok(()) = push(&mut more, (end, end + 1)) else {
             return Err(Stop::NoMemory);
         };
         end += 2;
@@ -472,7 +473,7 @@ pub(crate) fn derivings(
         if lacks_name(&one, declares) {
             return Err(Stop::Syntax(amiss(kinds, end, next)));
         }
-        let Ok(()) = derivings.push(one) else {
+        let Ok(()) = push(&mut derivings, one) else {
             return Err(Stop::NoMemory);
         };
         end = next;

@@ -13,6 +13,7 @@ use crate::answers::Stop;
 use crate::expressions::{CONDITIONAL, level};
 use crate::kinds::{Kind, kind_at};
 use crate::members::tag_before;
+use crate::room::push;
 use crate::scope::Kinds;
 use std::alloc::Global;
 use tree_data::{Enumerator, Specifier};
@@ -66,7 +67,7 @@ fn more_enumerators(
             Ok(found) => found,
             Err(stop) => return Err(stop),
         };
-        let Ok(()) = more.push((end, one)) else {
+        let Ok(()) = push(&mut more, (end, one)) else {
             return Err(Stop::NoMemory);
         };
         end = next;

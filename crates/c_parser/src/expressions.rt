@@ -15,6 +15,7 @@ use crate::before::{Begun, prefixes};
 use crate::initializers::braces;
 use crate::joining;
 use crate::kinds::{Kind, kind_at, level_at};
+use crate::room::push;
 use crate::scope::Kinds;
 use crate::selections::{generic, offset};
 use std::alloc::Global;
@@ -45,7 +46,7 @@ pub(crate) fn pieces(alloc: Global, kinds: &Kinds<'_>, at: u32) -> Result<(Vec<u
         let Kind::Text = kind_at(kinds, end) else {
             return Ok((pieces, end));
         };
-        let Ok(()) = pieces.push(end) else {
+        let Ok(()) = push(&mut pieces, end) else {
             return Err(Stop::NoMemory);
         };
         end += 1;
@@ -216,7 +217,7 @@ fn suffixes(alloc: Global, kinds: &Kinds<'_>, at: u32) -> Result<(Vec<Suffix>, u
             Ok(found) => found,
             Err(stop) => return Err(stop),
         };
-        let Ok(()) = suffixes.push(one) else {
+        let Ok(()) = push(&mut suffixes, one) else {
             return Err(Stop::NoMemory);
         };
         end = next;
@@ -371,7 +372,7 @@ fn operands(
             Ok(found) => found,
             Err(stop) => return Err(stop),
         };
-        let Ok(()) = pairs.push((end, operand)) else {
+        let Ok(()) = push(&mut pairs, (end, operand)) else {
             return Err(Stop::NoMemory);
         };
         end = next;
@@ -485,7 +486,7 @@ fn conditional(alloc: Global, kinds: &Kinds<'_>, at: u32) -> Result<(Expr, u32),
         let Kind::Colon = kind_at(kinds, colon) else {
             return Err(Stop::Syntax(colon));
         };
-        let Ok(()) = choices.push(Choice::new(test, question, middle, colon)) else {
+        let Ok(()) = push(&mut choices, Choice::new(test, question, middle, colon)) else {
             return Err(Stop::NoMemory);
         };
         start = colon + 1;
@@ -518,7 +519,7 @@ fn assignment(alloc: Global, kinds: &Kinds<'_>, at: u32) -> Result<(Expr, u32), 
         if !value.is_unary() {
             return Err(Stop::Syntax(operator));
         }
-        let Ok(()) = places.push((value, operator)) else {
+        let Ok(()) = push(&mut places, (value, operator)) else {
             return Err(Stop::NoMemory);
         };
         start = operator + 1;

@@ -19,6 +19,7 @@ use crate::answers::Stop;
 use crate::initializers::init;
 use crate::kinds::{Kind, Site, kind_at};
 use crate::members::{assertion, declared};
+use crate::room::push;
 use crate::scope::{Kinds, Scope};
 use crate::type_names::specifiers;
 use std::alloc::Global;
@@ -144,7 +145,7 @@ fn all<'a>(
             Ok(found) => found,
             Err(stop) => return Err(stop),
         };
-        let Ok(()) = list.push(one) else {
+        let Ok(()) = push(&mut list, one) else {
             return Err(Stop::NoMemory);
         };
         let Kind::Comma = behind.at(next) else {

@@ -10,6 +10,7 @@ ghost use Rattle.c_parser.specs.Reading.{HoldBraces, HoldsInitial, HoldsPiece, H
 use crate::answers::Stop;
 use crate::expressions::{ASSIGNMENT, CONDITIONAL, level};
 use crate::kinds::{Kind, kind_at};
+use crate::room::push;
 use crate::scope::Kinds;
 use std::alloc::Global;
 use tree_data::{Braces, Designator, Init, Piece};
@@ -60,7 +61,7 @@ fn designators(alloc: Global, kinds: &Kinds<'_>, at: u32) -> Result<(Vec<Designa
             Ok(found) => found,
             Err(stop) => return Err(stop),
         };
-        let Ok(()) = more.push(one) else {
+        let Ok(()) = push(&mut more, one) else {
             return Err(Stop::NoMemory);
         };
         end = next;
@@ -164,7 +165,7 @@ fn pieces(
             Ok(found) => found,
             Err(stop) => return Err(stop),
         };
-        let Ok(()) = more.push((end, one)) else {
+        let Ok(()) = push(&mut more, (end, one)) else {
             return Err(Stop::NoMemory);
         };
         end = next;

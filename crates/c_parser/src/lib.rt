@@ -15,6 +15,7 @@ mod kinds;
 mod members;
 mod names;
 mod parts;
+mod room;
 mod scope;
 mod selections;
 mod tokens;
@@ -25,6 +26,7 @@ pub use answers::{ParseError, Stop};
 pub use kinds::{Kind, Named};
 pub use names::NameSet;
 pub use parts::{declaration_at, expression_at, parts_law, past_expression};
+pub use room::push;
 pub use scope::Scope;
 pub use whole::{
     head_reading_is_unique, item_words, parse_expr, parse_head, parse_type_name, reading_is_unique,

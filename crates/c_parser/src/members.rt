@@ -15,6 +15,7 @@ use crate::answers::Stop;
 use crate::declarators::{derivings, pointers};
 use crate::expressions::{CONDITIONAL, level, pieces};
 use crate::kinds::{Kind, Site, kind_at};
+use crate::room::push;
 use crate::scope::Kinds;
 use crate::type_names::specifiers;
 use std::alloc::Global;
@@ -201,7 +202,7 @@ fn more_fields(alloc: Global, kinds: &Kinds<'_>, at: u32) -> Result<(Vec<(u32, F
             Ok(found) => found,
             Err(stop) => return Err(stop),
         };
-        let Ok(()) = more.push((end, one)) else {
+        let Ok(()) = push(&mut more, (end, one)) else {
             return Err(Stop::NoMemory);
         };
         end = next;
@@ -295,7 +296,7 @@ pub(crate) fn members(alloc: Global, kinds: &Kinds<'_>, at: u32) -> Result<(Vec<
             Ok(found) => found,
             Err(stop) => return Err(stop),
         };
-        let Ok(()) = members.push(one) else {
+        let Ok(()) = push(&mut members, one) else {
             return Err(Stop::NoMemory);
         };
         if let Kind::CloseBrace = kind_at(kinds, next) {

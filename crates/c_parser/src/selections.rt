@@ -11,6 +11,7 @@ ghost use Rattle.c_parser.specs.Reading.{Reads, HoldBehinds, HoldsAssociation, H
 use crate::answers::Stop;
 use crate::expressions::{ASSIGNMENT, level, suffix};
 use crate::kinds::{Kind, kind_at};
+use crate::room::push;
 use crate::scope::Kinds;
 use crate::type_names::type_name;
 use std::alloc::Global;
@@ -87,7 +88,7 @@ fn associations(
             Ok(found) => found,
             Err(stop) => return Err(stop),
         };
-        let Ok(()) = choices.push((end, one)) else {
+        let Ok(()) = push(&mut choices, (end, one)) else {
             return Err(Stop::NoMemory);
         };
         end = next;
@@ -147,7 +148,7 @@ fn steps(alloc: Global, kinds: &Kinds<'_>, at: u32) -> Result<(Vec<Suffix>, u32)
             Ok(found) => found,
             Err(stop) => return Err(stop),
         };
-        let Ok(()) = steps.push(one) else {
+        let Ok(()) = push(&mut steps, one) else {
             return Err(Stop::NoMemory);
         };
         end = next;

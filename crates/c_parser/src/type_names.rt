@@ -17,6 +17,7 @@ use crate::kinds::{
     Kind, Site, atomic_opens, kind_at, list_opens, named_by, site_of, stored_amiss,
 };
 use crate::members::{members, tag_before};
+use crate::room::push;
 use crate::scope::Kinds;
 use std::alloc::Global;
 use tree_data::{Specifier, Specs, TypeName};
@@ -247,7 +248,7 @@ pub(crate) fn specifiers(
             Ok(None) => return Ok((specifiers, typed, end)),
             Err(stop) => return Err(stop),
         };
-        let Ok(()) = specifiers.push(one) else {
+        let Ok(()) = push(&mut specifiers, one) else {
             return Err(Stop::NoMemory);
         };
         end = next;

@@ -12,7 +12,7 @@ ghost use Rattle.stmt_parser.specs.Frames as spec;
 ghost use Rattle.stmt_parser.specs.Frames.{Opens, Leading, Awaited, Settles, Goes};
 
 use crate::parts::test;
-use c_parser::{Kind, Scope, Stop, past_expression};
+use c_parser::{Kind, Scope, Stop, past_expression, push};
 use std::alloc::{AllocError, Global};
 use tree_data::{Expr, Lead, Stmt};
 
@@ -102,7 +102,7 @@ fn prepend(behind: &mut Vec<Lead>, leads: Vec<Lead>) -> Result<(), AllocError>
 {
     let mut rest = leads;
     'leads: while let Some(lead) = rest.pop() {
-        behind.push(lead)?;
+        push(behind, lead)?;
     }
     Ok(())
 }
@@ -141,7 +141,7 @@ fn alone(
 {
     let lead = Lead::when(alloc, at, at + 1, test, closing)?;
     let mut behind = behind;
-    behind.push(lead)?;
+    push(&mut behind, lead)?;
     prepend(&mut behind, leads)?;
     Ok(behind)
 }
@@ -162,7 +162,7 @@ fn chosen(
 {
     let lead = Lead::when_else(alloc, at, at + 1, test, closing, chosen, otherwise)?;
     let mut leads = leads;
-    leads.push(lead)?;
+    push(&mut leads, lead)?;
     Ok(leads)
 }
 

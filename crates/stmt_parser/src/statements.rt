@@ -19,7 +19,7 @@ use crate::steps::{
     Step, case_step, default_step, do_step, for_step, if_step, label_step, switch_step, taken,
     while_step,
 };
-use c_parser::{Kind, Scope, Stop, declaration_at};
+use c_parser::{Kind, Scope, Stop, declaration_at, push};
 use std::alloc::Global;
 use tree_data::{Item, Stmt};
 
@@ -75,7 +75,7 @@ pub(crate) fn block(alloc: Global, scope: &Scope<'_>, at: u32) -> Result<(Stmt, 
             Ok(found) => found,
             Err(stop) => return Err(stop),
         };
-        let Ok(()) = items.push(item) else {
+        let Ok(()) = push(&mut items, item) else {
             return Err(Stop::NoMemory);
         };
         inner = behind;

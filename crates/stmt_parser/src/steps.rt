@@ -12,7 +12,7 @@ ghost use Rattle.stmt_parser.specs.Steps.{FoundStep, Stepped, GoesOn, behind_ste
 use crate::frames::{Frame, Opener, Progress, close, inside_opener, opened};
 use crate::leads::{case, default_label, for_lead, label, switch, while_test};
 use crate::parts::test;
-use c_parser::{Scope, Stop};
+use c_parser::{Scope, Stop, push};
 use std::alloc::Global;
 use tree_data::{Lead, Stmt};
 
@@ -186,7 +186,7 @@ pub(crate) fn taken<'a>(
     match step {
         Step::Led(lead) => {
             let mut leads = leads;
-            let Ok(()) = leads.push(lead) else {
+            let Ok(()) = push(&mut leads, lead) else {
                 return Err(Stop::NoMemory);
             };
             Ok(Progress::Goes(frames, leads, behind, next))
