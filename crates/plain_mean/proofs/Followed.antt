@@ -64,5 +64,5 @@ module _
     pub same_shown : (path : List ℕ) → shown t' conf path ≡ shown t conf path
     unfolding shown
     same_shown path = λ i. of_file (same path i)
-        (filter (falls_on path) (flat_map (λ unit. (same_meaning conf unit i).faults) (same_units i)))
+        (filter (falls_on path) (flat_map (λ unit. (same_meaning conf unit i).meaning.faults) (same_units i)))
         (list_any (bytes_eq path) (flat_map (λ unit. (same_meaning conf unit i).reads) (same_units i)))

@@ -1,7 +1,6 @@
 pub mod Confs
 pub mod Given
 pub mod Messages
-pub mod Sites
 pub mod Meanings
 pub mod TokenKinds
 pub mod Within

@@ -7,12 +7,15 @@ use Rattle.tok_data.specs.declared.faults.ShownFault.{ShownFault}
 use Rattle.doc_texts.specs.Texts.{Texts}
 use Rattle.project_conf.specs.declared.conf.Conf.{Conf}
 use Rattle.plain_mean.specs.Given.{text_in}
+use Rattle.plain_mean.specs.Meanings.{meaning}
 use Rattle.plain_mean.specs.Shown.{shown}
 use Rattle.plain_mean.specs.Within.{AreWithin}
 use Rattle.plain_mean.specs.declared.types.Shown.{Shown}
 use Rattle.plain_mean.specs.declared.lists.ByFile.{ByFile}
 use Rattle.plain_mean.specs.declared.lists.Reads.{Reads}
 use Rattle.plain_mean.specs.declared.lists.ShownLists.{ShownLists}
+use Rattle.plain_mean.specs.declared.lists.UnitShown.{UnitShown}
+use Rattle.plain_mean.specs.declared.types.UnitMeaning.{UnitMeaning}
 
 -- the faults that are kept for a text
 abbrev pub faults_at : ByFile → List ℕ → List ShownFault
@@ -24,6 +27,13 @@ has_read reads path = is_some (get (slice_cmp nat_cmp) reads.paths path)
 -- what is kept for a file
 abbrev pub shown_in : ShownLists → List ℕ → List Shown
 shown_in lists path = unwrap_or (get (slice_cmp nat_cmp) lists.lists path) []
+
+-- what is shown of a unit, and what it reads
+abbrev pub shown_of : UnitMeaning → UnitShown
+shown_of m = record { faults = m.meaning.faults; reads = m.reads }
+
+unfoldable pub shown_by : Texts → Conf → List ℕ → UnitShown
+shown_by texts conf unit = shown_of (meaning texts conf unit)
 
 -- The lists are those of all files, and lie within their texts.
 pub record AreShown (texts : Texts) (conf : Conf) (lists : ShownLists) : Type 0 where

@@ -1,5 +1,6 @@
 -- The message of each rule of preprocessing, by the rule's number.
 use Rattle.std.specs.Prelude.{ℕ, ◌==◌, ◌||◌, Bool, List, ◌++◌, codes, Option, Some, None, if◌then◌else◌}
+use Rattle.fault_texts.specs.Messages.{is_warning as item_warning}
 
 -- what stands in front of the text that a message prints, or the whole message
 unfoldable pub front_of : ℕ → List ℕ
@@ -48,6 +49,6 @@ round front text (Some behind) = front ++ (text ++ behind)
 abbrev pub message : ℕ → List ℕ → List ℕ
 message rule text = round (front_of rule) text (behind_of rule)
 
--- the rules that a warning is given for; the others are errors
+-- the rules that a warning is given for, those of items among them; the others are errors
 abbrev pub is_warning : ℕ → Bool
-is_warning rule = rule == 211 || rule == 230
+is_warning rule = (rule == 211 || rule == 230) || item_warning rule

@@ -84,7 +84,7 @@ of_file (Some text) faults read = of_text text faults read
 -- ---- all units
 
 abbrev pub faults_of : Texts → Conf → List ShownFault
-faults_of texts conf = flat_map (λ unit. (meaning texts conf unit).faults) (units texts conf)
+faults_of texts conf = flat_map (λ unit. (meaning texts conf unit).meaning.faults) (units texts conf)
 
 abbrev pub reads_of : Texts → Conf → List (List ℕ)
 reads_of texts conf = flat_map (λ unit. (meaning texts conf unit).reads) (units texts conf)

@@ -10,7 +10,6 @@ mod meaning;
 mod messages;
 mod reading;
 mod shown;
-mod sites;
 mod token_kinds;
 mod types;
 mod units;

@@ -2,11 +2,10 @@
 ghost use Rattle.std.specs.Prelude.{◌≡◌, ℕ, ◌+◌, ◌≤◌, ◌||◌, false, List, [], ◌∷◌, ◌++◌, length, flat_map, bytes_eq, IfOk, OnOk, if◌then◌else◌};
 ghost use Rattle.std.specs.List.{filter, list_any};
 ghost use Rattle.doc_texts.specs.Texts.{text_at};
-ghost use Rattle.plain_mean.specs.Meanings.{meaning};
 ghost use Rattle.plain_mean.specs.Confs.{IsUsable};
 ghost use Rattle.plain_mean.specs.Given.{text_in};
 ghost use Rattle.plain_mean.specs.Shown.{falls_on, is_unit_of, of_file, units};
-ghost use Rattle.plain_mean.specs.Lists.{AreShown, faults_at, has_read, shown_in};
+ghost use Rattle.plain_mean.specs.Lists.{AreShown, faults_at, has_read, shown_by, shown_in};
 ghost use Rattle.plain_mean.specs.Within.{AreWithin};
 
 use crate::lexings::Lexings;
@@ -15,6 +14,7 @@ use crate::reading::Reading;
 use crate::shown::of_text;
 use crate::types::{Shown, ShownFaults, ShownList};
 use doc_texts::{Docs, paths_are_sets};
+use include_units::Paths;
 use project_conf::Conf;
 use shared_text::Name;
 use std::alloc::{AllocError, Global};
@@ -126,6 +126,13 @@ impl Reads {
     }
 }
 
+// What is shown of a unit, and what it reads.
+#[derive(Drop)]
+struct UnitShown {
+    faults: ShownFaults,
+    reads: Paths,
+}
+
 // What the units of the texts come to: their faults, and the texts that they read.
 #[derive(Drop)]
 struct Found {
@@ -165,6 +172,26 @@ fn units(alloc: Global, docs: &Docs, reading: &Reading<'_>) -> Result<Vec<Path>,
     Ok(units)
 }
 
+// What is shown of a unit, and what it reads, as one step.
+fn shown_by<L: Ledger>(
+    alloc: Global,
+    lexings: &mut Lexings<'_>,
+    reading: &Reading<'_>,
+    unit: &Path,
+    steps: &mut Steps<L>,
+) -> Result<UnitShown, AllocError>
+    ensures shown { IfOk result (λ s. s ≡ shown_by lexings.old reading.now unit.now) }
+    ensures same { lexings.new ≡ lexings.old }
+    ensures steps { steps.new ≡ steps.old + 1 }
+{
+    let meant = mean(alloc, lexings, reading, unit, steps)?;
+    let meaning = meant.meaning;
+    Ok(UnitShown {
+        faults: meaning.faults,
+        reads: meant.reads,
+    })
+}
+
 fn found_in<L: Ledger>(
     alloc: Global,
     lexings: &mut Lexings<'_>,
@@ -172,8 +199,8 @@ fn found_in<L: Ledger>(
     units: &[Path],
     steps: &mut Steps<L>,
 ) -> Result<Found, AllocError>
-    ensures faults { IfOk result (λ found. (q : List ℕ) → faults_at found.faults q ≡ filter (falls_on q) (flat_map (λ unit. (meaning lexings.old reading.now unit).faults) units.now)) }
-    ensures reads { IfOk result (λ found. (q : List ℕ) → has_read found.reads q ≡ list_any (bytes_eq q) (flat_map (λ unit. (meaning lexings.old reading.now unit).reads) units.now)) }
+    ensures faults { IfOk result (λ found. (q : List ℕ) → faults_at found.faults q ≡ filter (falls_on q) (flat_map (λ unit. (shown_by lexings.old reading.now unit).faults) units.now)) }
+    ensures reads { IfOk result (λ found. (q : List ℕ) → has_read found.reads q ≡ list_any (bytes_eq q) (flat_map (λ unit. (shown_by lexings.old reading.now unit).reads) units.now)) }
     ensures same { lexings.new ≡ lexings.old }
     ensures steps { OnOk result (steps.new ≡ steps.old + length units.now) }
 {
@@ -182,9 +209,9 @@ fn found_in<L: Ledger>(
     let mut rest = units;
     'units: while let Some((unit, behind)) = rest.split_first() {
         rest = behind;
-        let meant = mean(alloc, lexings, reading, unit, steps)?;
-        faults.add_all(meant.faults.into_vec())?;
-        reads.add_all(meant.reads.into_vec())?;
+        let shown = shown_by(alloc, lexings, reading, unit, steps)?;
+        faults.add_all(shown.faults.into_vec())?;
+        reads.add_all(shown.reads.into_vec())?;
     }
     Ok(Found { faults, reads })
 }

@@ -1,28 +1,51 @@
 // What a unit means, worked out anew.
-ghost use Rattle.std.specs.Prelude.{◌≡◌, ◌+◌, map, IfOk};
-ghost use Rattle.plain_mean.specs.Meanings.{shown_fault, meant_by, meaning};
+ghost use Rattle.std.specs.Prelude.{◌≡◌, ◌+◌, ◌≤◌, ◌++◌, length, map, take, IfOk, OnOk};
+ghost use Rattle.plain_mean.specs.Meanings as spec;
+ghost use Rattle.plain_mean.specs.Meanings.{meaning};
 
 use crate::lexings::Lexings;
 use crate::messages::message;
 use crate::reading::Reading;
-use crate::sites::{all_reached, site};
 use crate::types::{ShownFaults, UnitMeaning};
 use crate::units::tokens_over;
 use include_units::{Entered, UnitTokens};
+use item_readings::readings_exist;
+use shared_list::Listing;
 use std::alloc::{AllocError, Global};
+use std::mem;
 use std::sync::ledger::Ledger;
 use steps::Steps;
-use tok_data::{PpFault, ShownFault};
+use stmt_checks::fold_items;
+use tok_data::{FileId, OutToken, PpFault, ShownFault, TokId};
+use unit_meaning::{all_reached, moved};
 use uri_paths::Path;
+
+// Of these a unit has no more.
+const MOST_TOKENS: usize = 2_000_000;
+
+// The texts that were entered, each with the token by which it was.
+fn entries(alloc: Global, entered: &[Entered]) -> Result<Vec<(FileId, TokId)>, AllocError>
+    ensures { IfOk result (λ v. v.items ≡ map spec.entry entered.now) }
+{
+    let mut out = Vec::new(alloc);
+    let mut rest = entered;
+    'entered: while let Some((one, behind)) = rest.split_first() {
+        rest = behind;
+        let file = one.file.copy()?;
+        let by = one.by.copy()?;
+        out.push((file, by))?;
+    }
+    Ok(out)
+}
 
 fn shown_fault(
     alloc: Global,
-    reached: &[Entered],
+    reached: &[(FileId, TokId)],
     fault: &PpFault,
 ) -> Result<ShownFault, AllocError>
-    ensures { IfOk result (λ shown. shown ≡ shown_fault reached.now fault.now) }
+    ensures { IfOk result (λ shown. shown ≡ spec.shown_fault reached.now fault.now) }
 {
-    let tok = site(reached, &fault.tok)?;
+    let tok = moved(reached, &fault.tok)?;
     let text = message(alloc, fault.rule, fault.text.as_str())?;
     Ok(ShownFault {
         tok,
@@ -31,12 +54,12 @@ fn shown_fault(
     })
 }
 
-fn shown_faults(
+fn all_shown(
     alloc: Global,
-    reached: &[Entered],
+    reached: &[(FileId, TokId)],
     faults: &[PpFault],
-) -> Result<ShownFaults, AllocError>
-    ensures { IfOk result (λ shown. shown ≡ map (shown_fault reached.now) faults.now) }
+) -> Result<Vec<ShownFault>, AllocError>
+    ensures { IfOk result (λ shown. shown.items ≡ map (spec.shown_fault reached.now) faults.now) }
 {
     let mut out = Vec::new(alloc);
     let mut rest = faults;
@@ -44,16 +67,99 @@ fn shown_faults(
         rest = behind;
         out.push(shown_fault(alloc, reached, fault)?)?;
     }
-    Ok(ShownFaults::from_vec(out))
+    Ok(out)
+}
+
+// The faults of preprocessing, as they are shown.
+fn shown_faults(
+    alloc: Global,
+    entered: &[(FileId, TokId)],
+    faults: &[PpFault],
+) -> Result<Vec<ShownFault>, AllocError>
+    ensures { IfOk result (λ shown. shown.items ≡ spec.shown_faults entered.now faults.now) }
+{
+    let reached = all_reached(alloc, entered)?;
+    let shown = all_shown(alloc, &reached, faults)?;
+    Ok(shown)
+}
+
+fn front(tokens: &[OutToken], len: usize) -> &[OutToken]
+    ensures tokens { result.now ≡ take len tokens.now }
+    ensures few { length result.now ≤ len }
+{
+    if len <= tokens.len() {
+        return tokens.split_at(len).0;
+    }
+    tokens
+}
+
+fn item_tokens(tokens: &[OutToken]) -> &[OutToken]
+    ensures tokens { result.now ≡ spec.item_tokens tokens.now }
+    ensures few { length result.now ≤ 2000000 }
+{
+    front(tokens, MOST_TOKENS)
+}
+
+// What the items mean, and what is shown of them and of the unit's end.
+#[tactic(auto, unfolding(crate::specs::Meanings::item_meaning))]
+fn item_meaning(
+    alloc: Global,
+    tokens: &[OutToken],
+    entered: &[(FileId, TokId)],
+) -> Result<scope_tables::UnitMeaning, AllocError>
+    ensures { IfOk result (λ m. m ≡ spec.item_meaning tokens.now entered.now) }
+{
+    readings_exist();
+    let items = item_tokens(tokens);
+    match fold_items(alloc, items, entered) {
+        Ok(meaning) => Ok(meaning),
+        Err(error) => Err(error),
+    }
+}
+
+fn joined(faults: Vec<ShownFault>, behind: ShownFaults) -> Result<ShownFaults, AllocError>
+    ensures { IfOk result (λ all. all ≡ faults.items ++ behind) }
+{
+    let mut all = faults;
+    let mut more = behind.into_vec();
+    all.append(&mut more)?;
+    Ok(Listing::from_vec(all))
+}
+
+// Puts these faults in front of those of the items.
+fn put_in_front(
+    alloc: Global,
+    meaning: &mut scope_tables::UnitMeaning,
+    faults: Vec<ShownFault>,
+) -> Result<(), AllocError>
+    ensures { OnOk result (meaning.new ≡ spec.behind faults.items meaning.old) }
+{
+    let items = mem::replace(&mut meaning.faults, Listing::from_vec(Vec::new(alloc)));
+    let all = joined(faults, items)?;
+    meaning.faults = all;
+    Ok(())
+}
+
+fn whole(
+    alloc: Global,
+    tokens: &UnitTokens,
+    entered: &[(FileId, TokId)],
+) -> Result<scope_tables::UnitMeaning, AllocError>
+    ensures { IfOk result (λ m. m ≡ spec.whole tokens.now entered.now) }
+{
+    let faults = shown_faults(alloc, entered, tokens.faults.as_slice())?;
+    let mut meaning = item_meaning(alloc, tokens.tokens.as_slice(), entered)?;
+    put_in_front(alloc, &mut meaning, faults)?;
+    Ok(meaning)
 }
 
 fn meant_by(alloc: Global, tokens: UnitTokens) -> Result<UnitMeaning, AllocError>
-    ensures { IfOk result (λ m. m ≡ meant_by tokens) }
+    ensures { IfOk result (λ m. m ≡ spec.meant_by tokens) }
 {
-    let reached = all_reached(alloc, tokens.entered.as_slice())?;
-    let faults = shown_faults(alloc, reached.as_slice(), tokens.faults.as_slice())?;
+    let entered = entries(alloc, tokens.entered.as_slice())?;
+    let meaning = whole(alloc, &tokens, &entered)?;
     Ok(UnitMeaning {
-        faults,
+        meaning,
         reads: tokens.reads,
     })
 }

@@ -16,12 +16,12 @@ use tok_data::ShownFault;
 /// Faults with their messages, in order.
 pub type ShownFaults = Listing<ShownFault>;
 
-/// What a unit means: so far the faults of its preprocessing (ISO C11 6.10), and what it reads.
-#[derive(Debug, Drop)]
+/// What a unit means (ISO C11 5.1.1.1), and what it reads.
+#[derive(Drop)]
 pub struct UnitMeaning {
-    /// The faults, in the order in which they were met. The number 2^32-1 of a token stands for the empty range at the front of
-    /// its text.
-    pub faults: ShownFaults,
+    /// What its items declare and denote, and its faults: those of preprocessing (6.10) in the order in which they were met, and behind them those of
+    /// the items and of the unit's end (6.5 to 6.9). The number 2^32-1 of a token stands for the empty range at the front of its text.
+    pub meaning: scope_tables::UnitMeaning,
     /// The paths whose texts were read, each once, in the order of their first entry; the unit's own first.
     pub reads: Paths,
 }

@@ -1,10 +1,9 @@
 use Rattle.std.proofs.Common.{flat_map, bytes_eq, is_some, ap, sym, subst, ◌∙◌}
 use Rattle.std.specs.List.{filter, list_any}
 use Rattle.doc_texts.specs.Texts.{text_at}
-use Rattle.plain_mean.specs.Meanings.{meaning}
 use Rattle.plain_mean.specs.Shown.{falls_on, units}
-use Rattle.plain_mean.specs.Lists.{AreShown, faults_at, has_read, shown_in}
-use Rattle.plain_mean.proofs.Listed.{all_right}
+use Rattle.plain_mean.specs.Lists.{AreShown, faults_at, has_read, shown_by, shown_in}
+use Rattle.plain_mean.proofs.Listed.{all_right, faults_shown, reads_shown}
 use Rattle.plain_mean.proofs.lists.shown_lists.Goals as goal
 
 pub returns-clause-shown : goal.returns-clause-shown
@@ -15,7 +14,9 @@ returns-clause-shown g c =
       right = λ q. all_right c.found_in.new.lexings c.args.conf.now q (list_any (bytes_eq q) c.as_slice-2.result.now) (has_read c.in_ok-found.found.reads q) (faults_at c.in_ok-found.found.faults q) (shown_in c.in_ok-lists.lists q)
           (c.in_ok-lists.ensures.listed q)
           (ap (list_any (bytes_eq q)) (c.as_slice-2.ensures.value ∙ c.in_ok-paths.ensures) ∙ c.paths_are_sets.ensures.members c.args.docs.now q ∙ ap (λ t. is_some (text_at t q)) (sym same))
-          (c.in_ok-found.ensures.faults q ∙ (λ i. filter (falls_on q) (flat_map (λ unit. (meaning (sym c.in_ok-found.ensures.same i) (c.in_ok-reading.ensures i) unit).faults) (chosen i))))
-          (c.in_ok-found.ensures.reads q ∙ (λ i. list_any (bytes_eq q) (flat_map (λ unit. (meaning (sym c.in_ok-found.ensures.same i) (c.in_ok-reading.ensures i) unit).reads) (chosen i))));
+          (c.in_ok-found.ensures.faults q ∙ (λ i. filter (falls_on q) (flat_map (λ unit. (shown_by (sym c.in_ok-found.ensures.same i) (c.in_ok-reading.ensures i) unit).faults) (chosen i)))
+          ∙ ap (filter (falls_on q)) (faults_shown c.found_in.new.lexings c.args.conf.now))
+          (c.in_ok-found.ensures.reads q ∙ (λ i. list_any (bytes_eq q) (flat_map (λ unit. (shown_by (sym c.in_ok-found.ensures.same i) (c.in_ok-reading.ensures i) unit).reads) (chosen i)))
+          ∙ ap (list_any (bytes_eq q)) (reads_shown c.found_in.new.lexings c.args.conf.now));
       within = c.in_ok-lists.ensures.within;
     })
