@@ -9,5 +9,5 @@ pub returns : goal.returns
 returns c s =
     c.in_ok-prepend.ensures s
     ∙ ap (λ y. led (leads_of c.args.leads.items) y)
-    (back_pushed c.args.behind.items c.push.new.self.items _ c.in_ok-push.ensures.items s
+    (back_pushed c.args.behind.items c.push.new.list.items _ c.in_ok-push.ensures.items s
     ∙ ap (λ l. led (l ∷ []) (led_back (leads_of c.args.behind.items) s)) c.in_ok-lead.ensures)
