@@ -45,7 +45,7 @@ module _
   same_given (Text path) = ap (λ o. (lexed (unwrap_or o [])).tokens) (same path)
   same_given (Lines path) = ap (λ o. own_places (unwrap_or o [])) (same path)
 
-  same_meaning : (conf : Conf) (unit : List ℕ) → meaning t' conf unit ≡ meaning t conf unit
+  pub same_meaning : (conf : Conf) (unit : List ℕ) → meaning t' conf unit ≡ meaning t conf unit
   unfolding meaning
   same_meaning conf unit = λ i. meant_by (result_of (λ q. same_given q i) (unit_tokens (unit_conf conf unit)))
 
@@ -57,7 +57,7 @@ module _
   same_paths = ap keys (same_sets (marked (keys t'.disk ++ keys t'.opened)) (marked (keys t.disk ++ keys t.opened)) same_members)
 
   module _ (conf : Conf) (same_test : (path : List ℕ) → is_unit_of t' conf path ≡ is_unit_of t conf path) where
-    same_units : units t' conf ≡ units t conf
+    pub same_units : units t' conf ≡ units t conf
     unfolding units
     same_units = λ i. take most_units (filter (λ path. same_test path i) (same_paths i))
 

@@ -1,13 +1,13 @@
 -- The lists that are kept, file by file.
-use Rattle.std.proofs.Common.{◌≡◌, ℕ, Bool, true, false, cond, ◌||◌, List, [], ◌∷◌, length, Option, Some, None, is_some, bytes_eq, flat_map, refl, sym, ap, ◌∙◌, subst}
+use Rattle.std.proofs.Common.{◌≡◌, ℕ, Bool, true, false, cond, ◌||◌, List, [], ◌∷◌, length, flat_map, Option, Some, None, is_some, bytes_eq, refl, sym, ap, ◌∙◌, subst}
 use Rattle.std.specs.List.{filter, list_any}
 use Rattle.std.proofs.lemmas.Slice.Eq.{bytes_eq-Decides}
 use Rattle.tok_data.specs.declared.faults.ShownFault.{ShownFault}
 use Rattle.doc_texts.specs.Texts.{Texts, text_at}
 use Rattle.project_conf.specs.declared.conf.Conf.{Conf}
 use Rattle.plain_mean.specs.Given.{text_in}
+use Rattle.plain_mean.specs.Lists.{faults_by, reads_by}
 use Rattle.plain_mean.specs.Shown.{falls_on, of_file, faults_of, reads_of, shown, units}
-use Rattle.plain_mean.specs.Lists.{shown_by}
 use Rattle.plain_mean.specs.Within.{AreWithin}
 use Rattle.plain_mean.specs.declared.types.Shown.{Shown}
 
@@ -48,11 +48,11 @@ all_right t conf q among read faults list is path found told =
     is ∙ ap (λ b. cond b (of_file (text_at t q) faults read) []) path ∙ of_none (text_at t q) faults read
     ∙ (λ i. of_file (text_at t q) (found i) (told i))
 
--- what is shown of all units
-pub faults_shown : (t : Texts) (conf : Conf) → flat_map (λ unit. (shown_by t conf unit).faults) (units t conf) ≡ faults_of t conf
-unfolding shown_by
+-- what is shown of all units, and what they read
+pub faults_shown : (t : Texts) (conf : Conf) → flat_map (faults_by t conf) (units t conf) ≡ faults_of t conf
+unfolding faults_by
 faults_shown t conf = refl
 
-pub reads_shown : (t : Texts) (conf : Conf) → flat_map (λ unit. (shown_by t conf unit).reads) (units t conf) ≡ reads_of t conf
-unfolding shown_by
+pub reads_shown : (t : Texts) (conf : Conf) → flat_map (reads_by t conf) (units t conf) ≡ reads_of t conf
+unfolding reads_by
 reads_shown t conf = refl

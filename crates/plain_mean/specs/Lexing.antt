@@ -8,6 +8,7 @@ use Rattle.c_tokens.specs.Laws.{InOrder, ranges}
 use Rattle.doc_texts.specs.Texts.{Texts}
 use Rattle.include_units.specs.Runs.{own_places}
 use Rattle.plain_mean.specs.Given.{text_in}
+use Rattle.plain_mean.specs.declared.lexings.KeptLexings.{KeptLexings}
 use Rattle.plain_mean.specs.declared.lexings.LexedText.{LexedText}
 
 pub record IsLexed (text : List ℕ) (l : LexedText) : Type 0 where
@@ -20,3 +21,7 @@ pub record IsLexed (text : List ℕ) (l : LexedText) : Type 0 where
 -- what is kept is what lexing gives of these texts
 abbrev pub AreLexed : Texts → BTreeMap (List ℕ) LexedText → Type 0
 AreLexed texts kept = (path : List ℕ) (l : LexedText) → get (slice_cmp nat_cmp) kept path ≡ Some l → IsLexed (text_in texts path) l
+
+-- what is kept without the texts is what lexing gives of these
+abbrev pub HasLexed : Texts → KeptLexings → Type 0
+HasLexed texts lexings = AreLexed texts lexings.kept

@@ -14,8 +14,6 @@ use Rattle.plain_mean.specs.declared.types.Shown.{Shown}
 use Rattle.plain_mean.specs.declared.lists.ByFile.{ByFile}
 use Rattle.plain_mean.specs.declared.lists.Reads.{Reads}
 use Rattle.plain_mean.specs.declared.lists.ShownLists.{ShownLists}
-use Rattle.plain_mean.specs.declared.lists.UnitShown.{UnitShown}
-use Rattle.plain_mean.specs.declared.types.UnitMeaning.{UnitMeaning}
 
 -- the faults that are kept for a text
 abbrev pub faults_at : ByFile → List ℕ → List ShownFault
@@ -24,16 +22,16 @@ faults_at faults file = unwrap_or (get (slice_cmp nat_cmp) faults.lists file) []
 abbrev pub has_read : Reads → List ℕ → Bool
 has_read reads path = is_some (get (slice_cmp nat_cmp) reads.paths path)
 
+-- what is shown of a unit, and what it reads
+unfoldable pub faults_by : Texts → Conf → List ℕ → List ShownFault
+faults_by texts conf unit = (meaning texts conf unit).meaning.faults
+
+unfoldable pub reads_by : Texts → Conf → List ℕ → List (List ℕ)
+reads_by texts conf unit = (meaning texts conf unit).reads
+
 -- what is kept for a file
 abbrev pub shown_in : ShownLists → List ℕ → List Shown
 shown_in lists path = unwrap_or (get (slice_cmp nat_cmp) lists.lists path) []
-
--- what is shown of a unit, and what it reads
-abbrev pub shown_of : UnitMeaning → UnitShown
-shown_of m = record { faults = m.meaning.faults; reads = m.reads }
-
-unfoldable pub shown_by : Texts → Conf → List ℕ → UnitShown
-shown_by texts conf unit = shown_of (meaning texts conf unit)
 
 -- The lists are those of all files, and lie within their texts.
 pub record AreShown (texts : Texts) (conf : Conf) (lists : ShownLists) : Type 0 where

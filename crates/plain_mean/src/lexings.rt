@@ -1,7 +1,8 @@
 // What lexing gives of the texts that units read, once for all units.
 ghost use Rattle.std.specs.Prelude.{◌≡◌, ◌≤◌, length, IfOk};
+ghost use Rattle.doc_texts.specs.Texts.{Texts};
 ghost use Rattle.plain_mean.specs.Given.{text_in};
-ghost use Rattle.plain_mean.specs.Lexing.{IsLexed};
+ghost use Rattle.plain_mean.specs.Lexing.{IsLexed, HasLexed};
 
 use c_tokens::lex;
 use doc_texts::Docs;
@@ -13,7 +14,7 @@ use uri_paths::Path;
 
 /// The tokens of a text, and their places. A copy shares them.
 #[derive(Debug, Drop)]
-pub(crate) struct LexedText {
+pub struct LexedText {
     pub tokens: PpTokens,
     pub places: TextPlaces,
 }
@@ -46,6 +47,39 @@ fn text_in<'a>(docs: &'a Docs, path: &Path) -> &'a str
     match docs.text(path) {
         Some(text) => text,
         None => "",
+    }
+}
+
+/// What lexing gave of some texts, by path, without the texts.
+#[derive(Drop)]
+pub struct KeptLexings {
+    alloc: Global,
+    kept: BTreeMap<Path, LexedText>,
+}
+
+impl KeptLexings {
+    /// No text was lexed. It takes no memory.
+    pub fn new(alloc: Global) -> KeptLexings
+        ensures { (texts : Texts) → HasLexed texts result }
+    {
+        KeptLexings {
+            alloc,
+            kept: BTreeMap::new(alloc),
+        }
+    }
+
+    /// What lexing gives of the text at a path, which is empty where there is none: what is kept, shared, or else lexed
+    /// anew. It fails for want of memory alone.
+    pub fn at(&self, docs: &Docs, path: &Path) -> Result<LexedText, AllocError>
+        requires { HasLexed docs.now self.now }
+        ensures { IfOk result (λ l. IsLexed (text_in docs.now path.now) l) }
+    {
+        match self.kept.get(path) {
+            Some(kept) => return kept.share(),
+            None => {}
+        }
+        let lexed = lexed_text(self.alloc, text_in(docs, path))?;
+        Ok(lexed)
     }
 }
 
@@ -102,5 +136,15 @@ impl<'a> Lexings<'a> {
         let copy = lexed.share()?;
         self.kept.insert(path.share()?, lexed)?;
         Ok(copy)
+    }
+
+    /// What was lexed.
+    pub(crate) fn into_kept(self) -> KeptLexings
+        ensures { HasLexed self.entry result }
+    {
+        KeptLexings {
+            alloc: self.alloc,
+            kept: self.kept,
+        }
     }
 }

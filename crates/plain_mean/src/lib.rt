@@ -15,11 +15,11 @@ mod types;
 mod units;
 
 pub use confs::{conf_of, database_fault, database_path};
-pub use laws::shown_follows;
-pub use lexings::Lexings;
-pub use lists::{ShownLists, shown_lists, unit_count};
+pub use laws::{meanings_follow, shown_follows};
+pub use lexings::{KeptLexings, LexedText, Lexings};
+pub use lists::{ShownLists, WorkedOut, unit_count, worked_out};
 pub use meaning::mean;
 pub use messages::is_warning;
 pub use reading::Reading;
 pub use token_kinds::kinds;
-pub use types::{Shown, ShownFaults, ShownList, UnitMeaning};
+pub use types::{MeantUnit, Shown, ShownFaults, ShownList, UnitMeaning};

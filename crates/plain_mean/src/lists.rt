@@ -1,20 +1,21 @@
 // What all files show, over all units of the texts.
-ghost use Rattle.std.specs.Prelude.{◌≡◌, ℕ, ◌+◌, ◌≤◌, ◌||◌, false, List, [], ◌∷◌, ◌++◌, length, flat_map, bytes_eq, IfOk, OnOk, if◌then◌else◌};
+ghost use Rattle.std.specs.Prelude.{◌≡◌, ℕ, ◌+◌, ◌≤◌, ◌||◌, false, List, [], ◌∷◌, ◌++◌, length, map, flat_map, bytes_eq, IfOk, OnOk, if◌then◌else◌};
 ghost use Rattle.std.specs.List.{filter, list_any};
 ghost use Rattle.doc_texts.specs.Texts.{text_at};
+ghost use Rattle.plain_mean.specs.Lexing.{HasLexed};
+ghost use Rattle.plain_mean.specs.Meanings.{meant_unit};
 ghost use Rattle.plain_mean.specs.Confs.{IsUsable};
 ghost use Rattle.plain_mean.specs.Given.{text_in};
 ghost use Rattle.plain_mean.specs.Shown.{falls_on, is_unit_of, of_file, units};
-ghost use Rattle.plain_mean.specs.Lists.{AreShown, faults_at, has_read, shown_by, shown_in};
+ghost use Rattle.plain_mean.specs.Lists.{AreShown, faults_at, faults_by, has_read, reads_by, shown_in};
 ghost use Rattle.plain_mean.specs.Within.{AreWithin};
 
-use crate::lexings::Lexings;
+use crate::lexings::{KeptLexings, Lexings};
 use crate::meaning::mean;
 use crate::reading::Reading;
 use crate::shown::of_text;
-use crate::types::{Shown, ShownFaults, ShownList};
+use crate::types::{MeantUnit, Shown, ShownFaults, ShownList};
 use doc_texts::{Docs, paths_are_sets};
-use include_units::Paths;
 use project_conf::Conf;
 use shared_text::Name;
 use std::alloc::{AllocError, Global};
@@ -69,11 +70,13 @@ impl ByFile {
         self.put(file, faults)
     }
 
-    fn add_all(&mut self, faults: Vec<ShownFault>) -> Result<(), AllocError>
-        ensures { OnOk result ((q : List ℕ) → faults_at self.new q ≡ faults_at self.old q ++ filter (falls_on q) faults.items) }
+    fn add_all(&mut self, faults: &[ShownFault]) -> Result<(), AllocError>
+        ensures { OnOk result ((q : List ℕ) → faults_at self.new q ≡ faults_at self.old q ++ filter (falls_on q) faults.now) }
     {
-        'faults: for fault in faults {
-            self.add(fault)?;
+        let mut rest = faults;
+        'faults: while let Some((fault, behind)) = rest.split_first() {
+            rest = behind;
+            self.add(fault.copy()?)?;
         }
         Ok(())
     }
@@ -110,11 +113,13 @@ impl Reads {
         Ok(())
     }
 
-    fn add_all(&mut self, paths: Vec<Path>) -> Result<(), AllocError>
-        ensures { OnOk result ((q : List ℕ) → has_read self.new q ≡ (has_read self.old q || list_any (bytes_eq q) paths.items)) }
+    fn add_all(&mut self, paths: &[Path]) -> Result<(), AllocError>
+        ensures { OnOk result ((q : List ℕ) → has_read self.new q ≡ (has_read self.old q || list_any (bytes_eq q) paths.now)) }
     {
-        'paths: for path in paths {
-            self.add(path)?;
+        let mut rest = paths;
+        'paths: while let Some((path, behind)) = rest.split_first() {
+            rest = behind;
+            self.add(path.share()?)?;
         }
         Ok(())
     }
@@ -126,16 +131,10 @@ impl Reads {
     }
 }
 
-// What is shown of a unit, and what it reads.
-#[derive(Drop)]
-struct UnitShown {
-    faults: ShownFaults,
-    reads: Paths,
-}
-
-// What the units of the texts come to: their faults, and the texts that they read.
+// What the units of the texts come to: what each means, their faults, and the texts that they read.
 #[derive(Drop)]
 struct Found {
+    units: Vec<MeantUnit>,
     faults: ByFile,
     reads: Reads,
 }
@@ -172,24 +171,32 @@ fn units(alloc: Global, docs: &Docs, reading: &Reading<'_>) -> Result<Vec<Path>,
     Ok(units)
 }
 
-// What is shown of a unit, and what it reads, as one step.
-fn shown_by<L: Ledger>(
+fn meant_unit<L: Ledger>(
     alloc: Global,
     lexings: &mut Lexings<'_>,
     reading: &Reading<'_>,
     unit: &Path,
     steps: &mut Steps<L>,
-) -> Result<UnitShown, AllocError>
-    ensures shown { IfOk result (λ s. s ≡ shown_by lexings.old reading.now unit.now) }
+) -> Result<MeantUnit, AllocError>
+    ensures unit { IfOk result (λ u. u ≡ meant_unit lexings.old reading.now unit.now) }
+    ensures faults { IfOk result (λ u. u.meaning.meaning.faults ≡ faults_by lexings.old reading.now unit.now) }
+    ensures reads { IfOk result (λ u. u.meaning.reads ≡ reads_by lexings.old reading.now unit.now) }
     ensures same { lexings.new ≡ lexings.old }
     ensures steps { steps.new ≡ steps.old + 1 }
 {
-    let meant = mean(alloc, lexings, reading, unit, steps)?;
-    let meaning = meant.meaning;
-    Ok(UnitShown {
-        faults: meaning.faults,
-        reads: meant.reads,
-    })
+    let meaning = mean(alloc, lexings, reading, unit, steps)?;
+    let path = unit.share()?;
+    Ok(MeantUnit { path, meaning })
+}
+
+// Adds what is shown of a unit, and what it reads.
+fn note(faults: &mut ByFile, reads: &mut Reads, unit: &MeantUnit) -> Result<(), AllocError>
+    ensures faults { OnOk result ((q : List ℕ) → faults_at faults.new q ≡ faults_at faults.old q ++ filter (falls_on q) unit.now.meaning.meaning.faults) }
+    ensures reads { OnOk result ((q : List ℕ) → has_read reads.new q ≡ (has_read reads.old q || list_any (bytes_eq q) unit.now.meaning.reads)) }
+{
+    faults.add_all(unit.meaning.meaning.faults.as_slice())?;
+    reads.add_all(unit.meaning.reads.as_slice())?;
+    Ok(())
 }
 
 fn found_in<L: Ledger>(
@@ -199,21 +206,27 @@ fn found_in<L: Ledger>(
     units: &[Path],
     steps: &mut Steps<L>,
 ) -> Result<Found, AllocError>
-    ensures faults { IfOk result (λ found. (q : List ℕ) → faults_at found.faults q ≡ filter (falls_on q) (flat_map (λ unit. (shown_by lexings.old reading.now unit).faults) units.now)) }
-    ensures reads { IfOk result (λ found. (q : List ℕ) → has_read found.reads q ≡ list_any (bytes_eq q) (flat_map (λ unit. (shown_by lexings.old reading.now unit).reads) units.now)) }
+    ensures units { IfOk result (λ found. found.units.items ≡ map (meant_unit lexings.old reading.now) units.now) }
+    ensures faults { IfOk result (λ found. (q : List ℕ) → faults_at found.faults q ≡ filter (falls_on q) (flat_map (faults_by lexings.old reading.now) units.now)) }
+    ensures reads { IfOk result (λ found. (q : List ℕ) → has_read found.reads q ≡ list_any (bytes_eq q) (flat_map (reads_by lexings.old reading.now) units.now)) }
     ensures same { lexings.new ≡ lexings.old }
     ensures steps { OnOk result (steps.new ≡ steps.old + length units.now) }
 {
+    let mut meant = Vec::new(alloc);
     let mut faults = ByFile::new(alloc);
     let mut reads = Reads::new(alloc);
     let mut rest = units;
     'units: while let Some((unit, behind)) = rest.split_first() {
         rest = behind;
-        let shown = shown_by(alloc, lexings, reading, unit, steps)?;
-        faults.add_all(shown.faults.into_vec())?;
-        reads.add_all(shown.reads.into_vec())?;
+        let one = meant_unit(alloc, lexings, reading, unit, steps)?;
+        note(&mut faults, &mut reads, &one)?;
+        meant.push(one)?;
     }
-    Ok(Found { faults, reads })
+    Ok(Found {
+        units: meant,
+        faults,
+        reads,
+    })
 }
 
 // What a file shows; one that no unit reads, and on which nothing falls, isn't lexed.
@@ -304,17 +317,30 @@ pub fn unit_count(alloc: Global, docs: &Docs, conf: &Conf) -> Result<u32, AllocE
     Ok(units.len() as u32)
 }
 
-/// What each file of the texts shows, each unit worked out once, which is one step each. Names of definitions are identifiers; those of
+/// What all units of some texts come to.
+#[derive(Drop)]
+pub struct WorkedOut {
+    /// What each file shows.
+    pub shown: ShownLists,
+    /// What each unit means, in order of path.
+    pub units: Vec<MeantUnit>,
+    /// What lexing gave of the texts that the units read.
+    pub lexings: KeptLexings,
+}
+
+/// What all units of the texts mean and what each file shows, each unit worked out once, which is one step each. Names of definitions are identifiers; those of
 /// the words have together at most 131,072 bytes of names and texts, and those of an entry of the database 2^25. Beside the units it
 /// costs the texts' paths and the database's entries. It fails as `mean` does.
-pub fn shown_lists<L: Ledger>(
+pub fn worked_out<L: Ledger>(
     alloc: Global,
     docs: &Docs,
     conf: &Conf,
     steps: &mut Steps<L>,
-) -> Result<ShownLists, AllocError>
+) -> Result<WorkedOut, AllocError>
     requires { IsUsable conf.now }
-    ensures shown { IfOk result (λ lists. AreShown docs.now conf.now lists) }
+    ensures shown { IfOk result (λ w. AreShown docs.now conf.now w.shown) }
+    ensures units { IfOk result (λ w. w.units.items ≡ map (meant_unit docs.now conf.now) (units docs.now conf.now)) }
+    ensures lexed { IfOk result (λ w. HasLexed docs.now w.lexings) }
     ensures steps { OnOk result (steps.new ≡ steps.old + length (units docs.now conf.now)) }
 {
     paths_are_sets();
@@ -323,6 +349,10 @@ pub fn shown_lists<L: Ledger>(
     let mut lexings = Lexings::new(alloc, docs);
     let found = found_in(alloc, &mut lexings, &reading, units.as_slice(), steps)?;
     let paths = docs.paths()?;
-    let lists = listed(alloc, &mut lexings, &found, paths.as_slice())?;
-    Ok(lists)
+    let shown = listed(alloc, &mut lexings, &found, paths.as_slice())?;
+    Ok(WorkedOut {
+        shown,
+        units: found.units,
+        lexings: lexings.into_kept(),
+    })
 }

@@ -12,6 +12,7 @@ use shared_text::Name;
 use std::alloc::AllocError;
 use std::cmp::Ordering;
 use tok_data::ShownFault;
+use uri_paths::Path;
 
 /// Faults with their messages, in order.
 pub type ShownFaults = Listing<ShownFault>;
@@ -24,6 +25,13 @@ pub struct UnitMeaning {
     pub meaning: scope_tables::UnitMeaning,
     /// The paths whose texts were read, each once, in the order of their first entry; the unit's own first.
     pub reads: Paths,
+}
+
+/// A unit, and what it means.
+#[derive(Drop)]
+pub struct MeantUnit {
+    pub path: Path,
+    pub meaning: UnitMeaning,
 }
 
 /// A fault that a file shows. Faults are ordered by place, then rule, then message.
