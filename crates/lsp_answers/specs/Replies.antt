@@ -43,11 +43,16 @@ encoding_name Utf8 = codes "utf-8"
 encoding_name Utf16 = codes "utf-16"
 encoding_name Utf32 = codes "utf-32"
 
--- the result of `initialize`: the encoding of positions, and that documents are opened, changed part by part, and closed
+-- the result of `initialize`: which questions are answered, the encoding of positions, and that documents are opened, changed part by part, and
+-- closed
 abbrev pub initialize_result : Encoding → Data
 initialize_result encoding = object (member (codes "capabilities") (object
+    (member (codes "definitionProvider") (boolean true)
+    (member (codes "documentSymbolProvider") (boolean true)
+    (member (codes "hoverProvider") (boolean true)
     (member (codes "positionEncoding") (string (encoding_name encoding))
-    (member (codes "textDocumentSync") (object (member (codes "change") (number (unsigned 2)) (member (codes "openClose") (boolean true) no_members))) no_members))) no_members)
+    (member (codes "referencesProvider") (boolean true)
+    (member (codes "textDocumentSync") (object (member (codes "change") (number (unsigned 2)) (member (codes "openClose") (boolean true) no_members))) no_members))))))) no_members)
 
 unfoldable pub response : Id → Data → List ℕ
 response id result = framed (compact_text (response_data (id_data id) result))

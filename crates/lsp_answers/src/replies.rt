@@ -121,5 +121,5 @@ pub fn initialize_result(alloc: Global, encoding: Encoding) -> Result<Value, All
     ensures { IfOk result (λ v. view v ≡ initialize_result encoding) }
 {
     let name = encoding_name(encoding);
-    json!(in alloc; {"capabilities": {"positionEncoding": name, "textDocumentSync": {"change": 2u8, "openClose": true}}})
+    json!(in alloc; {"capabilities": {"definitionProvider": true, "documentSymbolProvider": true, "hoverProvider": true, "positionEncoding": name, "referencesProvider": true, "textDocumentSync": {"change": 2u8, "openClose": true}}})
 }
