@@ -1,0 +1,5 @@
+pub mod Floats
+pub mod Followed
+pub mod Hovering
+pub mod Nulls
+pub mod Orders
