@@ -29,8 +29,8 @@ same_sum f g same (path ∷ paths) =
     sum_by-cons f path paths ∙ ap (λ n. n + sum_by f paths) (same path) ∙ ap (λ n. g path + n) (same_sum f g same paths) ∙ sym (sum_by-cons g path paths)
 
 pub counts_are : (c : Current) (paths : List (List ℕ)) (count total : ℕ) → IsKept c → paths ≡ paths_of c.docs → count ≡ length (units c.docs (conf_in (current_state c))) →
-    total ≡ sum_by (each_shown c.shown) paths → record { units = count; faults = total } ≡ counts_of (current_state c)
+    total ≡ sum_by (each_shown c.kept.shown) paths → record { units = count; faults = total } ≡ counts_of (current_state c)
 counts_are c paths count total kept all counted summed =
     ap (λ (n : ℕ). record { units = n; faults = total }) counted
     ∙ ap (λ (n : ℕ). record { units = length (units c.docs (conf_in (current_state c))); faults = n })
-    (summed ∙ ap (sum_by (each_shown c.shown)) all ∙ same_sum (each_shown c.shown) (λ path. length (shows (current_state c) path)) (λ path. ap length (kept.right path)) (paths_of c.docs))
+    (summed ∙ ap (sum_by (each_shown c.kept.shown)) all ∙ same_sum (each_shown c.kept.shown) (λ path. length (shows (current_state c) path)) (λ path. ap length (kept.shown.right path)) (paths_of c.docs))

@@ -14,7 +14,9 @@ use Rattle.c_session.specs.Loading.{Loading, loads_root, read_back, updates_at, 
 use Rattle.c_session.specs.Message.{Message, NotJson, Batch, NotObject, Ignored, BadId, BadMethod, Notification, Request, message}
 use Rattle.c_session.specs.Params.{FileChange, watching_in}
 use Rattle.c_session.specs.declared.params.FileChangeKind.{FileChangeKind}
-use Rattle.c_session.specs.React.{Outcome, tells, is_quiet, has_texts, invalid_request, method_not_found, invalid_params, server_not_initialized, rejects, refuses, did_open, did_change, did_close, Edited, opened_by, changed_by, closed_by, edits, closes, watches, Beginning, beginning_by, begins, starts, is_running, exit_status, fresh_request, running_request, on_request, running_notification, on_notification, on_message, asks, Reaction, Replies, Wants, reaction, react}
+use Rattle.c_session.specs.Questions.{question_named, about_in}
+use Rattle.c_session.specs.declared.questions.QuestionKind.{QuestionKind}
+use Rattle.c_session.specs.React.{Outcome, tells, is_quiet, has_texts, invalid_request, method_not_found, invalid_params, server_not_initialized, rejects, refuses, did_open, did_change, did_close, Edited, opened_by, changed_by, closed_by, edits, closes, watches, Beginning, beginning_by, begins, starts, is_running, exit_status, answers, answered as said, asks_about, fresh_request, running_request, on_request, running_notification, on_notification, on_message, asks, Reaction, Replies, Wants, reaction, react}
 use Rattle.c_session.specs.Reasons.{Reason, reason_text, by_params}
 use Rattle.lsp_answers.specs.Replies.{response, error, log, initialize_result}
 use Rattle.c_session.specs.Responses.{IsResponse, HasResult, HasError, AreNotices, IsResponded, IsAnswered, IsExit, is_edit, IsRefusal, Fails, Logs}
@@ -114,19 +116,27 @@ fresh_responds s id method params =
     each_if (Responds s id) (bytes_eq method (codes "initialize")) (starts s id (beginning_by params)) _
     (starts_responds s id (beginning_by params)) (rejected s id server_not_initialized (codes "not initialized"))
 
-running_responds : (s : State) (id : Id) (method : List ℕ) → Responds s id (running_request s id method)
+answers_respond : (s : State) (id : Id) (r : Result Data Reason) → Responds s id (answers s id r)
+answers_respond s id (Ok result) = answered s s id result
+answers_respond s id (Err r) = rejected s id invalid_params (reason_text r)
+
+question_responds : (s : State) (id : Id) (kind : Option QuestionKind) (params : Option Data) → Responds s id (asks_about s id kind params)
+question_responds s id None params = rejected s id method_not_found (codes "unknown method")
+question_responds s id (Some kind) params = answers_respond s id (said s (about_in kind params))
+
+running_responds : (s : State) (id : Id) (method : List ℕ) (params : Option Data) → Responds s id (running_request s id method params)
 unfolding running_request
-running_responds s id method =
+running_responds s id method params =
     either (Responds s id) (bytes_eq method (codes "initialize")) _ _
     (rejected s id invalid_request (codes "already initialized"))
     (either (Responds s id) (bytes_eq method (codes "shutdown")) _ _
     (answered s (in_phase Down s) id null)
-    (rejected s id method_not_found (codes "unknown method")))
+    (question_responds s id (question_named method) params))
 
 request_responds : (phase : Phase) (s : State) (id : Id) (method : List ℕ) (params : Option Data) →
     Each (Responds s id) (on_request phase s id method params)
 request_responds Fresh s id method params = fresh_responds s id method params
-request_responds Running s id method params = running_responds s id method
+request_responds Running s id method params = running_responds s id method params
 request_responds Down s id method params = rejected s id invalid_request (codes "shut down")
 
 -- ---- notifications

@@ -9,14 +9,15 @@ use Rattle.doc_texts.specs.Prior.{Prior, is_changed}
 use Rattle.project_conf.specs.Entries.{is_unit}
 use Rattle.project_conf.specs.declared.options.Options.{Options}
 use Rattle.plain_mean.specs.Confs.{base_of, folders_from, database_in, read_as, database_of, units_read, conf_of}
-use Rattle.plain_mean.specs.Lists.{AreShown, shown_in}
-use Rattle.plain_mean.specs.Shown.{shown, is_open, is_unit_of, units}
-use Rattle.plain_mean.specs.Within.{AreWithin}
-use Rattle.plain_mean.specs.declared.lists.ShownLists.{ShownLists}
+use Rattle.serde_json.specs.Data.{Data}
+use Rattle.unit_answers.specs.Kept.{IsAnalysis}
+use Rattle.unit_answers.specs.declared.analysis.Analysis.{Analysis}
+use Rattle.plain_mean.specs.Shown.{is_open, is_unit_of, units}
 use Rattle.project_conf.specs.declared.conf.Conf.{Conf}
 use Rattle.c_session.specs.Ties.News.{IsPrior, KeepsPrior, any_changed}
 use Rattle.json_view.specs.declared.id.Id.{Id}
-use Rattle.c_session.specs.React.{Edited, Outcome, tells, running_request}
+use Rattle.c_session.specs.Questions.{question_named, about_in}
+use Rattle.c_session.specs.React.{Edited, Outcome, tells, answers, answered, asks_about, running_request}
 use Rattle.c_session.specs.Reasons.{Reason}
 use Rattle.c_session.specs.Ties.Refused.{Answers, Leaves, IsKeptBy, IsWorked, edited}
 use Rattle.c_session.specs.Handled.{Differ, Began, DifferAt, TurnsAt, IsWork, NoUnit, EachUnit}
@@ -26,6 +27,7 @@ use Rattle.c_session.specs.State.{State, in_phase, with_texts}
 use Rattle.c_session.specs.declared.current.Current.{Current}
 use Rattle.c_session.specs.declared.phase.Phase.{Phase}
 use Rattle.c_session.specs.declared.phase.Phase.TheVariants.{Fresh, Running, Down}
+use Rattle.c_session.specs.declared.questions.QuestionKind.{QuestionKind}
 use Rattle.c_session.specs.declared.reasons.Refusal.{Refusal}
 use Rattle.c_session.proofs.PathSets.{ties, tied_is}
 use Rattle.c_session.proofs.Priors.{IsEdit, keeps_then}
@@ -92,21 +94,18 @@ module _ (prior : Prior) (start now : Texts) (is : IsPrior start prior now) wher
 
 -- ---- what a session keeps
 
--- what files show follows from the text that each path has, and from which paths are units
+-- what the texts come to follows from the text that each path has, and from which paths are units
 abbrev pub Follows : Type 0
 Follows =
-    (t t' : Texts) (conf : Conf) → ((path : List ℕ) → text_at t' path ≡ text_at t path) → ((path : List ℕ) → is_unit_of t' conf path ≡ is_unit_of t conf path) →
-    (path : List ℕ) → shown t' conf path ≡ shown t conf path
+    (t t' : Texts) (conf : Conf) (kept : Analysis) → ((path : List ℕ) → text_at t' path ≡ text_at t path) → ((path : List ℕ) → is_unit_of t' conf path ≡ is_unit_of t conf path) →
+    IsAnalysis t conf kept → IsAnalysis t' conf kept
 
-still_shown : Follows → (t : Texts) (conf : Conf) (lists : ShownLists) → WereShown t conf lists → AreShown t conf lists
-still_shown follows t conf lists w = record {
-  right = λ path. w.were.right path ∙ sym (follows w.before t conf w.same w.units path);
-  within = λ path. subst (λ o. AreWithin (length (unwrap_or o [])) (shown_in lists path)) (sym (w.same path)) (w.were.within path);
-}
+still_shown : Follows → (t : Texts) (conf : Conf) (kept : Analysis) → WereShown t conf kept → IsAnalysis t conf kept
+still_shown follows t conf kept w = follows w.before t conf kept w.same w.units w.were
 
 pub stands : Follows → (c : Current) (prior : Prior) (shifted : Option (List ℕ)) (due : Bool) → due ≡ is_due shifted prior (current_state c) → due ≡ false →
     (is_due shifted prior (current_state c) ≡ false → WereKept c) → IsKept c
-stands follows c prior shifted due told none were = still_shown follows c.docs (conf_in (current_state c)) c.shown (were (sym told ∙ none))
+stands follows c prior shifted due told none were = still_shown follows c.docs (conf_in (current_state c)) c.kept (were (sym told ∙ none))
 
 pub on_ok : {T E P : Type 0} (r : Result T E) → P → OnOk r P
 on_ok (Ok x) holds = holds
@@ -157,12 +156,12 @@ module _ (s : State) (t : Texts) (prior : Prior) (shifted : Option (List ℕ)) (
     same_units : (path : List ℕ) → is_unit_of t (conf_in (with_texts t s)) path ≡ is_unit_of s.texts (conf_in (with_texts t s)) path
     same_units = still_unit s.texts t (conf_in (with_texts t s)) shifted shifts (right_false (any_changed prior t) (turns (conf_in (with_texts t s)) shifted) undue)
 
-    still_kept : (lists : ShownLists) → AreShown s.texts (conf_in s) lists → WereShown t (conf_in (with_texts t s)) lists
-    still_kept lists were = record {
+    still_kept : (kept : Analysis) → IsAnalysis s.texts (conf_in s) kept → WereShown t (conf_in (with_texts t s)) kept
+    still_kept kept were = record {
       before = s.texts;
       same = stays prior s.texts t is unchanged;
       units = same_units;
-      were = subst (λ c. AreShown s.texts c lists) (sym (conf_kept unchanged)) were;
+      were = subst (λ c. IsAnalysis s.texts c kept) (sym (conf_kept unchanged)) were;
     }
 
 -- ---- where nothing differs
@@ -202,14 +201,22 @@ either : (P : Outcome → Type 0) (b : Bool) (x y : Outcome) → P x → P y →
 either P true x y first second = first
 either P false x y first second = second
 
-running_idles : (s : State) (id : Id) (method : List ℕ) (count : ℕ) → IsIdle s count (running_request s id method)
-unfolding running_request
-running_idles s id method count =
-    either (IsIdle s count) (bytes_eq method (codes "initialize")) _ _ (no_work s count)
-    (either (IsIdle s count) (bytes_eq method (codes "shutdown")) _ _ (down s count) (no_work s count))
+answer_idles : (s : State) (id : Id) (r : Result Data Reason) (count : ℕ) → IsIdle s count (answers s id r)
+answer_idles s id (Ok result) count = no_work s count
+answer_idles s id (Err r) count = no_work s count
 
-pub running_works : (s s' : State) (id : Id) (method bytes : List ℕ) (count : ℕ) → running_request s id method ≡ tells s' bytes → IsWork s s' count count
-running_works s s' id method bytes count is = subst (λ x. IsWork s x count count) (ap (λ (o : Outcome). o.state) is) (running_idles s id method count)
+question_idles : (s : State) (id : Id) (kind : Option QuestionKind) (params : Option Data) (count : ℕ) → IsIdle s count (asks_about s id kind params)
+question_idles s id None params count = no_work s count
+question_idles s id (Some kind) params count = answer_idles s id (answered s (about_in kind params)) count
+
+running_idles : (s : State) (id : Id) (method : List ℕ) (params : Option Data) (count : ℕ) → IsIdle s count (running_request s id method params)
+unfolding running_request
+running_idles s id method params count =
+    either (IsIdle s count) (bytes_eq method (codes "initialize")) _ _ (no_work s count)
+    (either (IsIdle s count) (bytes_eq method (codes "shutdown")) _ _ (down s count) (question_idles s id (question_named method) params count))
+
+pub running_works : (s s' : State) (id : Id) (method : List ℕ) (params : Option Data) (bytes : List ℕ) (count : ℕ) → running_request s id method params ≡ tells s' bytes → IsWork s s' count count
+running_works s s' id method params bytes count is = subst (λ x. IsWork s x count count) (ap (λ (o : Outcome). o.state) is) (running_idles s id method params count)
 
 -- ---- where something differs, or nothing does
 
@@ -239,7 +246,7 @@ pub edit_keeps : (c : Current) (t : Texts) (r : Result (List ℕ) Refusal) (open
     Answers (edited t) r meant → IsKept c → IsKeptBy r opens prior (with_docs t c)
 edit_keeps c t (Ok path) opens meant prior edit shifts answers were =
     let is = edit answers in
-    λ undue. still_kept (current_state c) t prior (shifted_by opens path) is.1 is.0.others.root (shifts answers) undue c.shown were
+    λ undue. still_kept (current_state c) t prior (shifted_by opens path) is.1 is.0.others.root (shifts answers) undue c.kept were
 edit_keeps c t (Err r) opens meant prior edit shifts answers were = tt
 
 pub edit_kept : (r : Result (List ℕ) Refusal) (path : List ℕ) (shifted : Option (List ℕ)) (opens : Bool) (prior : Prior) (c : Current) → r ≡ Ok path → shifted ≡ shifted_by opens path →
@@ -262,15 +269,15 @@ edit_works s s' t (Err r) opens meant prior old new settings edit shifts answers
 pub first_kept : (t t' : Texts) (none prior : Prior) → none ≡ empty → KeepsPrior none t prior t' → IsPrior t prior t'
 first_kept t t' none prior nothing keeps = keeps.earlier t (subst (λ m. IsPrior t m t) (sym nothing) (nothing_remembered t))
 
-pub read_keeps : (s : State) (t : Texts) (none prior : Prior) (shifted : Option (List ℕ)) (lists : ShownLists) → none ≡ empty → KeepsPrior none s.texts prior t → Shifts shifted s.texts t →
-    AreShown s.texts (conf_in s) lists → is_due shifted prior (with_texts t s) ≡ false → WereShown t (conf_in (with_texts t s)) lists
-read_keeps s t none prior shifted lists nothing keeps shifts were undue = still_kept s t prior shifted (first_kept s.texts t none prior nothing keeps) keeps.root shifts undue lists were
+pub read_keeps : (s : State) (t : Texts) (none prior : Prior) (shifted : Option (List ℕ)) (kept : Analysis) → none ≡ empty → KeepsPrior none s.texts prior t → Shifts shifted s.texts t →
+    IsAnalysis s.texts (conf_in s) kept → is_due shifted prior (with_texts t s) ≡ false → WereShown t (conf_in (with_texts t s)) kept
+read_keeps s t none prior shifted kept nothing keeps shifts were undue = still_kept s t prior shifted (first_kept s.texts t none prior nothing keeps) keeps.root shifts undue kept were
 
-pub closed_keeps : (s : State) (t : Texts) (path : List ℕ) (none prior : Prior) (lists : ShownLists) → none ≡ empty → KeepsPrior none s.texts prior t → Turned path s.texts t →
-    AreShown s.texts (conf_in s) lists → (last : Prior) (t' : Texts) → KeepsPrior prior t last t' → SameOpen t t' → is_due (Some path) last (with_texts t' s) ≡ false →
-    WereShown t' (conf_in (with_texts t' s)) lists
-closed_keeps s t path none prior lists nothing keeps turned were last t' then same =
-    read_keeps s t' none last (Some path) lists nothing (keeps_then none prior last s.texts t t' keeps then) (shifts_then (Some path) s.texts t t' turned same) were
+pub closed_keeps : (s : State) (t : Texts) (path : List ℕ) (none prior : Prior) (kept : Analysis) → none ≡ empty → KeepsPrior none s.texts prior t → Turned path s.texts t →
+    IsAnalysis s.texts (conf_in s) kept → (last : Prior) (t' : Texts) → KeepsPrior prior t last t' → SameOpen t t' → is_due (Some path) last (with_texts t' s) ≡ false →
+    WereShown t' (conf_in (with_texts t' s)) kept
+closed_keeps s t path none prior kept nothing keeps turned were last t' then same =
+    read_keeps s t' none last (Some path) kept nothing (keeps_then none prior last s.texts t t' keeps then) (shifts_then (Some path) s.texts t t' turned same) were
 
 pub closed_works : (s s1 s' : State) (path : List ℕ) (none prior last : Prior) (old new : ℕ) → s1 ≡ with_texts s1.texts s → s' ≡ with_texts s'.texts s1 → none ≡ empty → KeepsPrior none s.texts prior s1.texts →
     Turned path s.texts s1.texts → KeepsPrior prior s1.texts last s'.texts → SameOpen s1.texts s'.texts → new ≡ worked (is_due (Some path) last s') s' old → IsWork s s' old new

@@ -6,6 +6,7 @@ pub mod Handled
 pub mod Loading
 pub mod Message
 pub mod Params
+pub mod Questions
 pub mod React
 pub mod Reasons
 pub mod Refusals

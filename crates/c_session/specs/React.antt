@@ -13,11 +13,17 @@ use Rattle.c_session.specs.Loading.{Loading, loads_root, read_back, did_change_w
 use Rattle.c_session.specs.Message.{Message, NotJson, Batch, NotObject, Ignored, BadId, BadMethod, Notification, Request, message}
 use Rattle.json_view.specs.declared.id.Id.{Id}
 use Rattle.c_session.specs.Params.{FileChange, opening_in, changing_in, closing_in, watching_in, starting_in}
+use Rattle.c_session.specs.Questions.{question_named, about_in}
 use Rattle.c_session.specs.Reasons.{Reason, reason_text, by_params, by_uri, by_texts, if_ok}
 use Rattle.lsp_answers.specs.Replies.{response, error, log, initialize_result}
-use Rattle.c_session.specs.Shown.{publications, database_logs}
+use Rattle.c_session.specs.Shown.{conf_in, publications, database_logs}
 use Rattle.c_session.specs.State.{State, in_phase, with_texts}
+use Rattle.unit_answers.specs.Questions.{answer}
+use Rattle.unit_answers.specs.Units.{known}
+use Rattle.unit_index.specs.Known.{Known}
 use Rattle.c_session.specs.declared.phase.Phase.{Phase}
+use Rattle.c_session.specs.declared.questions.About.{About}
+use Rattle.c_session.specs.declared.questions.QuestionKind.{QuestionKind}
 use Rattle.c_session.specs.declared.phase.Phase.TheVariants.{Fresh, Running, Down}
 
 -- What a content leaves: the next state, the reply's bytes, and the status of an end.
@@ -149,6 +155,24 @@ abbrev pub starts : State → Id → Result Beginning Reason → Asking Outcome
 starts s id (Ok b) = begins_at s id b.encoding b.root
 starts s id (Err r) = Gives (rejects s (Some id) invalid_params (reason_text r))
 
+-- ---- questions
+
+-- all units of the texts, as they are now
+abbrev pub known_in : State → List Known
+known_in s = known s.texts (conf_in s)
+
+abbrev pub answered : State → Result About Reason → Result Data Reason
+answered s meant = if_ok meant (λ about. Ok (answer (known_in s) s.texts s.encoding about.path about.question))
+
+abbrev pub answers : State → Id → Result Data Reason → Outcome
+answers s id (Ok result) = tells s (response id result)
+answers s id (Err r) = rejects s (Some id) invalid_params (reason_text r)
+
+-- a method that asks about a file; any other is unknown
+abbrev pub asks_about : State → Id → Option QuestionKind → Option Data → Outcome
+asks_about s id None params = rejects s (Some id) method_not_found (codes "unknown method")
+asks_about s id (Some kind) params = answers s id (answered s (about_in kind params))
+
 -- ---- messages
 
 abbrev pub is_running : Phase → Bool
@@ -167,15 +191,15 @@ fresh_request s id method params =
     if bytes_eq method (codes "initialize") then starts s id (beginning_by params)
     else Gives (rejects s (Some id) server_not_initialized (codes "not initialized"))
 
-unfoldable pub running_request : State → Id → List ℕ → Outcome
-running_request s id method =
+unfoldable pub running_request : State → Id → List ℕ → Option Data → Outcome
+running_request s id method params =
     if bytes_eq method (codes "initialize") then rejects s (Some id) invalid_request (codes "already initialized")
     else (if bytes_eq method (codes "shutdown") then tells (in_phase Down s) (response id null)
-    else rejects s (Some id) method_not_found (codes "unknown method"))
+    else asks_about s id (question_named method) params)
 
 abbrev pub on_request : Phase → State → Id → List ℕ → Option Data → Asking Outcome
 on_request Fresh s id method params = fresh_request s id method params
-on_request Running s id method params = Gives (running_request s id method)
+on_request Running s id method params = Gives (running_request s id method params)
 on_request Down s id method params = Gives (rejects s (Some id) invalid_request (codes "shut down"))
 
 unfoldable pub running_notification : State → List ℕ → Option Data → Asking Outcome

@@ -3,9 +3,8 @@ use Rattle.std.specs.Prelude.{ℕ, Bool, true, false, not, ◌&&◌, ◌||◌, �
 use Rattle.std.specs.List.{filter, list_any}
 use Rattle.std.specs.Option.{option_map_or}
 use Rattle.std.specs.Str.{bytes_eq}
-use Rattle.uri_paths.specs.Uris.{uri_of_path}
 use Rattle.text_lines.specs.declared.encoding.Encoding.{Encoding}
-use Rattle.doc_texts.specs.Texts.{Texts, text_at, same_text, version_at, uri_at, paths_of, path_set}
+use Rattle.doc_texts.specs.Texts.{Texts, text_at, same_text, version_at, paths_of, path_set}
 use Rattle.project_conf.specs.Entries.{refusal}
 use Rattle.project_conf.specs.declared.conf.Conf.{Conf}
 use Rattle.project_conf.specs.declared.database.ConfError.{ConfError}
@@ -13,6 +12,7 @@ use Rattle.plain_mean.specs.Confs.{conf_of, database_path, database_fault}
 use Rattle.plain_mean.specs.Shown.{shown, is_unit_of}
 use Rattle.plain_mean.specs.declared.types.Shown.{Shown}
 use Rattle.lsp_answers.specs.Replies.{log}
+use Rattle.unit_answers.specs.Places.{uri_for}
 use Rattle.c_session.specs.Diagnostics.{diagnostic, publish}
 use Rattle.c_session.specs.State.{State}
 
@@ -53,10 +53,6 @@ is_published touched s s' path =
 -- the files whose diagnostics are published, in order of path
 abbrev pub published_paths : List (List ℕ) → State → State → List (List ℕ)
 published_paths touched s s' = filter (is_published touched s s') (path_set (paths_of s.texts ++ paths_of s'.texts))
-
--- the URI that names a file: that of the client where it is open
-unfoldable pub uri_for : Texts → List ℕ → List ℕ
-uri_for t path = unwrap_or (uri_at t path) (uri_of_path path)
 
 -- the diagnostics of a file that shows these faults, behind their header
 unfoldable pub publication : Encoding → Texts → List Shown → List ℕ → List ℕ

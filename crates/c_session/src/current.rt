@@ -8,17 +8,18 @@ ghost use Rattle.c_session.specs.Asking.{Gives};
 ghost use Rattle.c_session.specs.Counts.{counts_of};
 ghost use Rattle.c_session.specs.Handled.{Reached, IsWork};
 ghost use Rattle.c_session.specs.Ties.Interrupted.{Refused};
-ghost use Rattle.c_session.specs.React.{tells, edits, opened_by, changed_by, closed_by, closes, watches, starts, beginning_by, begins, did_open, did_change, running_request, running_notification, fresh_request, on_request, on_notification, on_other, on_message, rejects, invalid_params};
+ghost use Rattle.c_session.specs.React.{tells, edits, opened_by, changed_by, closed_by, closes, watches, starts, beginning_by, begins, did_open, did_change, running_notification, fresh_request, on_request, on_notification, on_other, on_message, rejects, invalid_params};
 ghost use Rattle.c_session.specs.Params.{watching_in};
 ghost use Rattle.c_session.specs.Reasons.{reason_text, by_params};
 ghost use Rattle.c_session.specs.Ties.Refused.{reason, IsReply, IsBehind, IsKeptBy, IsWorked};
 ghost use Rattle.c_session.specs.Loading.{read_back};
 ghost use Rattle.c_session.specs.Ties.News.{KeepsPrior, touched_by, tidings, HasPublished};
 ghost use Rattle.plain_mean.specs.Given.{text_in};
-ghost use Rattle.plain_mean.specs.Lists.{AreShown, shown_in};
+ghost use Rattle.plain_mean.specs.Lists.{shown_in};
 ghost use Rattle.plain_mean.specs.Shown.{units};
 ghost use Rattle.plain_mean.specs.Within.{AreWithin};
 ghost use Rattle.project_conf.specs.Defines.{AreUsable};
+ghost use Rattle.unit_answers.specs.Kept.{IsAnalysis};
 ghost use Rattle.project_conf.specs.Entries.{is_source};
 ghost use Rattle.plain_mean.specs.Confs.{IsUsable};
 ghost use Rattle.lsp_answers.specs.Replies.{log, error};
@@ -46,15 +47,19 @@ use doc_texts::{Docs, PriorTexts};
 use io_edges::Store;
 use json_view::Id;
 use lsp_answers::{error, initialize_result, log, response};
-use plain_mean::{ShownLists, shown_follows, shown_lists, unit_count};
+use plain_mean::unit_count;
 use project_conf::{Conf, Options, UnitConf};
 use serde_json::Value;
 use shared_list::Listing;
 use std::alloc::{AllocError, Global};
+use std::mem;
 use std::sync::ledger::Ledger;
 use steps::Steps;
 use text_lines::Encoding;
+use unit_answers::{Analysis, analysed, analysis_follows};
 use uri_paths::Path;
+
+mod questions;
 
 /// Frames for the client, one behind the other.
 pub type ReplyBytes = Listing<u8>;
@@ -87,8 +92,8 @@ pub(crate) struct Current {
     docs: Docs,
     encoding: Encoding,
     phase: Phase,
-    /// What the files show.
-    shown: ShownLists,
+    /// What the texts come to: what the files show, and what questions are answered from.
+    kept: Analysis,
 }
 
 /// A log message: why a notification of a method is refused.
@@ -146,7 +151,7 @@ impl Current {
             docs: Docs::new(alloc, None),
             encoding: Encoding::Utf16,
             phase: Phase::Fresh,
-            shown: ShownLists::new(alloc),
+            kept: Analysis::new(alloc),
         }
     }
 
@@ -190,7 +195,7 @@ impl Current {
         steps: &mut Steps<L>,
     ) -> Result<Vec<u8>, AllocError>
         requires kept { IsKeptBy edited opens prior.now self.old }
-        ensures reply { IfOk result (λ v. IsReply method.now self.old.docs self.old.encoding edited v.items (shown_in self.old.shown) (shown_in self.new.shown) prior.now) }
+        ensures reply { IfOk result (λ v. IsReply method.now self.old.docs self.old.encoding edited v.items (shown_in self.old.kept.shown) (shown_in self.new.kept.shown) prior.now) }
         ensures behind { OnOk result (IsBehind edited self.old self.new) }
         ensures steps { OnOk result (IsWorked edited opens prior.now (current_state self.old) steps.old steps.new) }
         ensures same { OnOk result (current_state self.new ≡ current_state self.old) }
@@ -264,23 +269,23 @@ impl Current {
         Ok(conf)
     }
 
-    /// Works out what each file shows now.
-    fn shown_now<L: Ledger>(&self, steps: &mut Steps<L>) -> Result<ShownLists, AllocError>
-        ensures shown { IfOk result (λ lists. AreShown self.now.docs (conf_in (current_state self.now)) lists) }
+    /// Works out what the texts come to now.
+    fn analysed_now<L: Ledger>(&self, steps: &mut Steps<L>) -> Result<Analysis, AllocError>
+        ensures analysis { IfOk result (λ a. IsAnalysis self.now.docs (conf_in (current_state self.now)) a) }
         ensures steps { OnOk result (steps.new ≡ steps.old + length (units self.now.docs (conf_in (current_state self.now)))) }
     {
         let conf = self.conf_now()?;
-        let lists = shown_lists(self.alloc, &self.docs, &conf, steps)?;
-        Ok(lists)
+        let analysis = analysed(self.alloc, &self.docs, &conf, steps)?;
+        Ok(analysis)
     }
 
-    /// Works out what each file shows now, where that isn't kept.
+    /// Works out what the texts come to now, where that isn't kept.
     pub fn catch_up<L: Ledger>(&mut self, steps: &mut Steps<L>) -> Result<(), AllocError>
         ensures kept { OnOk result (IsKept self.new) }
         ensures steps { OnOk result (steps.new ≡ steps.old + length (units self.old.docs (conf_in (current_state self.old)))) }
         ensures same { OnOk result (current_state self.new ≡ current_state self.old) }
     {
-        self.shown = self.shown_now(steps)?;
+        self.kept = self.analysed_now(steps)?;
         Ok(())
     }
 
@@ -295,7 +300,7 @@ impl Current {
         let paths = self.docs.paths()?;
         Ok(Counts {
             units,
-            faults: fault_count(&self.shown, paths.as_slice()),
+            faults: fault_count(&self.kept.shown, paths.as_slice()),
         })
     }
 
@@ -325,20 +330,22 @@ impl Current {
         touched: Option<&Path>,
         steps: &mut Steps<L>,
     ) -> Result<Vec<u8>, AllocError>
-        ensures wrote { IfOk result (λ v. v.items ≡ (response.items ++ logs.now) ++ tidings (touched_by (option_map (λ p. p.now) touched.entry)) self.old.encoding (shown_in self.old.shown) (shown_in self.new.shown) prior.now self.old.docs) }
+        ensures wrote { IfOk result (λ v. v.items ≡ (response.items ++ logs.now) ++ tidings (touched_by (option_map (λ p. p.now) touched.entry)) self.old.encoding (shown_in self.old.kept.shown) (shown_in self.new.kept.shown) prior.now self.old.docs) }
         ensures kept { OnOk result (IsKept self.new) }
         ensures steps { OnOk result (steps.new ≡ steps.old + length (units self.old.docs (conf_in (current_state self.old)))) }
         ensures same { OnOk result (current_state self.new ≡ current_state self.old) }
     {
-        let after = self.shown_now(steps)?;
+        // The units are let go before they are worked out anew.
+        let before = mem::replace(&mut self.kept, Analysis::new(self.alloc)).into_shown();
+        let after = self.analysed_now(steps)?;
         let change = Change {
-            before: &self.shown,
-            after: &after,
+            before: &before,
+            after: &after.shown,
             prior,
             touched,
         };
         let out = self.told(response, logs, change)?;
-        self.shown = after;
+        self.kept = after;
         Ok(out)
     }
 
@@ -380,7 +387,7 @@ impl Current {
         steps: &mut Steps<L>,
     ) -> Result<Vec<u8>, AllocError>
         requires kept { is_due (option_map (λ p. p.now) shifted) prior.now (current_state self.old) ≡ false → WereKept self.old }
-        ensures wrote { IfOk result (λ v. v.items ≡ (response.items ++ logs.now) ++ tidings (touched_by (option_map (λ p. p.now) touched.entry)) self.old.encoding (shown_in self.old.shown) (shown_in self.new.shown) prior.now self.old.docs) }
+        ensures wrote { IfOk result (λ v. v.items ≡ (response.items ++ logs.now) ++ tidings (touched_by (option_map (λ p. p.now) touched.entry)) self.old.encoding (shown_in self.old.kept.shown) (shown_in self.new.kept.shown) prior.now self.old.docs) }
         ensures kept { OnOk result (IsKept self.new) }
         ensures steps { OnOk result (steps.new ≡ worked (is_due (option_map (λ p. p.now) shifted.entry) prior.now (current_state self.old)) (current_state self.old) steps.old) }
         ensures same { OnOk result (current_state self.new ≡ current_state self.old) }
@@ -388,10 +395,10 @@ impl Current {
         if self.is_due(prior, shifted)? {
             return self.finish_anew(response, logs, prior, touched, steps);
         }
-        shown_follows();
+        analysis_follows();
         let change = Change {
-            before: &self.shown,
-            after: &self.shown,
+            before: &self.kept.shown,
+            after: &self.kept.shown,
             prior,
             touched,
         };
@@ -435,8 +442,8 @@ impl Current {
         steps: &mut Steps<L>,
     ) -> Result<Vec<u8>, SessionError>
         requires store { D.faults store.old + 1 < 2 ^ 64 }
-        requires kept { (last : Prior) (t : Texts) → KeepsPrior prior.old self.old.docs last t → SameOpen self.old.docs t → is_due (Some path.now) last (with_texts t (current_state self.old)) ≡ false → WereShown t (conf_in (with_texts t (current_state self.old))) self.old.shown }
-        ensures handled { IfOk result (λ v. HasPublished (read_back (loading self.old.docs []) path.now) (current_state self.old) (current_state self.new) v.items (shown_in self.old.shown) (shown_in self.new.shown) prior.old (D.answers store.old) (D.answers store.new)) }
+        requires kept { (last : Prior) (t : Texts) → KeepsPrior prior.old self.old.docs last t → SameOpen self.old.docs t → is_due (Some path.now) last (with_texts t (current_state self.old)) ≡ false → WereShown t (conf_in (with_texts t (current_state self.old))) self.old.kept }
+        ensures handled { IfOk result (λ v. HasPublished (read_back (loading self.old.docs []) path.now) (current_state self.old) (current_state self.new) v.items (shown_in self.old.kept.shown) (shown_in self.new.kept.shown) prior.old (D.answers store.old) (D.answers store.new)) }
         ensures kept { OnOk result (IsKept self.new) }
         ensures prior { OnOk result (KeepsPrior prior.old self.old.docs prior.new self.new.docs) }
         ensures steps { OnOk result (steps.new ≡ worked (is_due (Some path.now) prior.new (current_state self.new)) (current_state self.new) steps.old) }
@@ -624,24 +631,6 @@ impl Current {
         }
     }
 
-    /// A request between `initialize` and `shutdown`.
-    #[tactic(auto, unfolding(crate::specs::React::running_request))]
-    fn on_running_request(&mut self, id: &Id, method: &str) -> Result<Vec<u8>, AllocError>
-        requires { IsKept self.old }
-        ensures told { IfOk result (λ v. running_request (current_state self.old) id.now method.now ≡ tells (current_state self.new) v.items) }
-        ensures kept { OnOk result (IsKept self.new) }
-    {
-        if method == "initialize" {
-            return error(self.alloc, Some(id), -32600, "already initialized");
-        }
-        if method == "shutdown" {
-            let bytes = response(self.alloc, id, Value::Null)?;
-            self.phase = Phase::Down;
-            return Ok(bytes);
-        }
-        error(self.alloc, Some(id), -32601, "unknown method")
-    }
-
     fn on_request<D: Store, L: Ledger>(
         &mut self,
         id: &Id,
@@ -660,7 +649,7 @@ impl Current {
     {
         match self.phase {
             Phase::Fresh => self.on_fresh_request(id, method, params, store, steps),
-            Phase::Running => match self.on_running_request(id, method) {
+            Phase::Running => match self.on_running_request(id, method, params) {
                 Ok(bytes) => Ok(bytes),
                 Err(_) => Err(SessionError::NoMemory),
             },

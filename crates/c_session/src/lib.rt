@@ -13,6 +13,7 @@ mod message;
 mod news;
 mod params;
 mod phase;
+mod questions;
 mod reasons;
 mod refusals;
 mod session;

@@ -5,7 +5,7 @@ ghost use Rattle.doc_texts.specs.Texts.{text_at, add_all};
 ghost use Rattle.plain_mean.specs.Given.{text_in};
 ghost use Rattle.plain_mean.specs.Lists.{shown_in};
 ghost use Rattle.plain_mean.specs.Within.{AreWithin};
-ghost use Rattle.c_session.specs.Shown.{same_fault, same_list, has_news, uri_for, publication};
+ghost use Rattle.c_session.specs.Shown.{same_fault, same_list, has_news, publication};
 ghost use Rattle.project_conf.specs.Entries.{refusal};
 ghost use Rattle.lsp_answers.specs.Replies.{log};
 ghost use Rattle.c_session.specs.Ties.News.{IsPrior, any_changed, all_remembered, touched_by, is_told, news_of, may_have_news, news, other_database, database_news, tidings};
@@ -17,7 +17,8 @@ use plain_mean::{Shown, ShownLists, database_fault, database_path};
 use project_conf::ConfError;
 use std::alloc::{AllocError, Global};
 use text_lines::Encoding;
-use uri_paths::{Path, uri_of};
+use unit_answers::uri_for;
+use uri_paths::Path;
 
 /// What a message changed: what files showed before and show now, the texts that some had before, and the file that the
 /// message opened or changed, if there is one.
@@ -61,7 +62,7 @@ fn has_news(before: &[Shown], after: &[Shown], text_differs: bool) -> bool
 }
 
 /// Writes the diagnostics of a file, which shows these faults, behind what is written.
-#[tactic(auto, unfolding(crate::specs::Shown::publication, crate::specs::Shown::uri_for))]
+#[tactic(auto, unfolding(crate::specs::Shown::publication))]
 fn push_shown(
     alloc: Global,
     out: &mut Vec<u8>,
@@ -92,17 +93,6 @@ fn text_of<'a>(docs: &'a Docs, path: &Path) -> &'a str
     match docs.text(path) {
         Some(text) => text,
         None => "",
-    }
-}
-
-/// The URI that names a file: that of the client where it is open.
-#[tactic(auto, unfolding(crate::specs::Shown::uri_for))]
-fn uri_for(alloc: Global, docs: &Docs, path: &Path) -> Result<String, AllocError>
-    ensures { IfOk result (λ uri. string_bytes uri ≡ uri_for docs.now path.now) }
-{
-    match docs.uri(path) {
-        Some(uri) => String::from_str(alloc, uri),
-        None => uri_of(alloc, path),
     }
 }
 

@@ -67,7 +67,7 @@ fn given<'a>(member: Option<&'a Value>) -> Option<&'a Value>
 }
 
 /// The params of a message, where it has some. They are an object.
-fn params_in<'a>(params: Option<&'a Value>) -> Result<Option<&'a Value>, ViewError>
+pub(crate) fn params_in<'a>(params: Option<&'a Value>) -> Result<Option<&'a Value>, ViewError>
     ensures { seen (λ found. unwrap_or (option_map (λ v. view v.now) found) (object no_members)) result ≡ params_of (option_map (λ v. view v.now) params.entry) }
 {
     let Some(value) = given(params) else {
@@ -80,7 +80,7 @@ fn params_in<'a>(params: Option<&'a Value>) -> Result<Option<&'a Value>, ViewErr
 }
 
 /// The member `textDocument` of some params, which is an object.
-fn document_in<'a>(params: Option<&'a Value>) -> Result<&'a Value, ViewError>
+pub(crate) fn document_in<'a>(params: Option<&'a Value>) -> Result<&'a Value, ViewError>
     ensures { seen (λ document. view document.now) result ≡ document_in (option_map (λ v. view v.now) params.entry) }
 {
     let found = params_in(params)?;

@@ -16,8 +16,8 @@ use Rattle.c_session.specs.declared.current.Current.{Current}
 use Rattle.c_session.specs.declared.current.Reply.{Reply}
 use Rattle.c_session.specs.Shown.{conf_in}
 use Rattle.plain_mean.specs.Shown.{is_open, is_unit_of, units}
-use Rattle.plain_mean.specs.Lists.{AreShown}
-use Rattle.plain_mean.specs.declared.lists.ShownLists.{ShownLists}
+use Rattle.unit_answers.specs.Kept.{IsAnalysis}
+use Rattle.unit_answers.specs.declared.analysis.Analysis.{Analysis}
 
 -- what contracts see of a session
 pub record SessionView : Type 0 where
@@ -29,19 +29,19 @@ pub record SessionView : Type 0 where
 abbrev pub current_state : Current → State
 current_state c = record { options = c.words; texts = c.docs; encoding = c.encoding; phase = c.phase }
 
--- the lists that are kept are what the files show
+-- what is kept is what the texts come to
 abbrev pub IsKept : Current → Type 0
-IsKept c = AreShown c.docs (conf_in (current_state c)) c.shown
+IsKept c = IsAnalysis c.docs (conf_in (current_state c)) c.kept
 
--- The lists that are kept are what the files showed when each path had the text that it has now, and the same paths were units.
-pub record WereShown (t : Texts) (conf : Conf) (lists : ShownLists) : Type 0 where
+-- What is kept is what the texts came to when each path had the text that it has now, and the same paths were units.
+pub record WereShown (t : Texts) (conf : Conf) (kept : Analysis) : Type 0 where
   pub before : Texts
   pub same : (path : List ℕ) → text_at t path ≡ text_at before path
   pub units : (path : List ℕ) → is_unit_of t conf path ≡ is_unit_of before conf path
-  pub were : AreShown before conf lists
+  pub were : IsAnalysis before conf kept
 
 abbrev pub WereKept : Current → Type 0
-WereKept c = WereShown c.docs (conf_in (current_state c)) c.shown
+WereKept c = WereShown c.docs (conf_in (current_state c)) c.kept
 
 -- ---- what is due
 

@@ -13,8 +13,8 @@ returns-in-Err-clause-refused g c = watched_refused (current_state c.args.self.n
 
 pub returns-in-Ok-finish-clause-handled : goal.returns-in-Ok-finish-clause-handled
 returns-in-Ok-finish-clause-handled g c = watched_tells (current_state c.args.self.now) (current_state c.finish.new.self) c.update_all.new.docs (map seen_file_change c.args.changes.now) c.new-logs.result.items
-    c.update_all.new.logs.items c.as_slice.result.now c.new.result.items c.in-Ok-finish.bytes.items (shown_in c.args.self.now.shown) (shown_in c.finish.new.self.shown) c.new-prior.result c.update_all.new.prior _ _
-    c.in-Ok-finish.ensures.same c.in-Ok.ensures.updated c.new-logs.ensures.items c.new-prior.ensures c.in-Ok.ensures.prior c.requires.kept.right c.in-Ok-finish.ensures.kept.right c.in-Ok-finish.ensures.wrote
+    c.update_all.new.logs.items c.as_slice.result.now c.new.result.items c.in-Ok-finish.bytes.items (shown_in c.args.self.now.kept.shown) (shown_in c.finish.new.self.kept.shown) c.new-prior.result c.update_all.new.prior _ _
+    c.in-Ok-finish.ensures.same c.in-Ok.ensures.updated c.new-logs.ensures.items c.new-prior.ensures c.in-Ok.ensures.prior c.requires.kept.shown.right c.in-Ok-finish.ensures.kept.shown.right c.in-Ok-finish.ensures.wrote
     c.new.ensures.items c.as_slice.ensures.value
 
 pub returns-clause-refused : goal.returns-clause-refused
@@ -32,7 +32,7 @@ returns-in-Ok-finish-clause-steps g c = works (current_state c.args.self.now) (c
 
 pub finish-requires : goal.finish-requires
 finish-requires g c = record {
-  kept = read_keeps (current_state c.args.self.now) c.update_all.new.docs c.new-prior.result c.update_all.new.prior None c.args.self.now.shown c.new-prior.ensures c.in-Ok.ensures.prior
+  kept = read_keeps (current_state c.args.self.now) c.update_all.new.docs c.new-prior.result c.update_all.new.prior None c.args.self.now.kept c.new-prior.ensures c.in-Ok.ensures.prior
       (watched_open (loading c.args.self.now.docs c.new-logs.result.items) (loading c.update_all.new.docs c.update_all.new.logs.items) (map seen_file_change c.args.changes.now) _ _ c.in-Ok.ensures.updated)
       c.requires.kept;
 }

@@ -8,7 +8,7 @@ use Rattle.c_session.proofs.current.Current.after_close.Goals as goal
 
 pub returns-in-Ok-finish-clause-handled : goal.returns-in-Ok-finish-clause-handled
 returns-in-Ok-finish-clause-handled g c = closed_tells (current_state c.args.self.now) (current_state c.finish.new.self) c.read_back.new.docs c.args.path.now c.new-logs.result.items c.read_back.new.logs.items
-    c.as_slice.result.now c.new.result.items c.in-Ok-finish.bytes.items (shown_in c.args.self.now.shown) (shown_in c.finish.new.self.shown) c.args.prior.now c.read_back.new.prior _ _ c.in-Ok-finish.ensures.same
+    c.as_slice.result.now c.new.result.items c.in-Ok-finish.bytes.items (shown_in c.args.self.now.kept.shown) (shown_in c.finish.new.self.kept.shown) c.args.prior.now c.read_back.new.prior _ _ c.in-Ok-finish.ensures.same
     c.in-Ok.ensures.read c.new-logs.ensures.items c.in-Ok.ensures.prior c.in-Ok-finish.ensures.wrote c.new.ensures.items c.as_slice.ensures.value
 
 pub returns-in-Ok-finish-clause-prior : goal.returns-in-Ok-finish-clause-prior

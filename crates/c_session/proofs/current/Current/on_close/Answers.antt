@@ -10,7 +10,7 @@ use Rattle.c_session.proofs.current.Current.on_close.Goals as goal
 
 pub returns-in-Ok-after_close-clause-handled : goal.returns-in-Ok-after_close-clause-handled
 returns-in-Ok-after_close-clause-handled g c = closes_tells (current_state c.args.self.now) _ (current_state c.after_close.new.self) _ c.in-Ok.path c.in-Ok-after_close.bytes.items
-    (shown_in c.args.self.now.shown) (shown_in c.after_close.new.self.shown) c.new-prior.result c.close_document.new.prior _ _ c.in-Ok.ensures.meant refl c.new-prior.ensures c.in-Ok.ensures.prior c.requires.kept.right c.in-Ok-after_close.ensures.kept.right c.in-Ok-after_close.ensures.handled
+    (shown_in c.args.self.now.kept.shown) (shown_in c.after_close.new.self.kept.shown) c.new-prior.result c.close_document.new.prior _ _ c.in-Ok.ensures.meant refl c.new-prior.ensures c.in-Ok.ensures.prior c.requires.kept.shown.right c.in-Ok-after_close.ensures.kept.shown.right c.in-Ok-after_close.ensures.handled
 
 pub returns-in-Ok-clause-refused : goal.returns-in-Ok-clause-refused
 returns-in-Ok-clause-refused g c = closed_refused (current_state c.args.self.now) c.close_document.new.docs _ c.in-Ok.path _ _ _ _ c.in-Err-after_close.error
@@ -31,7 +31,7 @@ returns-in-Ok-after_close-clause-steps g c = closed_works (current_state c.args.
     c.in-Ok-after_close.ensures.steps
 
 pub after_close-requires-clause-kept : goal.after_close-requires-clause-kept
-after_close-requires-clause-kept g c = closed_keeps (current_state c.args.self.now) c.close_document.new.docs c.in-Ok.path c.new-prior.result c.close_document.new.prior c.args.self.now.shown c.new-prior.ensures c.in-Ok.ensures.prior
+after_close-requires-clause-kept g c = closed_keeps (current_state c.args.self.now) c.close_document.new.docs c.in-Ok.path c.new-prior.result c.close_document.new.prior c.args.self.now.kept c.new-prior.ensures c.in-Ok.ensures.prior
     (closing_turns c.args.self.now.docs c.close_document.new.docs (option_map (λ v. view v.now) c.args.params) c.in-Ok.path c.in-Ok.ensures.meant) c.requires.kept
 
 pub returns-in-Ok-refuse-clause-steps : goal.returns-in-Ok-refuse-clause-steps
