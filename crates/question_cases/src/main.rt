@@ -1,0 +1,29 @@
+// Questions about projects: reads the texts and the questions from standard input and prints the answers. Between two projects stands an
+// empty line. A line `PATH TEXT` puts a file on disk, in which `%` and two hexadecimal digits stand for a byte; `? PATH LINE CHARACTER` asks
+// for the hover, the definition, the references with declarations and without, and the file's symbols, in UTF-16.
+#![tactic(auto)]
+
+ghost use Rattle.std.specs.Prelude.{◌≡◌, ◌<◌};
+
+mod project;
+
+use project::answers;
+use std::io;
+use std::io::Read;
+use std::marker::Brand;
+use std::sync::ledger::Blank;
+
+fn show(rt: &HostRuntime, project: &str) -> io::Result<()> {
+    let text = answers::<Brand>(rt.alloc(), Blank::new(1), project)?;
+    let shown = text.as_str();
+    print!(rt; "{shown}")
+}
+
+fn main(rt: HostRuntime) -> io::Result<()> {
+    let mut text = String::new(rt.alloc());
+    rt.stdin().read_to_string(&mut text)?;
+    for project in text.split("\n\n") {
+        show(&rt, project)?;
+    }
+    Ok(())
+}
