@@ -3,7 +3,7 @@ use Rattle.std.proofs.Common.{◌≡◌, ℕ, List, Result, Ok, Err, ap, sym, �
 use Rattle.serde_json.specs.Written.{compact_text}
 use Rattle.json_view.specs.declared.id.Id.{Id}
 use Rattle.lsp_answers.specs.Replies.{IsResponse}
-use Rattle.unit_answers.specs.Questions.{answer}
+use Rattle.c_session.specs.Answered.{answer}
 use Rattle.unit_index.specs.Known.{Known}
 use Rattle.c_session.specs.React.{known_in, answered, answers, tells}
 use Rattle.c_session.specs.Reasons.{Reason}

@@ -18,3 +18,8 @@ pub mod Unchanged
 pub mod Unlike
 pub mod Usable
 pub mod Utf8
+pub mod Floats
+pub mod Followed
+pub mod Hovering
+pub mod Nulls
+pub mod Orders

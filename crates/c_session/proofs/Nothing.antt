@@ -3,8 +3,8 @@ use Rattle.std.proofs.Common.{◌≡◌, ℕ, List, [], None, refl, sym, subst}
 use Rattle.doc_texts.specs.Texts.{Texts, text_at, texts_under}
 use Rattle.project_conf.specs.declared.conf.Conf.{Conf}
 use Rattle.plain_mean.specs.Shown as mean
-use Rattle.unit_answers.specs.Kept.{IsAnalysis}
-use Rattle.unit_answers.specs.declared.analysis.Analysis.{Analysis}
+use Rattle.c_session.specs.Kept.{IsAnalysis}
+use Rattle.c_session.specs.declared.analysis.Analysis.{Analysis}
 
 -- a file without a text shows nothing
 pub nothing_of : (t : Texts) (conf : Conf) (path : List ℕ) → text_at t path ≡ None → mean.shown t conf path ≡ []

@@ -10,8 +10,8 @@ use Rattle.project_conf.specs.Entries.{is_unit}
 use Rattle.project_conf.specs.declared.options.Options.{Options}
 use Rattle.plain_mean.specs.Confs.{base_of, folders_from, database_in, read_as, database_of, units_read, conf_of}
 use Rattle.serde_json.specs.Data.{Data}
-use Rattle.unit_answers.specs.Kept.{IsAnalysis}
-use Rattle.unit_answers.specs.declared.analysis.Analysis.{Analysis}
+use Rattle.c_session.specs.Kept.{IsAnalysis}
+use Rattle.c_session.specs.declared.analysis.Analysis.{Analysis}
 use Rattle.plain_mean.specs.Shown.{is_open, is_unit_of, units}
 use Rattle.project_conf.specs.declared.conf.Conf.{Conf}
 use Rattle.c_session.specs.Ties.News.{IsPrior, KeepsPrior, any_changed}

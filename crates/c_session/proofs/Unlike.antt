@@ -15,7 +15,7 @@ use Rattle.project_conf.specs.Entries.{refusal}
 use Rattle.project_conf.specs.declared.database.ConfError.{ConfError}
 use Rattle.plain_mean.specs.Confs.{database_fault}
 use Rattle.c_session.specs.React.{did_open, did_change, did_close}
-use Rattle.unit_answers.specs.Places.{uri_for}
+use Rattle.c_session.specs.Places.{uri_for}
 use Rattle.c_session.specs.Shown.{shows, publication, published_paths, publications, fault_log, database_differs, database_logs}
 use Rattle.c_session.specs.State.{State}
 use Rattle.plain_mean.specs.declared.types.Shown.{Shown}

@@ -14,3 +14,12 @@ pub mod Responses
 pub mod Shown
 pub mod State
 pub mod Ties
+pub mod Units
+pub mod Positions
+pub mod Places
+pub mod Hover
+pub mod Definition
+pub mod References
+pub mod Symbols
+pub mod Answered
+pub mod Kept

@@ -6,8 +6,8 @@ use Rattle.text_lines.specs.declared.pos.Pos.{Pos}
 use Rattle.json_view.specs.Refusals.{Refusal, and_then}
 use Rattle.json_view.specs.Members.{text_of, bool_of, object_of, pos_of}
 use Rattle.uri_paths.specs.Uris.{path_of_uri}
-use Rattle.unit_answers.specs.declared.questions.Question.{Question}
-use Rattle.unit_answers.specs.declared.questions.Question.TheVariants as question
+use Rattle.c_session.specs.declared.question.Question.{Question}
+use Rattle.c_session.specs.declared.question.Question.TheVariants as question
 use Rattle.c_session.specs.Params.{params_of, document_in}
 use Rattle.c_session.specs.Reasons.{Reason, by_params, by_uri, if_ok}
 use Rattle.c_session.specs.declared.questions.About.{About}

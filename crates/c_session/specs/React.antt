@@ -18,8 +18,8 @@ use Rattle.c_session.specs.Reasons.{Reason, reason_text, by_params, by_uri, by_t
 use Rattle.lsp_answers.specs.Replies.{response, error, log, initialize_result}
 use Rattle.c_session.specs.Shown.{conf_in, publications, database_logs}
 use Rattle.c_session.specs.State.{State, in_phase, with_texts}
-use Rattle.unit_answers.specs.Questions.{answer}
-use Rattle.unit_answers.specs.Units.{known}
+use Rattle.c_session.specs.Answered.{answer}
+use Rattle.c_session.specs.Units.{known}
 use Rattle.unit_index.specs.Known.{Known}
 use Rattle.c_session.specs.declared.phase.Phase.{Phase}
 use Rattle.c_session.specs.declared.questions.About.{About}

@@ -12,7 +12,7 @@ use Rattle.plain_mean.specs.Confs.{conf_of, database_path, database_fault}
 use Rattle.plain_mean.specs.Shown.{shown, is_unit_of}
 use Rattle.plain_mean.specs.declared.types.Shown.{Shown}
 use Rattle.lsp_answers.specs.Replies.{log}
-use Rattle.unit_answers.specs.Places.{uri_for}
+use Rattle.c_session.specs.Places.{uri_for}
 use Rattle.c_session.specs.Diagnostics.{diagnostic, publish}
 use Rattle.c_session.specs.State.{State}
 

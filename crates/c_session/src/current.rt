@@ -19,7 +19,7 @@ ghost use Rattle.plain_mean.specs.Lists.{shown_in};
 ghost use Rattle.plain_mean.specs.Shown.{units};
 ghost use Rattle.plain_mean.specs.Within.{AreWithin};
 ghost use Rattle.project_conf.specs.Defines.{AreUsable};
-ghost use Rattle.unit_answers.specs.Kept.{IsAnalysis};
+ghost use Rattle.c_session.specs.Kept.{IsAnalysis};
 ghost use Rattle.project_conf.specs.Entries.{is_source};
 ghost use Rattle.plain_mean.specs.Confs.{IsUsable};
 ghost use Rattle.lsp_answers.specs.Replies.{log, error};
@@ -31,6 +31,8 @@ ghost use Rattle.c_session.specs.State.{fresh, with_texts};
 ghost use Rattle.c_session.specs.declared.phase.Phase.TheVariants.{Fresh};
 ghost use Rattle.c_session.specs.declared.reasons.Refusal.TheVariants.{NoMemory};
 
+use crate::analysis::{Analysis, analysed};
+use crate::analysis_laws::analysis_follows;
 use crate::counts::{Counts, fault_count};
 use crate::documents::{change_document, close_document, open_document};
 use crate::error::SessionError;
@@ -56,7 +58,6 @@ use std::mem;
 use std::sync::ledger::Ledger;
 use steps::Steps;
 use text_lines::Encoding;
-use unit_answers::{Analysis, analysed, analysis_follows};
 use uri_paths::Path;
 
 mod questions;

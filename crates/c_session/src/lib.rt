@@ -1,6 +1,9 @@
 // The session with one client of the language server: the reaction to each message, over the current texts.
 #![tactic(auto)]
 
+mod analysis;
+mod analysis_laws;
+mod answers;
 mod counts;
 mod current;
 mod diagnostics;
@@ -9,10 +12,13 @@ mod error;
 mod files;
 mod laws;
 mod loading;
+mod located;
 mod message;
 mod news;
 mod params;
 mod phase;
+mod positions;
+mod question;
 mod questions;
 mod reasons;
 mod refusals;
@@ -21,6 +27,8 @@ mod starting;
 mod watching;
 mod words;
 
+pub use analysis::{Analysis, analysed};
+pub use answers::answer;
 pub use counts::Counts;
 pub use current::{Reply, ReplyBytes};
 pub use error::SessionError;
@@ -28,4 +36,5 @@ pub use laws::{
     exits_alone_end, refusals_change_nothing, requests_are_answered, responses_are_no_notices,
 };
 pub use phase::Phase;
+pub use question::Question;
 pub use session::Session;

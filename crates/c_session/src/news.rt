@@ -11,13 +11,13 @@ ghost use Rattle.lsp_answers.specs.Replies.{log};
 ghost use Rattle.c_session.specs.Ties.News.{IsPrior, any_changed, all_remembered, touched_by, is_told, news_of, may_have_news, news, other_database, database_news, tidings};
 
 use crate::diagnostics::{Showing, push_diagnostics_of};
+use crate::located::uri_for;
 use doc_texts::{Docs, PathSet, PriorTexts};
 use lsp_answers::push_log;
 use plain_mean::{Shown, ShownLists, database_fault, database_path};
 use project_conf::ConfError;
 use std::alloc::{AllocError, Global};
 use text_lines::Encoding;
-use unit_answers::uri_for;
 use uri_paths::Path;
 
 /// What a message changed: what files showed before and show now, the texts that some had before, and the file that the

@@ -8,12 +8,12 @@ ghost use Rattle.c_session.specs.Ties.SeenParams.{seen_asked};
 
 use crate::documents::path_at;
 use crate::params::{document_in, params_in};
+use crate::question::Question;
 use crate::reasons::Refusal;
 use json_view::{ViewError, get_bool, get_object, get_pos, get_str};
 use serde_json::Value;
 use std::alloc::Global;
 use text_lines::Pos;
-use unit_answers::Question;
 use uri_paths::Path;
 
 /// What a method asks about a file.

@@ -1,8 +1,9 @@
 // A project: its texts, and what is answered about them.
 ghost use Rattle.std.specs.Prelude.{◌≡◌, ◌<◌};
 ghost use Rattle.plain_mean.specs.Confs.{IsUsable};
-ghost use Rattle.unit_answers.specs.Kept.{HasLexed};
+ghost use Rattle.c_session.specs.Kept.{HasLexed};
 
+use c_session::{Analysis, Question, analysed, answer};
 use doc_texts::Docs;
 use percent_encoding::percent_decode;
 use project_conf::{Conf, Defines, IncludePaths};
@@ -11,7 +12,6 @@ use std::str::Split;
 use std::sync::ledger::{Blank, Ledger};
 use steps::Steps;
 use text_lines::{Encoding, Pos};
-use unit_answers::{Analysis, Question, analysed, answer};
 use uri_paths::Path;
 
 /// The bytes of a text in which `%` and two hexadecimal digits stand for a byte.

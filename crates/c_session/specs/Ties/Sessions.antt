@@ -16,8 +16,8 @@ use Rattle.c_session.specs.declared.current.Current.{Current}
 use Rattle.c_session.specs.declared.current.Reply.{Reply}
 use Rattle.c_session.specs.Shown.{conf_in}
 use Rattle.plain_mean.specs.Shown.{is_open, is_unit_of, units}
-use Rattle.unit_answers.specs.Kept.{IsAnalysis}
-use Rattle.unit_answers.specs.declared.analysis.Analysis.{Analysis}
+use Rattle.c_session.specs.Kept.{IsAnalysis}
+use Rattle.c_session.specs.declared.analysis.Analysis.{Analysis}
 
 -- what contracts see of a session
 pub record SessionView : Type 0 where

@@ -5,6 +5,7 @@ ghost use Rattle.c_session.specs.Questions.{about_in};
 ghost use Rattle.c_session.specs.React.{tells, answered, answers, running_request};
 ghost use Rattle.c_session.specs.Ties.Sessions.{current_state, IsKept};
 
+use crate::answers::answer;
 use crate::current::Current;
 use crate::phase::Phase;
 use crate::questions::{QuestionKind, about_in, question_named};
@@ -12,7 +13,6 @@ use json_view::Id;
 use lsp_answers::{error, response, response_of};
 use serde_json::Value;
 use std::alloc::AllocError;
-use unit_answers::answer;
 
 impl Current {
     /// A question about a file, which is answered from what is kept.

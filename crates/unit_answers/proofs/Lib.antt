@@ -1,5 +1,0 @@
-pub mod Floats
-pub mod Followed
-pub mod Hovering
-pub mod Nulls
-pub mod Orders

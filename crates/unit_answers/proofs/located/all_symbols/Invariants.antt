@@ -1,9 +1,0 @@
-use Rattle.std.proofs.Common.{◌≡◌, ◌++◌, length}
-use Rattle.unit_answers.specs.Places.{gathered, symbol}
-use Rattle.unit_answers.proofs.located.all_symbols.Given as goal
-
-abbrev pub invariant-symbols : goal.invariant-symbols
-invariant-symbols l = l.out.items ++ gathered (symbol l.docs l.encoding) l.rest ≡ gathered (symbol l.docs l.encoding) l.symbols
-
-abbrev pub decreases-symbols : goal.decreases-symbols
-decreases-symbols l = length l.rest

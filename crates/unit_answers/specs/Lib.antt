@@ -1,9 +1,0 @@
-pub mod Units
-pub mod Positions
-pub mod Places
-pub mod Hover
-pub mod Definition
-pub mod References
-pub mod Symbols
-pub mod Questions
-pub mod Kept
