@@ -7,11 +7,27 @@ ghost use Rattle.std.specs.Prelude.{◌≡◌, ◌<◌};
 
 mod project;
 
-use project::answers;
+use c_session::analysed;
+use project::{ask_all, docs_of, plain_conf};
+use std::alloc::{AllocError, Global};
 use std::io;
 use std::io::Read;
 use std::marker::Brand;
-use std::sync::ledger::Blank;
+use std::sync::ledger::{Blank, Ledger};
+use steps::Steps;
+
+// A project with the answers to its questions.
+fn answers<L: Ledger>(alloc: Global, blank: Blank, project: &str) -> Result<String, AllocError>
+    requires name { blank.name ≡ L.name }
+    requires parts { blank.parts ≡ L.parts }
+    requires some { 0 < L.parts }
+{
+    let mut steps = Steps::<L>::open(blank);
+    let docs = docs_of(alloc, project)?;
+    let conf = plain_conf(alloc);
+    let kept = analysed(alloc, &docs, &conf, &mut steps)?;
+    ask_all(alloc, &kept, &docs, project)
+}
 
 fn show(rt: &HostRuntime, project: &str) -> io::Result<()> {
     let text = answers::<Brand>(rt.alloc(), Blank::new(1), project)?;

@@ -1,16 +1,13 @@
 // A project: its texts, and what is answered about them.
-ghost use Rattle.std.specs.Prelude.{◌≡◌, ◌<◌};
 ghost use Rattle.plain_mean.specs.Confs.{IsUsable};
 ghost use Rattle.c_session.specs.Kept.{HasLexed};
 
-use c_session::{Analysis, Question, analysed, answer};
+use c_session::{Analysis, Question, answer};
 use doc_texts::Docs;
 use percent_encoding::percent_decode;
 use project_conf::{Conf, Defines, IncludePaths};
 use std::alloc::{AllocError, Global};
 use std::str::Split;
-use std::sync::ledger::{Blank, Ledger};
-use steps::Steps;
 use text_lines::{Encoding, Pos};
 use uri_paths::Path;
 
@@ -34,7 +31,8 @@ fn load(alloc: Global, docs: &mut Docs, line: &str) -> Result<(), AllocError> {
     Ok(())
 }
 
-fn docs_of(alloc: Global, project: &str) -> Result<Docs, AllocError> {
+/// The texts of a project.
+pub fn docs_of(alloc: Global, project: &str) -> Result<Docs, AllocError> {
     let mut docs = Docs::new(alloc, None);
     for line in project.lines() {
         if line.starts_with('/') {
@@ -45,7 +43,7 @@ fn docs_of(alloc: Global, project: &str) -> Result<Docs, AllocError> {
 }
 
 /// Units are the sources, read with no folders and definitions.
-fn plain_conf(alloc: Global) -> Conf
+pub fn plain_conf(alloc: Global) -> Conf
     ensures { IsUsable result }
 {
     Conf {
@@ -119,7 +117,12 @@ fn ask(
     push_answers(out, kept, docs, &path, Pos { line, character })
 }
 
-fn ask_all(alloc: Global, kept: &Analysis, docs: &Docs, project: &str) -> Result<String, AllocError>
+pub fn ask_all(
+    alloc: Global,
+    kept: &Analysis,
+    docs: &Docs,
+    project: &str,
+) -> Result<String, AllocError>
     requires { HasLexed docs.now kept.now }
 {
     let mut out = String::new(alloc);
@@ -129,17 +132,4 @@ fn ask_all(alloc: Global, kept: &Analysis, docs: &Docs, project: &str) -> Result
     }
     push_line(&mut out, "")?;
     Ok(out)
-}
-
-/// A project with the answers to its questions.
-pub fn answers<L: Ledger>(alloc: Global, blank: Blank, project: &str) -> Result<String, AllocError>
-    requires name { blank.name ≡ L.name }
-    requires parts { blank.parts ≡ L.parts }
-    requires some { 0 < L.parts }
-{
-    let mut steps = Steps::<L>::open(blank);
-    let docs = docs_of(alloc, project)?;
-    let conf = plain_conf(alloc);
-    let kept = analysed(alloc, &docs, &conf, &mut steps)?;
-    ask_all(alloc, &kept, &docs, project)
 }
