@@ -17,20 +17,21 @@ use std::sync::ledger::{Blank, Ledger};
 use steps::Steps;
 
 // A project with the answers to its questions.
-fn answers<L: Ledger>(alloc: Global, blank: Blank, project: &str) -> Result<String, AllocError>
+fn answers<L: Ledger>(alloc: Global, blank: Blank, project: &String) -> Result<String, AllocError>
     requires name { blank.name ≡ L.name }
     requires parts { blank.parts ≡ L.parts }
     requires some { 0 < L.parts }
 {
     let mut steps = Steps::<L>::open(blank);
-    let docs = docs_of(alloc, project)?;
+    let docs = docs_of(alloc, project.as_str())?;
     let conf = plain_conf(alloc);
     let kept = analysed(alloc, &docs, &conf, &mut steps)?;
-    ask_all(alloc, &kept, &docs, project)
+    ask_all(alloc, &kept, &docs, project.as_str())
 }
 
 fn show(rt: &HostRuntime, project: &str) -> io::Result<()> {
-    let text = answers::<Brand>(rt.alloc(), Blank::new(1), project)?;
+    let project = String::from_str(rt.alloc(), project)?;
+    let text = answers::<Brand>(rt.alloc(), Blank::new(1), &project)?;
     let shown = text.as_str();
     print!(rt; "{shown}")
 }
