@@ -1,8 +1,5 @@
 -- The keywords (ISO C11 6.4.1), and the one that a library text needs for `offsetof` (7.19).
-use Rattle.std.specs.Prelude.{◌≡◌, ℕ, Bool, false, List, [], ◌∷◌, bytes_eq, codes, ⊤}
-use Rattle.std.specs.Borrow.{Bor}
-use Rattle.std.specs.Ordering.{nat_cmp, is_lt}
-use Rattle.std.specs.Cmp.Lexicographic.{slice_cmp}
+use Rattle.std.specs.Prelude.{ℕ, Bool, List, [], ◌∷◌, bytes_eq, codes}
 use Rattle.std.specs.List.{list_any}
 
 -- in the order of their bytes
@@ -20,12 +17,3 @@ keywords =
 -- the text is one of them
 unfoldable pub is_keyword : List ℕ → Bool
 is_keyword text = list_any (λ word. bytes_eq word text) keywords
-
-abbrev pub Texts : Type 0
-Texts = List (Bor (List ℕ))
-
--- no text is below the one before it
-unfoldable pub Ascend : Texts → Type 0
-Ascend [] = ⊤
-Ascend (w ∷ []) = ⊤
-Ascend (w ∷ v ∷ ws) = (is_lt (slice_cmp nat_cmp v.now w.now) ≡ false) × Ascend (v ∷ ws)
