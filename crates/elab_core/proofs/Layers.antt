@@ -110,13 +110,13 @@ expr_compound x f0 f1 f2 f3 h =
     ap tree_of (h ∙ sym (expr.rolls-Compound f0 f1 f2 f3))
     ∙ fold-roll-Expr Tree spec.Designator Initial spec.Piece spec.Enumerator spec.Field spec.Member Behind spec.Association spec.Bound spec.Deriving Grouping spec.Parameters Front Specifying spec.Braces spec.Assertion Specifying Front Declaring Specifyings Naming tree_step designator_step initial_step piece_step enumerator_step field_step member_step behind_step association_step bound_step deriving_step group_step parameters_step prefix_step specifier_step braces_step assertion_step enumeration_step front_step declarator_step specs_step type_step (layer.Compound f0 f1 f2 f3)
 
-pub expr_generic : (x : Expr) → (f0 : ℕ) → (f1 : ℕ) → (f2 : Box Expr Global) → (f3 : Vec (ℕ × Association) Global) → (f4 : ℕ) → x ≡ expr.Generic f0 f1 f2 f3 f4 → tree_of x ≡ Generic_of f0 f1 (tree_of f2.value) (associations (seen.associations_of f3.items)) f4
+pub expr_generic : (x : Expr) → (f0 : ℕ) → (f1 : ℕ) → (f2 : Box Expr Global) → (f3 : Box (Vec (ℕ × Association) Global) Global) → (f4 : ℕ) → x ≡ expr.Generic f0 f1 f2 f3 f4 → tree_of x ≡ Generic_of f0 f1 (tree_of f2.value) (associations (seen.associations_of f3.value.items)) f4
 unfolding tree_of tree_step association_of
 expr_generic x f0 f1 f2 f3 f4 h =
     ap tree_of (h ∙ sym (expr.rolls-Generic f0 f1 f2 f3 f4))
     ∙ fold-roll-Expr Tree spec.Designator Initial spec.Piece spec.Enumerator spec.Field spec.Member Behind spec.Association spec.Bound spec.Deriving Grouping spec.Parameters Front Specifying spec.Braces spec.Assertion Specifying Front Declaring Specifyings Naming tree_step designator_step initial_step piece_step enumerator_step field_step member_step behind_step association_step bound_step deriving_step group_step parameters_step prefix_step specifier_step braces_step assertion_step enumeration_step front_step declarator_step specs_step type_step (layer.Generic f0 f1 f2 f3 f4)
 
-pub expr_offset : (x : Expr) → (f0 : ℕ) → (f1 : ℕ) → (f2 : Box TypeName Global) → (f3 : ℕ) → (f4 : ℕ) → (f5 : Vec Suffix Global) → (f6 : ℕ) → x ≡ expr.Offset f0 f1 f2 f3 f4 f5 f6 → tree_of x ≡ Offset_of f0 f1 (type_of f2.value) f3 f4 (behinds (seen.suffixes_of f5.items) None_behind) f6
+pub expr_offset : (x : Expr) → (f0 : ℕ) → (f1 : ℕ) → (f2 : Box TypeName Global) → (f3 : ℕ) → (f4 : ℕ) → (f5 : Box (Vec Suffix Global) Global) → (f6 : ℕ) → x ≡ expr.Offset f0 f1 f2 f3 f4 f5 f6 → tree_of x ≡ Offset_of f0 f1 (type_of f2.value) f3 f4 (behinds (seen.suffixes_of f5.value.items) None_behind) f6
 unfolding tree_of tree_step type_of behind_of
 expr_offset x f0 f1 f2 f3 f4 f5 f6 h =
     ap tree_of (h ∙ sym (expr.rolls-Offset f0 f1 f2 f3 f4 f5 f6))

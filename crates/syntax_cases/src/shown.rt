@@ -600,7 +600,7 @@ fn show_generic(out: &mut String, tokens: &[OutToken], expr: &Expr) -> Result<()
     };
     out.push_str("(generic ")?;
     show(out, tokens, control)?;
-    for choice in choices {
+    for choice in choices.as_slice() {
         show_association(out, tokens, &choice.1)?;
     }
     out.push_str(")")
@@ -632,7 +632,7 @@ fn show_offset(out: &mut String, tokens: &[OutToken], expr: &Expr) -> Result<(),
     show_name(out, tokens, "(type ", name)?;
     out.push_str(" .")?;
     spell(out, tokens, *member)?;
-    for step in steps {
+    for step in steps.as_slice() {
         show_step(out, tokens, step)?;
     }
     out.push_str(")")

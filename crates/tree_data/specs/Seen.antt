@@ -41,8 +41,8 @@ tree_step (layer.Binary f ps) = Binary_of f.value (behinds (map operand ps.items
 tree_step (layer.Conditional cs t) = Conditional_of (fronts cs.items None_before) t.value
 tree_step (layer.Assign ls t) = Assign_of (fronts (map left ls.items) None_before) t.value
 tree_step (layer.Compound o t c b) = Compound_of o t.value c b.value
-tree_step (layer.Generic k o t gs c) = Generic_of k o t.value (associations gs.items) c
-tree_step (layer.Offset k o t m n ss c) = Offset_of k o t.value m n (behinds ss.items None_behind) c
+tree_step (layer.Generic k o t gs c) = Generic_of k o t.value (associations gs.value.items) c
+tree_step (layer.Offset k o t m n ss c) = Offset_of k o t.value m n (behinds ss.value.items None_behind) c
 
 unfoldable pub behind_step : Suffix-F Tree spec.Designator Initial spec.Piece spec.Enumerator spec.Field spec.Member Behind spec.Association spec.Bound spec.Deriving Grouping spec.Parameters Front Specifying spec.Braces spec.Assertion Specifying Front Declaring Specifyings Naming → Behind
 behind_step (layer.Index o t c) = Index_of o t.value c

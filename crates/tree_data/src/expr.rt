@@ -39,10 +39,11 @@ pub enum Expr {
     Assign(Vec<(Expr, u32)>, Box<Expr>),
     /// `( type-name )` and the braces of a compound literal (6.5.2.5).
     Compound(u32, Box<TypeName>, u32, Box<Braces>),
-    /// `_Generic (`, the controlling expression, at least one association with the comma in front of it, `)` (6.5.1.1).
-    Generic(u32, u32, Box<Expr>, Vec<(u32, Association)>, u32),
+    /// `_Generic (`, the controlling expression, at least one association with the comma in front of it, `)` (6.5.1.1). The list is boxed here
+    /// and below, or each expression would have its size.
+    Generic(u32, u32, Box<Expr>, Box<Vec<(u32, Association)>>, u32),
     /// `__offsetof (`, the name of a type, `,`, the name of a member and what selects within it, `)`, for `offsetof` (7.19).
-    Offset(u32, u32, Box<TypeName>, u32, u32, Vec<Suffix>, u32),
+    Offset(u32, u32, Box<TypeName>, u32, u32, Box<Vec<Suffix>>, u32),
 }
 
 impl Expr {
@@ -162,6 +163,7 @@ impl Expr {
             ≡ spec.Generic_of keyword opening (tree_of control) (spec.associations (seen.associations_of choices.items)) closing) }
     {
         let control = Box::new(alloc, control)?;
+        let choices = Box::new(alloc, choices)?;
         Ok(Expr::Generic(keyword, opening, control, choices, closing))
     }
 
@@ -180,6 +182,7 @@ impl Expr {
             (spec.behinds (seen.suffixes_of steps.items) spec.None_behind) closing) }
     {
         let name = Box::new(alloc, name)?;
+        let steps = Box::new(alloc, steps)?;
         Ok(Expr::Offset(keyword, opening, name, comma, member, steps, closing))
     }
 

@@ -433,64 +433,68 @@ braces::completed-returns-in-Ok-braces t c =
 
 pub braces::completed-returns-in-Err-judged : goal.braces::completed-returns-in-Err-judged
 braces::completed-returns-in-Err-judged t c =
-    stops_as (run_by (answered (told_of c.args.around.now)) (follow (spec.judge (context_of c.args.around.now) c.args.place (seen.tree_of c.deref-in-Generic.result.now) c.args.made.now) (λ x now. follow (spec.associations (context_of c.args.around.now) c.args.place (trees.associations (seen.associations_of c.in-Generic.list.items)) (choosing.controlled x) now) (λ cs. choosing.selection (context_of c.args.around.now) c.in-Generic.at cs)))) (run_by (answered (told_of c.args.around.now)) (spec.judge (context_of c.args.around.now) c.args.place (seen.tree_of c.args.expr.now) c.args.made.now)) c.in-Err-judged.halt
+    stops_as (run_by (answered (told_of c.args.around.now)) (follow (spec.judge (context_of c.args.around.now) c.args.place (seen.tree_of c.deref-in-Generic.result.now) c.args.made.now) (λ x now. follow (spec.associations (context_of c.args.around.now) c.args.place (trees.associations (seen.associations_of c.in-Generic.list.value.items)) (choosing.controlled x) now) (λ cs. choosing.selection (context_of c.args.around.now) c.in-Generic.at cs)))) (run_by (answered (told_of c.args.around.now)) (spec.judge (context_of c.args.around.now) c.args.place (seen.tree_of c.args.expr.now) c.args.made.now)) c.in-Err-judged.halt
     (sym (ap (λ x. run_by (answered (told_of c.args.around.now)) (spec.judge (context_of c.args.around.now) c.args.place x c.args.made.now)) (layers.expr_generic c.args.expr.now c.in-Generic.at c.in-Generic.field-1 c.in-Generic.control c.in-Generic.list c.in-Generic.field-4 c.in-Generic.is)
-    ∙ ap (λ e. run_by (answered (told_of c.args.around.now)) (spec.judge (context_of c.args.around.now) c.args.place (trees.Generic_of c.in-Generic.at c.in-Generic.field-1 (seen.tree_of e) (trees.associations (seen.associations_of c.in-Generic.list.items)) c.in-Generic.field-4) c.args.made.now)) (sym c.deref-in-Generic.ensures)))
-    (off (answered (told_of c.args.around.now)) (spec.judge (context_of c.args.around.now) c.args.place (seen.tree_of c.deref-in-Generic.result.now) c.args.made.now) (λ x now. follow (spec.associations (context_of c.args.around.now) c.args.place (trees.associations (seen.associations_of c.in-Generic.list.items)) (choosing.controlled x) now) (λ cs. choosing.selection (context_of c.args.around.now) c.in-Generic.at cs)) c.in-Err-judged.halt c.in-Err-judged.ensures)
+    ∙ ap (λ e. run_by (answered (told_of c.args.around.now)) (spec.judge (context_of c.args.around.now) c.args.place (trees.Generic_of c.in-Generic.at c.in-Generic.field-1 (seen.tree_of e) (trees.associations (seen.associations_of c.in-Generic.list.value.items)) c.in-Generic.field-4) c.args.made.now)) (sym c.deref-in-Generic.ensures)))
+    (off (answered (told_of c.args.around.now)) (spec.judge (context_of c.args.around.now) c.args.place (seen.tree_of c.deref-in-Generic.result.now) c.args.made.now) (λ x now. follow (spec.associations (context_of c.args.around.now) c.args.place (trees.associations (seen.associations_of c.in-Generic.list.value.items)) (choosing.controlled x) now) (λ cs. choosing.selection (context_of c.args.around.now) c.in-Generic.at cs)) c.in-Err-judged.halt c.in-Err-judged.ensures)
 
 pub braces::completed-returns-in-Err-associations : goal.braces::completed-returns-in-Err-associations
 braces::completed-returns-in-Err-associations t c =
     let is1 : c.in-Ok-chosen_by.choices ≡ choosing.controlled c.in-Ok-judged.done = search rules in
-    stops_as (run_by (answered (told_of c.args.around.now)) (follow (spec.associations (context_of c.args.around.now) c.args.place (trees.associations (seen.associations_of c.in-Generic.list.items)) c.in-Ok-chosen_by.choices c.judged.new.made) (λ x now. choosing.selection (context_of c.args.around.now) c.in-Generic.at x now))) (run_by (answered (told_of c.args.around.now)) (spec.judge (context_of c.args.around.now) c.args.place (seen.tree_of c.args.expr.now) c.args.made.now)) c.in-Err-associations.halt
+    stops_as (run_by (answered (told_of c.args.around.now)) (follow (spec.associations (context_of c.args.around.now) c.args.place (trees.associations (seen.associations_of c.deref-in-Generic-2.result.now.items)) c.in-Ok-chosen_by.choices c.judged.new.made) (λ x now. choosing.selection (context_of c.args.around.now) c.in-Generic.at x now))) (run_by (answered (told_of c.args.around.now)) (spec.judge (context_of c.args.around.now) c.args.place (seen.tree_of c.args.expr.now) c.args.made.now)) c.in-Err-associations.halt
     (sym (ap (λ x. run_by (answered (told_of c.args.around.now)) (spec.judge (context_of c.args.around.now) c.args.place x c.args.made.now)) (layers.expr_generic c.args.expr.now c.in-Generic.at c.in-Generic.field-1 c.in-Generic.control c.in-Generic.list c.in-Generic.field-4 c.in-Generic.is)
-    ∙ ap (λ e. run_by (answered (told_of c.args.around.now)) (spec.judge (context_of c.args.around.now) c.args.place (trees.Generic_of c.in-Generic.at c.in-Generic.field-1 (seen.tree_of e) (trees.associations (seen.associations_of c.in-Generic.list.items)) c.in-Generic.field-4) c.args.made.now)) (sym c.deref-in-Generic.ensures)
-    ∙ on (answered (told_of c.args.around.now)) (spec.judge (context_of c.args.around.now) c.args.place (seen.tree_of c.deref-in-Generic.result.now) c.args.made.now) (λ x now. follow (spec.associations (context_of c.args.around.now) c.args.place (trees.associations (seen.associations_of c.in-Generic.list.items)) (choosing.controlled x) now) (λ cs. choosing.selection (context_of c.args.around.now) c.in-Generic.at cs)) (c.in-Ok-judged.done) (c.judged.new.made) c.in-Ok-judged.ensures
-    ∙ ap (λ v. run_by (answered (told_of c.args.around.now)) (follow (spec.associations (context_of c.args.around.now) c.args.place (trees.associations (seen.associations_of c.in-Generic.list.items)) v c.judged.new.made) (λ cs. choosing.selection (context_of c.args.around.now) c.in-Generic.at cs))) (sym is1)))
-    (off (answered (told_of c.args.around.now)) (spec.associations (context_of c.args.around.now) c.args.place (trees.associations (seen.associations_of c.in-Generic.list.items)) c.in-Ok-chosen_by.choices c.judged.new.made) (λ x now. choosing.selection (context_of c.args.around.now) c.in-Generic.at x now) c.in-Err-associations.halt c.in-Err-associations.ensures)
+    ∙ ap (λ e. run_by (answered (told_of c.args.around.now)) (spec.judge (context_of c.args.around.now) c.args.place (trees.Generic_of c.in-Generic.at c.in-Generic.field-1 (seen.tree_of e) (trees.associations (seen.associations_of c.in-Generic.list.value.items)) c.in-Generic.field-4) c.args.made.now)) (sym c.deref-in-Generic.ensures)
+    ∙ ap (λ xs. run_by (answered (told_of c.args.around.now)) (spec.judge (context_of c.args.around.now) c.args.place (trees.Generic_of c.in-Generic.at c.in-Generic.field-1 (seen.tree_of c.deref-in-Generic.result.now) (trees.associations (seen.associations_of xs.items)) c.in-Generic.field-4) c.args.made.now)) (sym c.deref-in-Generic-2.ensures)
+    ∙ on (answered (told_of c.args.around.now)) (spec.judge (context_of c.args.around.now) c.args.place (seen.tree_of c.deref-in-Generic.result.now) c.args.made.now) (λ x now. follow (spec.associations (context_of c.args.around.now) c.args.place (trees.associations (seen.associations_of c.deref-in-Generic-2.result.now.items)) (choosing.controlled x) now) (λ cs. choosing.selection (context_of c.args.around.now) c.in-Generic.at cs)) (c.in-Ok-judged.done) (c.judged.new.made) c.in-Ok-judged.ensures
+    ∙ ap (λ v. run_by (answered (told_of c.args.around.now)) (follow (spec.associations (context_of c.args.around.now) c.args.place (trees.associations (seen.associations_of c.deref-in-Generic-2.result.now.items)) v c.judged.new.made) (λ cs. choosing.selection (context_of c.args.around.now) c.in-Generic.at cs))) (sym is1)))
+    (off (answered (told_of c.args.around.now)) (spec.associations (context_of c.args.around.now) c.args.place (trees.associations (seen.associations_of c.deref-in-Generic-2.result.now.items)) c.in-Ok-chosen_by.choices c.judged.new.made) (λ x now. choosing.selection (context_of c.args.around.now) c.in-Generic.at x now) c.in-Err-associations.halt c.in-Err-associations.ensures)
 
 pub braces::completed-returns-in-Ok-associations : goal.braces::completed-returns-in-Ok-associations
 braces::completed-returns-in-Ok-associations t c =
     let is1 : c.in-Ok-chosen_by.choices ≡ choosing.controlled c.in-Ok-judged.done = search rules in
     comes_as (told_of c.args.around.now) (spec.judge (context_of c.args.around.now) c.args.place (seen.tree_of c.args.expr.now) c.args.made.now) (choosing.selection (context_of c.args.around.now) c.in-Generic.at c.associations.new.choices c.associations.new.made) (λ j. j) c.select.result c.select.new.made
     (ap (λ x. run_by (answered (told_of c.args.around.now)) (spec.judge (context_of c.args.around.now) c.args.place x c.args.made.now)) (layers.expr_generic c.args.expr.now c.in-Generic.at c.in-Generic.field-1 c.in-Generic.control c.in-Generic.list c.in-Generic.field-4 c.in-Generic.is)
-    ∙ ap (λ e. run_by (answered (told_of c.args.around.now)) (spec.judge (context_of c.args.around.now) c.args.place (trees.Generic_of c.in-Generic.at c.in-Generic.field-1 (seen.tree_of e) (trees.associations (seen.associations_of c.in-Generic.list.items)) c.in-Generic.field-4) c.args.made.now)) (sym c.deref-in-Generic.ensures)
-    ∙ on (answered (told_of c.args.around.now)) (spec.judge (context_of c.args.around.now) c.args.place (seen.tree_of c.deref-in-Generic.result.now) c.args.made.now) (λ x now. follow (spec.associations (context_of c.args.around.now) c.args.place (trees.associations (seen.associations_of c.in-Generic.list.items)) (choosing.controlled x) now) (λ cs. choosing.selection (context_of c.args.around.now) c.in-Generic.at cs)) (c.in-Ok-judged.done) (c.judged.new.made) c.in-Ok-judged.ensures
-    ∙ ap (λ v. run_by (answered (told_of c.args.around.now)) (follow (spec.associations (context_of c.args.around.now) c.args.place (trees.associations (seen.associations_of c.in-Generic.list.items)) v c.judged.new.made) (λ cs. choosing.selection (context_of c.args.around.now) c.in-Generic.at cs))) (sym is1)
-    ∙ on (answered (told_of c.args.around.now)) (spec.associations (context_of c.args.around.now) c.args.place (trees.associations (seen.associations_of c.in-Generic.list.items)) c.in-Ok-chosen_by.choices c.judged.new.made) (λ x now. choosing.selection (context_of c.args.around.now) c.in-Generic.at x now) (c.associations.new.choices) (c.associations.new.made) c.in-Ok-associations.ensures)
+    ∙ ap (λ e. run_by (answered (told_of c.args.around.now)) (spec.judge (context_of c.args.around.now) c.args.place (trees.Generic_of c.in-Generic.at c.in-Generic.field-1 (seen.tree_of e) (trees.associations (seen.associations_of c.in-Generic.list.value.items)) c.in-Generic.field-4) c.args.made.now)) (sym c.deref-in-Generic.ensures)
+    ∙ ap (λ xs. run_by (answered (told_of c.args.around.now)) (spec.judge (context_of c.args.around.now) c.args.place (trees.Generic_of c.in-Generic.at c.in-Generic.field-1 (seen.tree_of c.deref-in-Generic.result.now) (trees.associations (seen.associations_of xs.items)) c.in-Generic.field-4) c.args.made.now)) (sym c.deref-in-Generic-2.ensures)
+    ∙ on (answered (told_of c.args.around.now)) (spec.judge (context_of c.args.around.now) c.args.place (seen.tree_of c.deref-in-Generic.result.now) c.args.made.now) (λ x now. follow (spec.associations (context_of c.args.around.now) c.args.place (trees.associations (seen.associations_of c.deref-in-Generic-2.result.now.items)) (choosing.controlled x) now) (λ cs. choosing.selection (context_of c.args.around.now) c.in-Generic.at cs)) (c.in-Ok-judged.done) (c.judged.new.made) c.in-Ok-judged.ensures
+    ∙ ap (λ v. run_by (answered (told_of c.args.around.now)) (follow (spec.associations (context_of c.args.around.now) c.args.place (trees.associations (seen.associations_of c.deref-in-Generic-2.result.now.items)) v c.judged.new.made) (λ cs. choosing.selection (context_of c.args.around.now) c.in-Generic.at cs))) (sym is1)
+    ∙ on (answered (told_of c.args.around.now)) (spec.associations (context_of c.args.around.now) c.args.place (trees.associations (seen.associations_of c.deref-in-Generic-2.result.now.items)) c.in-Ok-chosen_by.choices c.judged.new.made) (λ x now. choosing.selection (context_of c.args.around.now) c.in-Generic.at x now) (c.associations.new.choices) (c.associations.new.made) c.in-Ok-associations.ensures)
     c.select.ensures
 
 pub braces::completed-returns-in-Err-type_name : goal.braces::completed-returns-in-Err-type_name
 braces::completed-returns-in-Err-type_name t c =
-    stops_as (run_by (answered (told_of c.args.around.now)) (follow (spec.type_name (context_of c.args.around.now) c.args.place (seen.type_of c.deref-in-Offset.result.now) c.args.made.now) (λ x now. follow (ways.way_from (context_of c.args.around.now) x c.in-Offset.member now) (λ s next. follow (spec.steps_to (context_of c.args.around.now) c.args.place (trees.behinds (seen.suffixes_of c.in-Offset.list.items) trees.None_behind) s next) (λ r. casts.offset (context_of c.args.around.now) c.in-Offset.at x r.steps))))) (run_by (answered (told_of c.args.around.now)) (spec.judge (context_of c.args.around.now) c.args.place (seen.tree_of c.args.expr.now) c.args.made.now)) c.in-Err-type_name.halt
+    stops_as (run_by (answered (told_of c.args.around.now)) (follow (spec.type_name (context_of c.args.around.now) c.args.place (seen.type_of c.deref-in-Offset.result.now) c.args.made.now) (λ x now. follow (ways.way_from (context_of c.args.around.now) x c.in-Offset.member now) (λ s next. follow (spec.steps_to (context_of c.args.around.now) c.args.place (trees.behinds (seen.suffixes_of c.in-Offset.list.value.items) trees.None_behind) s next) (λ r. casts.offset (context_of c.args.around.now) c.in-Offset.at x r.steps))))) (run_by (answered (told_of c.args.around.now)) (spec.judge (context_of c.args.around.now) c.args.place (seen.tree_of c.args.expr.now) c.args.made.now)) c.in-Err-type_name.halt
     (sym (ap (λ x. run_by (answered (told_of c.args.around.now)) (spec.judge (context_of c.args.around.now) c.args.place x c.args.made.now)) (layers.expr_offset c.args.expr.now c.in-Offset.at c.in-Offset.field-1 c.in-Offset.name c.in-Offset.field-3 c.in-Offset.member c.in-Offset.list c.in-Offset.field-6 c.in-Offset.is)
-    ∙ ap (λ e. run_by (answered (told_of c.args.around.now)) (spec.judge (context_of c.args.around.now) c.args.place (trees.Offset_of c.in-Offset.at c.in-Offset.field-1 (seen.type_of e) c.in-Offset.field-3 c.in-Offset.member (trees.behinds (seen.suffixes_of c.in-Offset.list.items) trees.None_behind) c.in-Offset.field-6) c.args.made.now)) (sym c.deref-in-Offset.ensures)))
-    (off (answered (told_of c.args.around.now)) (spec.type_name (context_of c.args.around.now) c.args.place (seen.type_of c.deref-in-Offset.result.now) c.args.made.now) (λ x now. follow (ways.way_from (context_of c.args.around.now) x c.in-Offset.member now) (λ s next. follow (spec.steps_to (context_of c.args.around.now) c.args.place (trees.behinds (seen.suffixes_of c.in-Offset.list.items) trees.None_behind) s next) (λ r. casts.offset (context_of c.args.around.now) c.in-Offset.at x r.steps))) c.in-Err-type_name.halt c.in-Err-type_name.ensures)
+    ∙ ap (λ e. run_by (answered (told_of c.args.around.now)) (spec.judge (context_of c.args.around.now) c.args.place (trees.Offset_of c.in-Offset.at c.in-Offset.field-1 (seen.type_of e) c.in-Offset.field-3 c.in-Offset.member (trees.behinds (seen.suffixes_of c.in-Offset.list.value.items) trees.None_behind) c.in-Offset.field-6) c.args.made.now)) (sym c.deref-in-Offset.ensures)))
+    (off (answered (told_of c.args.around.now)) (spec.type_name (context_of c.args.around.now) c.args.place (seen.type_of c.deref-in-Offset.result.now) c.args.made.now) (λ x now. follow (ways.way_from (context_of c.args.around.now) x c.in-Offset.member now) (λ s next. follow (spec.steps_to (context_of c.args.around.now) c.args.place (trees.behinds (seen.suffixes_of c.in-Offset.list.value.items) trees.None_behind) s next) (λ r. casts.offset (context_of c.args.around.now) c.in-Offset.at x r.steps))) c.in-Err-type_name.halt c.in-Err-type_name.ensures)
 
 pub braces::completed-returns-in-Err-way_from : goal.braces::completed-returns-in-Err-way_from
 braces::completed-returns-in-Err-way_from t c =
-    stops_as (run_by (answered (told_of c.args.around.now)) (follow (ways.way_from (context_of c.args.around.now) c.in-Ok-type_name.done c.in-Offset.member c.type_name-in-Offset.new.made) (λ x now. follow (spec.steps_to (context_of c.args.around.now) c.args.place (trees.behinds (seen.suffixes_of c.in-Offset.list.items) trees.None_behind) x now) (λ r. casts.offset (context_of c.args.around.now) c.in-Offset.at c.in-Ok-type_name.done r.steps)))) (run_by (answered (told_of c.args.around.now)) (spec.judge (context_of c.args.around.now) c.args.place (seen.tree_of c.args.expr.now) c.args.made.now)) c.in-Err-way_from.halt
+    stops_as (run_by (answered (told_of c.args.around.now)) (follow (ways.way_from (context_of c.args.around.now) c.in-Ok-type_name.done c.in-Offset.member c.type_name-in-Offset.new.made) (λ x now. follow (spec.steps_to (context_of c.args.around.now) c.args.place (trees.behinds (seen.suffixes_of c.in-Offset.list.value.items) trees.None_behind) x now) (λ r. casts.offset (context_of c.args.around.now) c.in-Offset.at c.in-Ok-type_name.done r.steps)))) (run_by (answered (told_of c.args.around.now)) (spec.judge (context_of c.args.around.now) c.args.place (seen.tree_of c.args.expr.now) c.args.made.now)) c.in-Err-way_from.halt
     (sym (ap (λ x. run_by (answered (told_of c.args.around.now)) (spec.judge (context_of c.args.around.now) c.args.place x c.args.made.now)) (layers.expr_offset c.args.expr.now c.in-Offset.at c.in-Offset.field-1 c.in-Offset.name c.in-Offset.field-3 c.in-Offset.member c.in-Offset.list c.in-Offset.field-6 c.in-Offset.is)
-    ∙ ap (λ e. run_by (answered (told_of c.args.around.now)) (spec.judge (context_of c.args.around.now) c.args.place (trees.Offset_of c.in-Offset.at c.in-Offset.field-1 (seen.type_of e) c.in-Offset.field-3 c.in-Offset.member (trees.behinds (seen.suffixes_of c.in-Offset.list.items) trees.None_behind) c.in-Offset.field-6) c.args.made.now)) (sym c.deref-in-Offset.ensures)
-    ∙ on (answered (told_of c.args.around.now)) (spec.type_name (context_of c.args.around.now) c.args.place (seen.type_of c.deref-in-Offset.result.now) c.args.made.now) (λ x now. follow (ways.way_from (context_of c.args.around.now) x c.in-Offset.member now) (λ s next. follow (spec.steps_to (context_of c.args.around.now) c.args.place (trees.behinds (seen.suffixes_of c.in-Offset.list.items) trees.None_behind) s next) (λ r. casts.offset (context_of c.args.around.now) c.in-Offset.at x r.steps))) (c.in-Ok-type_name.done) (c.type_name-in-Offset.new.made) c.in-Ok-type_name.ensures))
-    (off (answered (told_of c.args.around.now)) (ways.way_from (context_of c.args.around.now) c.in-Ok-type_name.done c.in-Offset.member c.type_name-in-Offset.new.made) (λ x now. follow (spec.steps_to (context_of c.args.around.now) c.args.place (trees.behinds (seen.suffixes_of c.in-Offset.list.items) trees.None_behind) x now) (λ r. casts.offset (context_of c.args.around.now) c.in-Offset.at c.in-Ok-type_name.done r.steps)) c.in-Err-way_from.halt c.in-Err-way_from.ensures)
+    ∙ ap (λ e. run_by (answered (told_of c.args.around.now)) (spec.judge (context_of c.args.around.now) c.args.place (trees.Offset_of c.in-Offset.at c.in-Offset.field-1 (seen.type_of e) c.in-Offset.field-3 c.in-Offset.member (trees.behinds (seen.suffixes_of c.in-Offset.list.value.items) trees.None_behind) c.in-Offset.field-6) c.args.made.now)) (sym c.deref-in-Offset.ensures)
+    ∙ on (answered (told_of c.args.around.now)) (spec.type_name (context_of c.args.around.now) c.args.place (seen.type_of c.deref-in-Offset.result.now) c.args.made.now) (λ x now. follow (ways.way_from (context_of c.args.around.now) x c.in-Offset.member now) (λ s next. follow (spec.steps_to (context_of c.args.around.now) c.args.place (trees.behinds (seen.suffixes_of c.in-Offset.list.value.items) trees.None_behind) s next) (λ r. casts.offset (context_of c.args.around.now) c.in-Offset.at x r.steps))) (c.in-Ok-type_name.done) (c.type_name-in-Offset.new.made) c.in-Ok-type_name.ensures))
+    (off (answered (told_of c.args.around.now)) (ways.way_from (context_of c.args.around.now) c.in-Ok-type_name.done c.in-Offset.member c.type_name-in-Offset.new.made) (λ x now. follow (spec.steps_to (context_of c.args.around.now) c.args.place (trees.behinds (seen.suffixes_of c.in-Offset.list.value.items) trees.None_behind) x now) (λ r. casts.offset (context_of c.args.around.now) c.in-Offset.at c.in-Ok-type_name.done r.steps)) c.in-Err-way_from.halt c.in-Err-way_from.ensures)
 
 pub braces::completed-returns-in-Err-steps_to : goal.braces::completed-returns-in-Err-steps_to
 braces::completed-returns-in-Err-steps_to t c =
-    stops_as (run_by (answered (told_of c.args.around.now)) (follow (spec.steps_to (context_of c.args.around.now) c.args.place (trees.behinds (seen.suffixes_of c.in-Offset.list.items) trees.None_behind) c.in-Ok-way_from.done c.way_from.new.made) (λ x now. casts.offset (context_of c.args.around.now) c.in-Offset.at c.in-Ok-type_name.done x.steps now))) (run_by (answered (told_of c.args.around.now)) (spec.judge (context_of c.args.around.now) c.args.place (seen.tree_of c.args.expr.now) c.args.made.now)) c.in-Err-steps_to.halt
+    stops_as (run_by (answered (told_of c.args.around.now)) (follow (spec.steps_to (context_of c.args.around.now) c.args.place (trees.behinds (seen.suffixes_of c.deref-in-Offset-2.result.now.items) trees.None_behind) c.in-Ok-way_from.done c.way_from.new.made) (λ x now. casts.offset (context_of c.args.around.now) c.in-Offset.at c.in-Ok-type_name.done x.steps now))) (run_by (answered (told_of c.args.around.now)) (spec.judge (context_of c.args.around.now) c.args.place (seen.tree_of c.args.expr.now) c.args.made.now)) c.in-Err-steps_to.halt
     (sym (ap (λ x. run_by (answered (told_of c.args.around.now)) (spec.judge (context_of c.args.around.now) c.args.place x c.args.made.now)) (layers.expr_offset c.args.expr.now c.in-Offset.at c.in-Offset.field-1 c.in-Offset.name c.in-Offset.field-3 c.in-Offset.member c.in-Offset.list c.in-Offset.field-6 c.in-Offset.is)
-    ∙ ap (λ e. run_by (answered (told_of c.args.around.now)) (spec.judge (context_of c.args.around.now) c.args.place (trees.Offset_of c.in-Offset.at c.in-Offset.field-1 (seen.type_of e) c.in-Offset.field-3 c.in-Offset.member (trees.behinds (seen.suffixes_of c.in-Offset.list.items) trees.None_behind) c.in-Offset.field-6) c.args.made.now)) (sym c.deref-in-Offset.ensures)
-    ∙ on (answered (told_of c.args.around.now)) (spec.type_name (context_of c.args.around.now) c.args.place (seen.type_of c.deref-in-Offset.result.now) c.args.made.now) (λ x now. follow (ways.way_from (context_of c.args.around.now) x c.in-Offset.member now) (λ s next. follow (spec.steps_to (context_of c.args.around.now) c.args.place (trees.behinds (seen.suffixes_of c.in-Offset.list.items) trees.None_behind) s next) (λ r. casts.offset (context_of c.args.around.now) c.in-Offset.at x r.steps))) (c.in-Ok-type_name.done) (c.type_name-in-Offset.new.made) c.in-Ok-type_name.ensures
-    ∙ on (answered (told_of c.args.around.now)) (ways.way_from (context_of c.args.around.now) c.in-Ok-type_name.done c.in-Offset.member c.type_name-in-Offset.new.made) (λ x now. follow (spec.steps_to (context_of c.args.around.now) c.args.place (trees.behinds (seen.suffixes_of c.in-Offset.list.items) trees.None_behind) x now) (λ r. casts.offset (context_of c.args.around.now) c.in-Offset.at c.in-Ok-type_name.done r.steps)) (c.in-Ok-way_from.done) (c.way_from.new.made) c.in-Ok-way_from.ensures))
-    (off (answered (told_of c.args.around.now)) (spec.steps_to (context_of c.args.around.now) c.args.place (trees.behinds (seen.suffixes_of c.in-Offset.list.items) trees.None_behind) c.in-Ok-way_from.done c.way_from.new.made) (λ x now. casts.offset (context_of c.args.around.now) c.in-Offset.at c.in-Ok-type_name.done x.steps now) c.in-Err-steps_to.halt c.in-Err-steps_to.ensures)
+    ∙ ap (λ e. run_by (answered (told_of c.args.around.now)) (spec.judge (context_of c.args.around.now) c.args.place (trees.Offset_of c.in-Offset.at c.in-Offset.field-1 (seen.type_of e) c.in-Offset.field-3 c.in-Offset.member (trees.behinds (seen.suffixes_of c.in-Offset.list.value.items) trees.None_behind) c.in-Offset.field-6) c.args.made.now)) (sym c.deref-in-Offset.ensures)
+    ∙ ap (λ xs. run_by (answered (told_of c.args.around.now)) (spec.judge (context_of c.args.around.now) c.args.place (trees.Offset_of c.in-Offset.at c.in-Offset.field-1 (seen.type_of c.deref-in-Offset.result.now) c.in-Offset.field-3 c.in-Offset.member (trees.behinds (seen.suffixes_of xs.items) trees.None_behind) c.in-Offset.field-6) c.args.made.now)) (sym c.deref-in-Offset-2.ensures)
+    ∙ on (answered (told_of c.args.around.now)) (spec.type_name (context_of c.args.around.now) c.args.place (seen.type_of c.deref-in-Offset.result.now) c.args.made.now) (λ x now. follow (ways.way_from (context_of c.args.around.now) x c.in-Offset.member now) (λ s next. follow (spec.steps_to (context_of c.args.around.now) c.args.place (trees.behinds (seen.suffixes_of c.deref-in-Offset-2.result.now.items) trees.None_behind) s next) (λ r. casts.offset (context_of c.args.around.now) c.in-Offset.at x r.steps))) (c.in-Ok-type_name.done) (c.type_name-in-Offset.new.made) c.in-Ok-type_name.ensures
+    ∙ on (answered (told_of c.args.around.now)) (ways.way_from (context_of c.args.around.now) c.in-Ok-type_name.done c.in-Offset.member c.type_name-in-Offset.new.made) (λ x now. follow (spec.steps_to (context_of c.args.around.now) c.args.place (trees.behinds (seen.suffixes_of c.deref-in-Offset-2.result.now.items) trees.None_behind) x now) (λ r. casts.offset (context_of c.args.around.now) c.in-Offset.at c.in-Ok-type_name.done r.steps)) (c.in-Ok-way_from.done) (c.way_from.new.made) c.in-Ok-way_from.ensures))
+    (off (answered (told_of c.args.around.now)) (spec.steps_to (context_of c.args.around.now) c.args.place (trees.behinds (seen.suffixes_of c.deref-in-Offset-2.result.now.items) trees.None_behind) c.in-Ok-way_from.done c.way_from.new.made) (λ x now. casts.offset (context_of c.args.around.now) c.in-Offset.at c.in-Ok-type_name.done x.steps now) c.in-Err-steps_to.halt c.in-Err-steps_to.ensures)
 
 pub braces::completed-returns-in-Ok-steps_to : goal.braces::completed-returns-in-Ok-steps_to
 braces::completed-returns-in-Ok-steps_to t c =
     comes_as (told_of c.args.around.now) (spec.judge (context_of c.args.around.now) c.args.place (seen.tree_of c.args.expr.now) c.args.made.now) (casts.offset (context_of c.args.around.now) c.in-Offset.at c.in-Ok-type_name.done c.steps_to.new.way.steps c.steps_to.new.made) (λ j. j) c.place_of_member.result c.place_of_member.new.made
     (ap (λ x. run_by (answered (told_of c.args.around.now)) (spec.judge (context_of c.args.around.now) c.args.place x c.args.made.now)) (layers.expr_offset c.args.expr.now c.in-Offset.at c.in-Offset.field-1 c.in-Offset.name c.in-Offset.field-3 c.in-Offset.member c.in-Offset.list c.in-Offset.field-6 c.in-Offset.is)
-    ∙ ap (λ e. run_by (answered (told_of c.args.around.now)) (spec.judge (context_of c.args.around.now) c.args.place (trees.Offset_of c.in-Offset.at c.in-Offset.field-1 (seen.type_of e) c.in-Offset.field-3 c.in-Offset.member (trees.behinds (seen.suffixes_of c.in-Offset.list.items) trees.None_behind) c.in-Offset.field-6) c.args.made.now)) (sym c.deref-in-Offset.ensures)
-    ∙ on (answered (told_of c.args.around.now)) (spec.type_name (context_of c.args.around.now) c.args.place (seen.type_of c.deref-in-Offset.result.now) c.args.made.now) (λ x now. follow (ways.way_from (context_of c.args.around.now) x c.in-Offset.member now) (λ s next. follow (spec.steps_to (context_of c.args.around.now) c.args.place (trees.behinds (seen.suffixes_of c.in-Offset.list.items) trees.None_behind) s next) (λ r. casts.offset (context_of c.args.around.now) c.in-Offset.at x r.steps))) (c.in-Ok-type_name.done) (c.type_name-in-Offset.new.made) c.in-Ok-type_name.ensures
-    ∙ on (answered (told_of c.args.around.now)) (ways.way_from (context_of c.args.around.now) c.in-Ok-type_name.done c.in-Offset.member c.type_name-in-Offset.new.made) (λ x now. follow (spec.steps_to (context_of c.args.around.now) c.args.place (trees.behinds (seen.suffixes_of c.in-Offset.list.items) trees.None_behind) x now) (λ r. casts.offset (context_of c.args.around.now) c.in-Offset.at c.in-Ok-type_name.done r.steps)) (c.in-Ok-way_from.done) (c.way_from.new.made) c.in-Ok-way_from.ensures
-    ∙ on (answered (told_of c.args.around.now)) (spec.steps_to (context_of c.args.around.now) c.args.place (trees.behinds (seen.suffixes_of c.in-Offset.list.items) trees.None_behind) c.in-Ok-way_from.done c.way_from.new.made) (λ x now. casts.offset (context_of c.args.around.now) c.in-Offset.at c.in-Ok-type_name.done x.steps now) (c.steps_to.new.way) (c.steps_to.new.made) c.in-Ok-steps_to.ensures)
+    ∙ ap (λ e. run_by (answered (told_of c.args.around.now)) (spec.judge (context_of c.args.around.now) c.args.place (trees.Offset_of c.in-Offset.at c.in-Offset.field-1 (seen.type_of e) c.in-Offset.field-3 c.in-Offset.member (trees.behinds (seen.suffixes_of c.in-Offset.list.value.items) trees.None_behind) c.in-Offset.field-6) c.args.made.now)) (sym c.deref-in-Offset.ensures)
+    ∙ ap (λ xs. run_by (answered (told_of c.args.around.now)) (spec.judge (context_of c.args.around.now) c.args.place (trees.Offset_of c.in-Offset.at c.in-Offset.field-1 (seen.type_of c.deref-in-Offset.result.now) c.in-Offset.field-3 c.in-Offset.member (trees.behinds (seen.suffixes_of xs.items) trees.None_behind) c.in-Offset.field-6) c.args.made.now)) (sym c.deref-in-Offset-2.ensures)
+    ∙ on (answered (told_of c.args.around.now)) (spec.type_name (context_of c.args.around.now) c.args.place (seen.type_of c.deref-in-Offset.result.now) c.args.made.now) (λ x now. follow (ways.way_from (context_of c.args.around.now) x c.in-Offset.member now) (λ s next. follow (spec.steps_to (context_of c.args.around.now) c.args.place (trees.behinds (seen.suffixes_of c.deref-in-Offset-2.result.now.items) trees.None_behind) s next) (λ r. casts.offset (context_of c.args.around.now) c.in-Offset.at x r.steps))) (c.in-Ok-type_name.done) (c.type_name-in-Offset.new.made) c.in-Ok-type_name.ensures
+    ∙ on (answered (told_of c.args.around.now)) (ways.way_from (context_of c.args.around.now) c.in-Ok-type_name.done c.in-Offset.member c.type_name-in-Offset.new.made) (λ x now. follow (spec.steps_to (context_of c.args.around.now) c.args.place (trees.behinds (seen.suffixes_of c.deref-in-Offset-2.result.now.items) trees.None_behind) x now) (λ r. casts.offset (context_of c.args.around.now) c.in-Offset.at c.in-Ok-type_name.done r.steps)) (c.in-Ok-way_from.done) (c.way_from.new.made) c.in-Ok-way_from.ensures
+    ∙ on (answered (told_of c.args.around.now)) (spec.steps_to (context_of c.args.around.now) c.args.place (trees.behinds (seen.suffixes_of c.deref-in-Offset-2.result.now.items) trees.None_behind) c.in-Ok-way_from.done c.way_from.new.made) (λ x now. casts.offset (context_of c.args.around.now) c.in-Offset.at c.in-Ok-type_name.done x.steps now) (c.steps_to.new.way) (c.steps_to.new.made) c.in-Ok-steps_to.ensures)
     c.place_of_member.ensures
 
 pub generics::association-returns-in-Err : goal.generics::association-returns-in-Err
