@@ -86,7 +86,7 @@ pub(crate) fn last_bindings(
     ensures { IfOk result (λ v. v.items ≡ spec.last_bindings bindings.items) }
 {
     let ends = ended(alloc, bindings)?;
-    let mut out = Vec::new(alloc);
+    let mut out = Vec::with_capacity(alloc, ends.map.len())?;
     'ends: for pair in ends.map {
         out.push(binding_of(pair))?;
     }

@@ -68,7 +68,7 @@ pub(crate) fn last_entities(alloc: Global, entities: Vec<Entity>) -> Result<Vec<
     ensures { IfOk result (λ v. v.items ≡ spec.last_entities entities.items) }
 {
     let lasts = ends_of(alloc, entities)?;
-    let mut out = Vec::new(alloc);
+    let mut out = Vec::with_capacity(alloc, lasts.map.len())?;
     'lasts: for entity in lasts.map.into_values() {
         out.push(entity)?;
     }

@@ -80,7 +80,7 @@ pub(crate) fn first_places(alloc: Global, occs: &[Occ]) -> Result<Firsts, AllocE
 pub(crate) fn placed_occs(alloc: Global, occs: Vec<Occ>) -> Result<Vec<(u32, Occ)>, AllocError>
     ensures { IfOk result (λ v. v.items ≡ map spec.placed_occ occs.items) }
 {
-    let mut out = Vec::new(alloc);
+    let mut out = Vec::with_capacity(alloc, occs.len())?;
     'occs: for occ in occs {
         out.push((occ.tok.at, occ))?;
     }
@@ -93,7 +93,7 @@ pub(crate) fn placed_faults(
 ) -> Result<Vec<(u32, Fault)>, AllocError>
     ensures { IfOk result (λ v. v.items ≡ map spec.placed_fault faults.items) }
 {
-    let mut out = Vec::new(alloc);
+    let mut out = Vec::with_capacity(alloc, faults.len())?;
     'faults: for fault in faults {
         out.push((fault.at, fault))?;
     }
@@ -106,7 +106,7 @@ pub(crate) fn placed_symbols(
 ) -> Result<Vec<(u32, HeadSymbol)>, AllocError>
     ensures { IfOk result (λ v. v.items ≡ map spec.placed_symbol symbols.items) }
 {
-    let mut out = Vec::new(alloc);
+    let mut out = Vec::with_capacity(alloc, symbols.len())?;
     'symbols: for symbol in symbols {
         out.push((symbol.at, symbol))?;
     }
@@ -120,7 +120,7 @@ pub(crate) fn placed_entities(
 ) -> Result<Vec<(u32, Entity)>, AllocError>
     ensures { IfOk result (λ v. v.items ≡ map (spec.placed_entity firsts.now) entities.items) }
 {
-    let mut out = Vec::new(alloc);
+    let mut out = Vec::with_capacity(alloc, entities.len())?;
     'entities: for entity in entities {
         out.push((firsts.of(&entity.anchor), entity))?;
     }
@@ -134,7 +134,7 @@ pub(crate) fn placed_bindings(
 ) -> Result<Vec<(u32, Binding)>, AllocError>
     ensures { IfOk result (λ v. v.items ≡ map (spec.placed_binding firsts.now) bindings.items) }
 {
-    let mut out = Vec::new(alloc);
+    let mut out = Vec::with_capacity(alloc, bindings.len())?;
     'bindings: for binding in bindings {
         out.push((firsts.of(&binding.entity.anchor), binding))?;
     }

@@ -15,7 +15,7 @@ pub(crate) fn once(alloc: Global, names: Vec<Name>) -> Result<Vec<Name>, AllocEr
     'names: for name in names {
         set.insert(name)?;
     }
-    let mut out = Vec::new(alloc);
+    let mut out = Vec::with_capacity(alloc, set.len())?;
     'set: for name in set {
         out.push(name)?;
     }
