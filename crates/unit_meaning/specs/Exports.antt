@@ -17,6 +17,7 @@ use Rattle.type_data.specs.declared.names.ItemName.{ItemName}
 use Rattle.type_data.specs.declared.qualifiers.Extent.{Extent}
 use Rattle.type_data.specs.declared.qualifiers.Extent.TheVariants as extent
 use Rattle.type_data.specs.Types.{Ty, Void_type, Basic_type, Enumerated_type, Tagged_type, Pointer_to, Array_of, Function_of, Bad_type}
+use Rattle.type_rel.specs.Kinds.{is_bad}
 use Rattle.unit_items.specs.Units.{Unit}
 use Rattle.unit_meaning.specs.Lists.{first_some, given}
 use Rattle.unit_meaning.specs.Sites.{Entry, fallen, token_in}
@@ -54,6 +55,12 @@ is_tentative how.Defines = false
 is_tentative how.Refused = false
 is_tentative how.Declares = false
 
+abbrev pub is_refused : How → Bool
+is_refused how.Refused = true
+is_refused how.Defines = false
+is_refused how.Tentative = false
+is_refused how.Declares = false
+
 abbrev pub if_stated : (How → Bool) → List ℕ → ItemName → Stated → Option TokId
 if_stated asked name item s = given (asked s.how && pointwise nat_eq s.name name) (token_in item s.at)
 
@@ -77,8 +84,15 @@ outside name hs = first_some (outside_in name) hs
 abbrev pub either : Option TokId → Option TokId → Option TokId
 either definition tentative = option_or definition tentative
 
-abbrev pub definition : List ℕ → List HeadMeaning → Option TokId
-definition name hs = if is_some (outside name hs) then either (first_stated defines name hs) (first_stated is_tentative name hs) else None
+-- what is declared with a faulty type is defined where it would be with a right one
+abbrev pub of_faulty : Ty → List ℕ → List HeadMeaning → Option TokId
+of_faulty t name hs = if is_bad t then first_stated is_refused name hs else None
+
+abbrev pub defining : Ty → List ℕ → List HeadMeaning → Option TokId
+defining t name hs = option_or (either (first_stated defines name hs) (first_stated is_tentative name hs)) (of_faulty t name hs)
+
+abbrev pub definition : Ty → List ℕ → List HeadMeaning → Option TokId
+definition t name hs = if is_some (outside name hs) then defining t name hs else None
 
 -- ---- its type
 
@@ -109,7 +123,7 @@ made u reached hs name t tok = record {
   name = name;
   ty = type_of name hs t;
   first = fallen u reached tok;
-  defined = option_map (fallen u reached) (definition name hs);
+  defined = option_map (fallen u reached) (definition t name hs);
 }
 
 abbrev pub by_first : Unit → List Entry → List HeadMeaning → List ℕ → Ty → Option TokId → Option Export

@@ -6,7 +6,7 @@ use Rattle.scope_tables.specs.declared.entities.Occ.{Occ}
 use Rattle.scope_tables.specs.declared.meanings.HeadMeaning.{HeadMeaning}
 use Rattle.scope_tables.specs.declared.meanings.How.{How}
 use Rattle.tok_data.specs.declared.sources.TokId.{TokId}
-use Rattle.unit_meaning.specs.Exports.{any, defines, first_stated, first_token, is_tentative, outside}
+use Rattle.unit_meaning.specs.Exports.{any, defines, first_stated, first_token, is_refused, is_tentative, outside}
 use Rattle.unit_meaning.specs.declared.statements.Asked.{Asked}
 use Rattle.unit_meaning.specs.declared.statements.Asked.TheVariants as asked
 
@@ -14,6 +14,7 @@ abbrev pub asks : Asked → How → Bool
 asks asked.Any = any
 asks asked.Defined = defines
 asks asked.Tentative = is_tentative
+asks asked.Refused = is_refused
 
 -- a map has a token at the name
 unfoldable pub at : {S : Type 0} → HashMap (List ℕ) TokId S → List ℕ → Option TokId
@@ -25,8 +26,9 @@ pub record Named : Type 0 where
   pub heads : List HeadMeaning
 
 -- what is kept says of each name what the unit says
-pub record AreKept (named : Named) (tokens definitions tentatives outsides : List ℕ → Option TokId) : Type 0 where
+pub record AreKept (named : Named) (tokens definitions tentatives refusals outsides : List ℕ → Option TokId) : Type 0 where
   pub firsts : (q : List ℕ) → tokens q ≡ first_token q named.occs
   pub defined : (q : List ℕ) → definitions q ≡ first_stated defines q named.heads
   pub tentative : (q : List ℕ) → tentatives q ≡ first_stated is_tentative q named.heads
+  pub refused : (q : List ℕ) → refusals q ≡ first_stated is_refused q named.heads
   pub outsiders : (q : List ℕ) → outsides q ≡ outside q named.heads

@@ -77,9 +77,9 @@ fn made(
 ) -> Result<Export, AllocError>
     ensures { IfOk result (λ r. r ≡ spec.made sources.now reached.now kept.now.heads name.now ty.now tok.now) }
 {
-    let ty = type_of(alloc, kept, name, ty)?;
+    let defined = defined(sources, reached, kept.definition(ty, name))?;
     let first = fallen(sources, reached, tok)?;
-    let defined = defined(sources, reached, kept.definition(name))?;
+    let ty = type_of(alloc, kept, name, ty)?;
     let name = name.share()?;
     Ok(Export {
         name,

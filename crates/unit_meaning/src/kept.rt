@@ -10,6 +10,8 @@ use std::alloc::{AllocError, Global};
 use std::collections::HashMap;
 use std::marker::Model;
 use tok_data::TokId;
+use type_data::CType;
+use type_rel::is_bad;
 
 /// The occurrences and heads of a unit, of which each question on a name is answered at a constant cost. Contracts see these.
 #[derive(Drop)]
@@ -19,6 +21,7 @@ pub(crate) struct Kept<'a> {
     firsts: HashMap<Name, TokId>,
     defined: HashMap<Name, TokId>,
     tentative: HashMap<Name, TokId>,
+    refused: HashMap<Name, TokId>,
     outside: HashMap<Name, TokId>,
 }
 
@@ -33,7 +36,7 @@ impl<'a> Model for Kept<'a> {
 
     ghost view = { λ k. record { occs = k.occs.now; heads = k.heads.now } };
 
-    ghost invariant = { λ k. AreKept (record { occs = k.occs.now; heads = k.heads.now }) (at k.firsts) (at k.defined) (at k.tentative) (at k.outside) };
+    ghost invariant = { λ k. AreKept (record { occs = k.occs.now; heads = k.heads.now }) (at k.firsts) (at k.defined) (at k.tentative) (at k.refused) (at k.outside) };
 }
 
 impl<'a> Kept<'a> {
@@ -47,6 +50,7 @@ impl<'a> Kept<'a> {
         let firsts = first_tokens(alloc, occs)?;
         let defined = first_stated(alloc, Asked::Defined, heads)?;
         let tentative = first_stated(alloc, Asked::Tentative, heads)?;
+        let refused = first_stated(alloc, Asked::Refused, heads)?;
         let outside = outside(alloc, heads)?;
         Ok(Kept {
             occs,
@@ -54,6 +58,7 @@ impl<'a> Kept<'a> {
             firsts,
             defined,
             tentative,
+            refused,
             outside,
         })
     }
@@ -78,7 +83,7 @@ impl<'a> Kept<'a> {
         token_of(&self.outside, name).is_some()
     }
 
-    fn defining(&self, name: &Name) -> Option<&TokId>
+    fn either(&self, name: &Name) -> Option<&TokId>
         ensures { option_map (λ t. t.now) result ≡ spec.either (spec.first_stated spec.defines name.now self.now.heads) (spec.first_stated spec.is_tentative name.now self.now.heads) }
     {
         match token_of(&self.defined, name) {
@@ -87,13 +92,31 @@ impl<'a> Kept<'a> {
         }
     }
 
-    /// The token that defines it for other units.
-    pub(crate) fn definition(&self, name: &Name) -> Option<&TokId>
-        ensures { option_map (λ t. t.now) result ≡ spec.definition name.now self.now.heads }
+    fn of_faulty(&self, ty: &CType, name: &Name) -> Option<&TokId>
+        ensures { option_map (λ t. t.now) result ≡ spec.of_faulty ty.now name.now self.now.heads }
+    {
+        if !is_bad(ty) {
+            return None;
+        }
+        token_of(&self.refused, name)
+    }
+
+    fn defining(&self, ty: &CType, name: &Name) -> Option<&TokId>
+        ensures { option_map (λ t. t.now) result ≡ spec.defining ty.now name.now self.now.heads }
+    {
+        match self.either(name) {
+            Some(tok) => Some(tok),
+            None => self.of_faulty(ty, name),
+        }
+    }
+
+    /// The token that defines what has the name and this type, for other units.
+    pub(crate) fn definition(&self, ty: &CType, name: &Name) -> Option<&TokId>
+        ensures { option_map (λ t. t.now) result ≡ spec.definition ty.now name.now self.now.heads }
     {
         if !self.is_outside(name) {
             return None;
         }
-        self.defining(name)
+        self.defining(ty, name)
     }
 }

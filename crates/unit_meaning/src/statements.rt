@@ -21,6 +21,7 @@ pub(crate) enum Asked {
     Any,
     Defined,
     Tentative,
+    Refused,
 }
 
 fn defines(how: How) -> bool
@@ -45,6 +46,17 @@ fn is_tentative(how: How) -> bool
     }
 }
 
+fn is_refused(how: How) -> bool
+    ensures { result ≡ spec.is_refused how }
+{
+    match how {
+        How::Refused => true,
+        How::Defines => false,
+        How::Tentative => false,
+        How::Declares => false,
+    }
+}
+
 fn is_asked(asked: Asked, how: How) -> bool
     ensures { result ≡ asks asked how }
 {
@@ -52,6 +64,7 @@ fn is_asked(asked: Asked, how: How) -> bool
         Asked::Any => true,
         Asked::Defined => defines(how),
         Asked::Tentative => is_tentative(how),
+        Asked::Refused => is_refused(how),
     }
 }
 
