@@ -3,7 +3,7 @@ ghost use Rattle.std.specs.Prelude.{◌≡◌, ◌≤◌, not, length, option_ma
 ghost use Rattle.std.specs.FinMap.{empty, keys};
 ghost use Rattle.doc_texts.specs.Limits.{longest_kept};
 ghost use Rattle.doc_texts.specs.Texts.{text_at, same_text};
-ghost use Rattle.doc_texts.specs.Prior.{remembered, is_changed};
+ghost use Rattle.doc_texts.specs.Prior.{remembered, is_changed, text_before};
 
 use crate::docs::Docs;
 use crate::kept::KeptText;
@@ -66,6 +66,17 @@ impl PriorTexts {
             paths.push(path.share()?)?;
         }
         Ok(paths)
+    }
+
+    /// The text that a path had: the one that is kept for it, or else the one that it has now. It takes no memory.
+    pub fn text<'a>(&'a self, docs: &'a Docs, path: &Path) -> Option<&'a str>
+        ensures text { option_map (λ text. text.now) result ≡ text_before self.now docs.now path.now }
+        ensures short { IfSome result (λ text. length text.now ≤ longest_kept) }
+    {
+        match self.texts.get(path) {
+            Some(kept) => lent(kept),
+            None => docs.text(path),
+        }
     }
 
     /// Whether the text of a path, or that it has none, is another than what is kept for it; not where nothing is kept. It takes
