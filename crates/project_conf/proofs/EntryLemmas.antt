@@ -29,11 +29,12 @@ module _ (root : List ℕ) (n : ℕ) (d : Data) (ds : Items) (made : List UnitCo
   unfolding units_from
   by o h = ap (λ x. behind made (numbered n x (units_from root (n + 1) ds))) (sym h) ∙ reads
 
-  pub entry_turns : (unit : UnitConf) (made' : List UnitConf) → Some unit ≡ unit_of root d → made' ≡ made ++ unit ∷ [] → behind made' (units_from root (n + 1) ds) ≡ all
-  entry_turns unit made' h e = ap (λ m. behind m (units_from root (n + 1) ds)) e ∙ one_more made unit _ ∙ by (Some unit) (sym h)
+  pub entry_turns : (from : List ℕ) (unit : UnitConf) (made' : List UnitConf) → from ≡ root → Some unit ≡ unit_of from d → made' ≡ made ++ unit ∷ [] → behind made' (units_from root (n + 1) ds) ≡ all
+  entry_turns from unit made' same h e =
+      ap (λ m. behind m (units_from root (n + 1) ds)) e ∙ one_more made unit _ ∙ by (Some unit) (sym (h ∙ ap (λ r. unit_of r d) same))
 
-  pub entry_fails : None ≡ unit_of root d → Err (Entry n) ≡ all
-  entry_fails h = by None (sym h)
+  pub entry_fails : (from : List ℕ) → from ≡ root → None ≡ unit_of from d → Err (Entry n) ≡ all
+  entry_fails from same h = by None (sym (h ∙ ap (λ r. unit_of r d) same))
 
 pub entries_begin : (root : List ℕ) (ds : Items) (made : List UnitConf) → made ≡ [] → behind made (units_from root 0 ds) ≡ units_from root 0 ds
 entries_begin root ds made h = ap (λ m. behind m (units_from root 0 ds)) h ∙ nothing (units_from root 0 ds)

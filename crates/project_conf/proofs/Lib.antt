@@ -1,4 +1,5 @@
 pub mod Fronts
+pub mod KnownLemmas
 pub mod WordLemmas
 pub mod Written
 pub mod RunLemmas

@@ -1,5 +1,5 @@
 -- What some words say, a word at a time.
-use Rattle.std.proofs.Common.{◌≡◌, ℕ, List, [], ◌∷◌, ◌++◌, Option, Some, None, map, option_map, option_and_then, refl, sym, ap, ◌∙◌, append-nil, length}
+use Rattle.std.proofs.Common.{◌≡◌, ℕ, Bool, true, false, if◌then◌else◌, codes, List, [], ◌∷◌, ◌++◌, Option, Some, None, map, option_map, option_and_then, refl, sym, ap, ◌∙◌, append-nil, length}
 use Rattle.std.proofs.lemmas.List.{nil_from_length}
 use Rattle.std.proofs.lemmas.Option.{same_Some, none-some}
 use Rattle.serde_json.specs.Data.{Data, Items, item}
@@ -7,10 +7,15 @@ use Rattle.serde_json.specs.Find.{as_str}
 use Rattle.serde_json.specs.View.{view, items_of}
 use Rattle.serde_json.specs.declared.value.Value.{Value}
 use Rattle.project_conf.specs.declared.options.Define.{Define}
+use Rattle.project_conf.specs.declared.options.Define.TheVariants as define
 use Rattle.project_conf.specs.declared.settings.Gives.{Gives}
+use Rattle.project_conf.specs.declared.settings.Gives.TheVariants.{Set}
 use Rattle.project_conf.specs.declared.conf.UnitConf.{UnitConf}
-use Rattle.project_conf.specs.Settings.{settings_from, folders_of, defines_of}
-use Rattle.project_conf.specs.Database.{texts_in}
+use Rattle.c_tokens.specs.Languages.{is_identifier}
+use Rattle.uri_paths.specs.Paths.{within}
+use Rattle.project_conf.specs.Lists.{define_in}
+use Rattle.project_conf.specs.Settings.{settings_from, folders_of, defines_of, defines_by, name_in, text_in}
+use Rattle.project_conf.specs.Database.{texts_in, text_at, path_at}
 
 -- ---- the end of the words
 
@@ -67,3 +72,27 @@ nil_folders directory waiting xs = append-nil xs
 pub nil_defines : (waiting : Option Gives) (xs : List Define) → xs ++ defines_of (settings_from waiting []) ≡ xs
 unfolding settings_from
 nil_defines waiting xs = append-nil xs
+
+-- ---- the definition that a text says
+
+pub set_given : (text : List ℕ) (d : Define) → Some d ≡ define_in text → defines_by Set text ≡ d ∷ []
+set_given text d h = by (is_identifier (name_in text)) h
+  where
+    by : (b : Bool) → Some d ≡ (if b then Some (define.Set (name_in text) (text_in text)) else None) → (if b then define.Set (name_in text) (text_in text) ∷ [] else []) ≡ d ∷ []
+    by true e = ap (λ x. x ∷ []) (sym (same_Some _ _ e))
+    by false e = absurd (none-some _ (sym e))
+
+pub none_given : (text : List ℕ) → None ≡ define_in text → defines_by Set text ≡ []
+none_given text h = by (is_identifier (name_in text)) h
+  where
+    by : (b : Bool) → None ≡ (if b then Some (define.Set (name_in text) (text_in text)) else None) → (if b then define.Set (name_in text) (text_in text) ∷ [] else []) ≡ []
+    by true e = absurd (none-some _ e)
+    by false e = refl
+
+-- ---- the directory of an entry
+
+pub entered : (root : List ℕ) (entry : Data) (text path : List ℕ) → text_at (codes "directory") entry ≡ Some text → Some path ≡ within root text → Some path ≡ path_at root (codes "directory") entry
+entered root entry text path h k = k ∙ sym (ap (λ o. option_and_then (λ t. within root t) o) h)
+
+pub not_entered : (root : List ℕ) (entry : Data) (text : List ℕ) → text_at (codes "directory") entry ≡ Some text → None ≡ within root text → None ≡ path_at root (codes "directory") entry
+not_entered root entry text h k = k ∙ sym (ap (λ o. option_and_then (λ t. within root t) o) h)

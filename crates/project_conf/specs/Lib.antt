@@ -4,6 +4,7 @@ pub mod Parting
 pub mod Writing
 pub mod Runs
 pub mod Settings
+pub mod Known
 pub mod Lists
 pub mod CommandLine
 pub mod Words

@@ -1,5 +1,5 @@
 // The database of compilations.
-ghost use Rattle.std.specs.Prelude.{◌≡◌, ◌≢◌, ◌<◌, ◌≤◌, ◌++◌, ℕ, map, length, List, Ok, Err, None, Some, is_some, option_map, All, IfOk, OnOk, IfErr, IfSome, MatchOption};
+ghost use Rattle.std.specs.Prelude.{◌≡◌, ◌≢◌, ◌<◌, ◌≤◌, ◌++◌, ℕ, map, length, List, Ok, Err, None, Some, is_some, option_map, codes, if◌then◌else◌, All, IfOk, OnOk, IfErr, IfSome, MatchOption};
 ghost use Rattle.serde_json.specs.Find.{get, as_str};
 ghost use Rattle.serde_json.specs.Read.{read};
 ghost use Rattle.serde_json.specs.View.{view, items_of};
@@ -13,6 +13,7 @@ ghost use Rattle.project_conf.specs.declared.database.ConfError.TheVariants.{Not
 
 use crate::command_words::next_word;
 use crate::conf::{IncludePaths, UnitConf, UnitConfs};
+use crate::directory::Directory;
 use crate::options::Defines;
 use crate::settings::{Settings, take_word};
 use serde_json::Value;
@@ -84,9 +85,14 @@ fn path_at(
 }
 
 // What the words of a command say.
-fn read_command(alloc: Global, directory: &Path, command: &str) -> Result<Settings, AllocError>
-    ensures includes { IfOk result (λ s. s.includes.items ≡ folders_said directory.now (words_of command.now)) }
+fn read_command(
+    alloc: Global,
+    directory: &mut Directory,
+    command: &str,
+) -> Result<Settings, AllocError>
+    ensures includes { IfOk result (λ s. s.includes.items ≡ folders_said directory.old (words_of command.now)) }
     ensures defines { IfOk result (λ s. s.defines.items ≡ defines_said (words_of command.now)) }
+    ensures same { directory.new ≡ directory.old }
 {
     let mut settings = Settings::none(alloc);
     let mut word = String::new(alloc);
@@ -103,11 +109,12 @@ fn read_command(alloc: Global, directory: &Path, command: &str) -> Result<Settin
 // What the texts of an array say, None where an element is no text.
 fn read_arguments(
     alloc: Global,
-    directory: &Path,
+    directory: &mut Directory,
     arguments: &[Value],
 ) -> Result<Option<Settings>, AllocError>
-    ensures includes { IfOk result (λ o. option_map (λ s. s.includes.items) o ≡ option_map (folders_said directory.now) (texts_in (items_of (map view arguments.now)))) }
+    ensures includes { IfOk result (λ o. option_map (λ s. s.includes.items) o ≡ option_map (folders_said directory.old) (texts_in (items_of (map view arguments.now)))) }
     ensures defines { IfOk result (λ o. option_map (λ s. s.defines.items) o ≡ option_map defines_said (texts_in (items_of (map view arguments.now)))) }
+    ensures same { directory.new ≡ directory.old }
 {
     let mut settings = Settings::none(alloc);
     let mut rest = arguments;
@@ -125,11 +132,12 @@ fn read_arguments(
 #[tactic(auto, unfolding(crate::specs::Database::words_in))]
 fn settings_in(
     alloc: Global,
-    directory: &Path,
+    directory: &mut Directory,
     entry: &Value,
 ) -> Result<Option<Settings>, AllocError>
-    ensures includes { IfOk result (λ o. option_map (λ s. s.includes.items) o ≡ option_map (folders_said directory.now) (words_in (view entry.now))) }
+    ensures includes { IfOk result (λ o. option_map (λ s. s.includes.items) o ≡ option_map (folders_said directory.old) (words_in (view entry.now))) }
     ensures defines { IfOk result (λ o. option_map (λ s. s.defines.items) o ≡ option_map defines_said (words_in (view entry.now))) }
+    ensures same { directory.new ≡ directory.old }
 {
     match entry.get("arguments") {
         Some(arguments) => {
@@ -149,18 +157,42 @@ fn settings_in(
     }
 }
 
+// Goes to the directory of an entry, or answers false where it has none.
+#[tactic(auto, using(crate::proofs::SettingLemmas::entered, crate::proofs::SettingLemmas::not_entered))]
+fn enter(root: &mut Directory, directory: &mut Directory, entry: &Value) -> Result<bool, AllocError>
+    ensures directory { IfOk result (λ there. (if there then Some directory.new else None) ≡ path_at root.old (codes "directory") (view entry.now)) }
+    ensures same { root.new ≡ root.old }
+{
+    let Some(text) = text_at(entry, "directory") else {
+        return Ok(false);
+    };
+    match root.within(text)? {
+        Some(path) => {
+            directory.enter(path);
+            Ok(true)
+        }
+        None => Ok(false),
+    }
+}
+
 // The unit of an entry, None where the entry is faulty.
 #[tactic(auto, using(crate::proofs::SettingLemmas::unit_made, crate::proofs::SettingLemmas::unit_lacks), unfolding(crate::specs::Database::unit_of))]
-fn unit_of(alloc: Global, root: &Path, entry: &Value) -> Result<Option<UnitConf>, AllocError>
-    ensures { IfOk result (λ unit. unit ≡ unit_of root.now (view entry.now)) }
+fn unit_of(
+    alloc: Global,
+    root: &mut Directory,
+    directory: &mut Directory,
+    entry: &Value,
+) -> Result<Option<UnitConf>, AllocError>
+    ensures unit { IfOk result (λ unit. unit ≡ unit_of root.old (view entry.now)) }
+    ensures same { root.new ≡ root.old }
 {
-    let Some(directory) = path_at(alloc, root, "directory", entry)? else {
+    if !enter(root, directory, entry)? {
+        return Ok(None);
+    }
+    let Some(file) = path_at(alloc, directory.path(), "file", entry)? else {
         return Ok(None);
     };
-    let Some(file) = path_at(alloc, &directory, "file", entry)? else {
-        return Ok(None);
-    };
-    let Some(settings) = settings_in(alloc, &directory, entry)? else {
+    let Some(settings) = settings_in(alloc, directory, entry)? else {
         return Ok(None);
     };
     Ok(Some(UnitConf {
@@ -176,12 +208,14 @@ fn units_from(alloc: Global, root: &Path, entries: &[Value]) -> Result<UnitConfs
     requires { length entries.now < 4294967296 }
     ensures { result ≢ Err NoMemory → result ≡ units_from root.now 0 (items_of (map view entries.now)) }
 {
+    let mut from = Directory::new(alloc, root.share()?);
+    let mut directory = Directory::new(alloc, root.share()?);
     let mut units = Vec::new(alloc);
     let mut number: u32 = 0;
     let mut rest = entries;
     while let Some((entry, behind)) = rest.split_first() {
         rest = behind;
-        let Some(unit) = unit_of(alloc, root, entry)? else {
+        let Some(unit) = unit_of(alloc, &mut from, &mut directory, entry)? else {
             return Err(ConfError::Entry(number));
         };
         units.push(unit).map_err(AllocError::from)?;

@@ -5,6 +5,7 @@ mod command_line;
 mod command_words;
 mod conf;
 mod database;
+mod directory;
 mod entries;
 mod laws;
 mod lists;

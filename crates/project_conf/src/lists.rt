@@ -44,7 +44,8 @@ fn folder_in(alloc: Global, part: &str) -> Result<Option<Folder>, AllocError>
     Ok(Some(Folder::from_string(text)))
 }
 
-fn define_in(alloc: Global, part: &str) -> Result<Option<Define>, AllocError>
+/// The definition that a part says, None where its name is no identifier.
+pub(crate) fn define_in(alloc: Global, part: &str) -> Result<Option<Define>, AllocError>
     ensures { IfOk result (λ define. define ≡ define_in part.now) }
 {
     let (name, text) = split_define(part);

@@ -5,11 +5,12 @@ ghost use Rattle.project_conf.specs.Settings.{setting, setting_in, settings_from
 ghost use Rattle.project_conf.specs.declared.settings.Gives.TheVariants.{Set, Unset};
 ghost use Rattle.uri_paths.specs.Paths.{within};
 
+use crate::directory::Directory;
 use crate::options::Define;
 use c_tokens::is_identifier;
 use shared_text::Name;
 use std::alloc::{AllocError, Global};
-use uri_paths::{Path, within};
+use uri_paths::Path;
 
 /// What an option gives.
 #[derive(Clone, Copy, Debug, PartialEq, Eq)]
@@ -88,14 +89,14 @@ pub(crate) fn split_define(text: &str) -> (&str, &str)
 
 // The folder that a text means in a directory; one that goes above `/` is skipped.
 fn push_folder(
-    alloc: Global,
-    directory: &Path,
+    directory: &mut Directory,
     includes: &mut Vec<Path>,
     text: &str,
 ) -> Result<(), AllocError>
-    ensures { OnOk result (includes.new.items ≡ includes.old.items ++ among (within directory.now text.now)) }
+    ensures folder { OnOk result (includes.new.items ≡ includes.old.items ++ among (within directory.old text.now)) }
+    ensures same { directory.new ≡ directory.old }
 {
-    match within(alloc, directory, text)? {
+    match directory.within(text)? {
         Some(path) => {
             includes.push(path)?;
             Ok(())
@@ -105,17 +106,22 @@ fn push_folder(
 }
 
 // The definition that a text gives; one whose name is no identifier is skipped.
-fn push_set(alloc: Global, defines: &mut Vec<Define>, text: &str) -> Result<(), AllocError>
-    ensures { OnOk result (defines.new.items ≡ defines.old.items ++ defines_by Set text.now) }
+#[tactic(auto, using(crate::proofs::SettingLemmas::set_given, crate::proofs::SettingLemmas::none_given))]
+fn push_set(
+    directory: &mut Directory,
+    defines: &mut Vec<Define>,
+    text: &str,
+) -> Result<(), AllocError>
+    ensures define { OnOk result (defines.new.items ≡ defines.old.items ++ defines_by Set text.now) }
+    ensures same { directory.new ≡ directory.old }
 {
-    let (name, text) = split_define(text);
-    if !is_identifier(name) {
-        return Ok(());
+    match directory.define(text)? {
+        Some(define) => {
+            defines.push(define)?;
+            Ok(())
+        }
+        None => Ok(()),
     }
-    let name = Name::from_str(alloc, name)?;
-    let text = Name::from_str(alloc, text)?;
-    defines.push(Define::Set(name, text))?;
-    Ok(())
 }
 
 fn push_unset(alloc: Global, defines: &mut Vec<Define>, text: &str) -> Result<(), AllocError>
@@ -132,18 +138,19 @@ fn push_unset(alloc: Global, defines: &mut Vec<Define>, text: &str) -> Result<()
 // An option with its text.
 fn take_setting(
     alloc: Global,
-    directory: &Path,
+    directory: &mut Directory,
     settings: &mut Settings,
     gives: Gives,
     text: &str,
 ) -> Result<(), AllocError>
     ensures waiting { settings.new.waiting ≡ settings.old.waiting }
-    ensures includes { OnOk result (settings.new.includes.items ≡ settings.old.includes.items ++ folders_by directory.now gives text.now) }
+    ensures includes { OnOk result (settings.new.includes.items ≡ settings.old.includes.items ++ folders_by directory.old gives text.now) }
     ensures defines { OnOk result (settings.new.defines.items ≡ settings.old.defines.items ++ defines_by gives text.now) }
+    ensures same { directory.new ≡ directory.old }
 {
     match gives {
-        Gives::Folder => push_folder(alloc, directory, &mut settings.includes, text),
-        Gives::Set => push_set(alloc, &mut settings.defines, text),
+        Gives::Folder => push_folder(directory, &mut settings.includes, text),
+        Gives::Set => push_set(directory, &mut settings.defines, text),
         Gives::Unset => push_unset(alloc, &mut settings.defines, text),
     }
 }
@@ -152,12 +159,13 @@ fn take_setting(
 #[tactic(auto, unfolding(crate::specs::Settings::settings_from))]
 pub(crate) fn take_word(
     alloc: Global,
-    directory: &Path,
+    directory: &mut Directory,
     settings: &mut Settings,
     word: &str,
 ) -> Result<(), AllocError>
-    ensures includes { OnOk result ((rest : List (List ℕ)) → settings.new.includes.items ++ folders_of directory.now (settings_from settings.new.waiting rest) ≡ settings.old.includes.items ++ folders_of directory.now (settings_from settings.old.waiting (word.now ∷ rest))) }
+    ensures includes { OnOk result ((rest : List (List ℕ)) → settings.new.includes.items ++ folders_of directory.old (settings_from settings.new.waiting rest) ≡ settings.old.includes.items ++ folders_of directory.old (settings_from settings.old.waiting (word.now ∷ rest))) }
     ensures defines { OnOk result ((rest : List (List ℕ)) → settings.new.defines.items ++ defines_of (settings_from settings.new.waiting rest) ≡ settings.old.defines.items ++ defines_of (settings_from settings.old.waiting (word.now ∷ rest))) }
+    ensures same { directory.new ≡ directory.old }
 {
     match settings.waiting {
         Some(gives) => {

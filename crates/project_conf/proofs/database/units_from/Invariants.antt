@@ -8,6 +8,7 @@ abbrev pub invariant-loop-entry : goal.invariant-loop-entry
 invariant-loop-entry l =
     (behind l.units.items (units_from l.root l.number (items_of (map view l.rest))) ≡ units_from l.root 0 (items_of (map view l.entries)))
     × (l.number + length l.rest ≡ length l.entries)
+    × (l.from ≡ l.root)
 
 abbrev pub decreases-loop-entry : goal.decreases-loop-entry
 decreases-loop-entry l = length l.rest
