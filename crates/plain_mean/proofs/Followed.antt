@@ -1,11 +1,11 @@
--- What files show follows from the text that each path has.
-use Rattle.std.proofs.Common.{◌≡◌, ℕ, List, [], ◌++◌, Option, Some, None, is_some, unwrap_or, bytes_eq, flat_map, take, nat_cmp, refl, sym, ap, ◌∙◌, true≢false}
+-- What units mean and ask follows from the text that each path has.
+use Rattle.std.proofs.Common.{◌≡◌, ℕ, List, [], ◌++◌, Option, Some, None, is_some, unwrap_or, bytes_eq, take, nat_cmp, refl, sym, ap, ◌∙◌, true≢false}
 use Rattle.std.specs.Cmp.Lexicographic.{slice_cmp, nat_list_cmp_total}
 use Rattle.std.specs.FinMap.{get, keys, contains_key-keys, same_map, slice_cmp-IsAntisymmetric, nat_cmp-IsAntisymmetric}
 use Rattle.std.specs.List.{list_any, filter}
 use Rattle.std.specs.Ordering.{eq_by_cmp}
 use Rattle.std.proofs.lemmas.Map.Text.{is_eq-slice_cmp}
-use Rattle.asking.specs.LookUps.{result_of}
+use Rattle.asking.specs.LookUps.{asked, result_of}
 use Rattle.c_tokens.specs.Lexed.{lexed}
 use Rattle.doc_texts.specs.Texts.{PathSet, Texts, text_at, paths_of, marked}
 use Rattle.include_units.specs.Files.{Question, Exists, Text, Lines}
@@ -13,7 +13,8 @@ use Rattle.include_units.specs.Runs.{own_places}
 use Rattle.include_units.specs.Units.{unit_tokens}
 use Rattle.plain_mean.specs.Given.{given}
 use Rattle.plain_mean.specs.Meanings.{meaning, meant_by}
-use Rattle.plain_mean.specs.Shown.{shown, units, most_units, is_unit_of, of_file, falls_on}
+use Rattle.plain_mean.specs.Renewed.{questions}
+use Rattle.plain_mean.specs.Shown.{units, most_units, is_unit_of}
 use Rattle.project_conf.specs.Entries.{unit_conf}
 use Rattle.project_conf.specs.declared.conf.Conf.{Conf}
 
@@ -49,6 +50,10 @@ module _
   unfolding meaning
   same_meaning conf unit = λ i. meant_by (result_of (λ q. same_given q i) (unit_tokens (unit_conf conf unit)))
 
+  pub same_questions : (conf : Conf) (unit : List ℕ) → questions t' conf unit ≡ questions t conf unit
+  unfolding questions
+  same_questions conf unit = λ i. asked (λ q. same_given q i) (unit_tokens (unit_conf conf unit))
+
   same_members : (q : List ℕ) → list_any (bytes_eq q) (paths_of t') ≡ list_any (bytes_eq q) (paths_of t)
   same_members q = members t' q ∙ ap is_some (same q) ∙ sym (members t q)
 
@@ -60,9 +65,3 @@ module _
     pub same_units : units t' conf ≡ units t conf
     unfolding units
     same_units = λ i. take most_units (filter (λ path. same_test path i) (same_paths i))
-
-    pub same_shown : (path : List ℕ) → shown t' conf path ≡ shown t conf path
-    unfolding shown
-    same_shown path = λ i. of_file (same path i)
-        (filter (falls_on path) (flat_map (λ unit. (same_meaning conf unit i).meaning.faults) (same_units i)))
-        (list_any (bytes_eq path) (flat_map (λ unit. (same_meaning conf unit i).reads) (same_units i)))

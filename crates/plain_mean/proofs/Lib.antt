@@ -1,8 +1,12 @@
+pub mod AskedSame
+pub mod Comparing
 pub mod Followed
+pub mod Gathering
 pub mod Keys
 pub mod Lexed
 pub mod Listed
-pub mod Noted
-pub mod Truth
+pub mod Sameness
+pub mod Told
+pub mod UnitsStay
 pub mod Usable
 pub mod Within

@@ -1,13 +1,11 @@
 -- The lists that are kept, file by file.
-use Rattle.std.proofs.Common.{◌≡◌, ℕ, Bool, true, false, cond, ◌||◌, List, [], ◌∷◌, length, flat_map, Option, Some, None, is_some, bytes_eq, refl, sym, ap, ◌∙◌, subst}
+use Rattle.std.proofs.Common.{◌≡◌, ℕ, Bool, true, false, cond, ◌||◌, List, [], ◌∷◌, length, Option, Some, None, is_some, bytes_eq, refl, sym, ap, ◌∙◌, subst}
 use Rattle.std.specs.List.{filter, list_any}
 use Rattle.std.proofs.lemmas.Slice.Eq.{bytes_eq-Decides}
 use Rattle.tok_data.specs.declared.faults.ShownFault.{ShownFault}
 use Rattle.doc_texts.specs.Texts.{Texts, text_at}
-use Rattle.project_conf.specs.declared.conf.Conf.{Conf}
 use Rattle.plain_mean.specs.Given.{text_in}
-use Rattle.plain_mean.specs.Lists.{faults_by, reads_by}
-use Rattle.plain_mean.specs.Shown.{falls_on, of_file, faults_of, reads_of, shown, units}
+use Rattle.plain_mean.specs.Shown.{falls_on, of_file, shown_by}
 use Rattle.plain_mean.specs.Within.{AreWithin}
 use Rattle.plain_mean.specs.declared.types.Shown.{Shown}
 
@@ -40,19 +38,10 @@ of_none : (o : Option (List ℕ)) (faults : List ShownFault) (read : Bool) → c
 of_none None faults read = refl
 of_none (Some text) faults read = refl
 
-pub all_right : (t : Texts) (conf : Conf) (q : List ℕ) (among read : Bool) (faults : List ShownFault) (list : List Shown) →
+pub all_right : (t : Texts) (fs : List ShownFault) (rs : List (List ℕ)) (q : List ℕ) (among read : Bool) (faults : List ShownFault) (list : List Shown) →
     list ≡ cond among (of_file (text_at t q) faults read) [] → among ≡ is_some (text_at t q) →
-    faults ≡ filter (falls_on q) (faults_of t conf) → read ≡ list_any (bytes_eq q) (reads_of t conf) → list ≡ shown t conf q
-unfolding shown
-all_right t conf q among read faults list is path found told =
+    faults ≡ filter (falls_on q) fs → read ≡ list_any (bytes_eq q) rs → list ≡ shown_by t fs rs q
+unfolding shown_by
+all_right t fs rs q among read faults list is path found told =
     is ∙ ap (λ b. cond b (of_file (text_at t q) faults read) []) path ∙ of_none (text_at t q) faults read
     ∙ (λ i. of_file (text_at t q) (found i) (told i))
-
--- what is shown of all units, and what they read
-pub faults_shown : (t : Texts) (conf : Conf) → flat_map (faults_by t conf) (units t conf) ≡ faults_of t conf
-unfolding faults_by
-faults_shown t conf = refl
-
-pub reads_shown : (t : Texts) (conf : Conf) → flat_map (reads_by t conf) (units t conf) ≡ reads_of t conf
-unfolding reads_by
-reads_shown t conf = refl

@@ -1,13 +1,13 @@
 -- What the texts of a session say of the files that a unit asks for, and the unit's tokens over them.
-use Rattle.std.specs.Prelude.{◌≡◌, ℕ, is_some, unwrap_or, List, [], ◌∷◌, Some}
+use Rattle.std.specs.Prelude.{◌≡◌, ℕ, is_some, unwrap_or, List, [], ◌++◌}
 use Rattle.doc_texts.specs.Texts.{Texts, text_at}
 use Rattle.c_tokens.specs.Lexed.{lexed}
 use Rattle.project_conf.specs.declared.conf.UnitConf.{UnitConf}
+use Rattle.asking.specs.Laws.{AreEntriesOf}
 use Rattle.asking.specs.LookUps.{Given, result_of}
 use Rattle.include_units.specs.declared.types.FileAnswer.{FileAnswer}
 use Rattle.include_units.specs.declared.types.UnitTokens.{UnitTokens}
-use Rattle.include_units.specs.Coming.{IsShort}
-use Rattle.include_units.specs.Files.{Question, Exists, Text, Lines, Answer, files, reads}
+use Rattle.include_units.specs.Files.{Question, Exists, Text, Lines, files}
 use Rattle.include_units.specs.Runs.{own_places}
 use Rattle.include_units.specs.Units.{unit_tokens}
 
@@ -23,13 +23,10 @@ given texts (Lines path) = own_places (text_in texts path)
 abbrev pub tokens_over : Texts → UnitConf → UnitTokens
 tokens_over texts conf = result_of (given texts) (unit_tokens conf)
 
--- ---- answers that were given
+-- ---- answers that are told
 
--- the answer is what the texts say, and its list of tokens is short
-pub record IsTrue (texts : Texts) (e : List ℕ × FileAnswer) : Type 0 where
-  pub says : (q : Question) (answer : Answer q) → reads q e ≡ Some answer → answer ≡ given texts q
-  pub short : IsShort e
-
-abbrev pub AreTrue : Texts → List (List ℕ × FileAnswer) → Type 0
-AreTrue texts [] = Unit {0}
-AreTrue texts (e ∷ es) = IsTrue texts e × AreTrue texts es
+-- between two moments answers to these questions were told, one each, as the texts say
+pub record HasTold (texts : Texts) (old now : List (List ℕ × FileAnswer)) (questions : List Question) : Type 0 where
+  pub more : List (List ℕ × FileAnswer)
+  pub grown : now ≡ old ++ more
+  pub told : AreEntriesOf files (given texts) questions more

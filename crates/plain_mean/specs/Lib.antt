@@ -7,3 +7,8 @@ pub mod Within
 pub mod Shown
 pub mod Lists
 pub mod Lexing
+pub mod Renewed
+pub mod Changing
+pub mod Same
+pub mod Marks
+pub mod Gathered

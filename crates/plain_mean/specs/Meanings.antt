@@ -15,7 +15,6 @@ use Rattle.stmt_checks.specs.Folds.{unit_meaning}
 use Rattle.unit_meaning.specs.Sites.{Entry, all_reached, moved}
 use Rattle.plain_mean.specs.Given.{tokens_over}
 use Rattle.plain_mean.specs.Messages.{message}
-use Rattle.plain_mean.specs.declared.types.MeantUnit.{MeantUnit}
 use Rattle.plain_mean.specs.declared.types.UnitMeaning.{UnitMeaning}
 
 -- ---- preprocessing
@@ -53,7 +52,3 @@ meant_by tokens = record { meaning = whole tokens (map entry tokens.entered); re
 
 unfoldable pub meaning : Texts → Conf → List ℕ → UnitMeaning
 meaning texts conf unit = meant_by (tokens_over texts (unit_conf conf unit))
-
--- the unit at a path, with what it means
-abbrev pub meant_unit : Texts → Conf → List ℕ → MeantUnit
-meant_unit texts conf unit = record { path = unit; meaning = meaning texts conf unit }

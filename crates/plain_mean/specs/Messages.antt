@@ -51,4 +51,4 @@ message rule text = round (front_of rule) text (behind_of rule)
 
 -- the rules that a warning is given for, those of items among them; the others are errors
 abbrev pub is_warning : ℕ → Bool
-is_warning rule = (rule == 211 || rule == 230) || item_warning rule
+is_warning rule = ((rule == 211 || rule == 230) || (rule == 801 || rule == 802)) || item_warning rule

@@ -83,12 +83,12 @@ of_file (Some text) faults read = of_text text faults read
 
 -- ---- all units
 
+-- what a file shows, by all faults and by the paths that are read; a file without a text shows nothing
+unfoldable pub shown_by : Texts → List ShownFault → List (List ℕ) → List ℕ → List Shown
+shown_by texts faults reads path = of_file (text_at texts path) (filter (falls_on path) faults) (list_any (bytes_eq path) reads)
+
 abbrev pub faults_of : Texts → Conf → List ShownFault
 faults_of texts conf = flat_map (λ unit. (meaning texts conf unit).meaning.faults) (units texts conf)
 
 abbrev pub reads_of : Texts → Conf → List (List ℕ)
 reads_of texts conf = flat_map (λ unit. (meaning texts conf unit).reads) (units texts conf)
-
--- a file without a text shows nothing
-unfoldable pub shown : Texts → Conf → List ℕ → List Shown
-shown texts conf path = of_file (text_at texts path) (filter (falls_on path) (faults_of texts conf)) (list_any (bytes_eq path) (reads_of texts conf))

@@ -1,6 +1,10 @@
 // Answers to what a unit asks of files, by the texts of a session.
-ghost use Rattle.std.specs.Prelude.{◌≡◌, IfOk, OnOk};
-ghost use Rattle.plain_mean.specs.Given.{IsTrue, AreTrue};
+ghost use Rattle.std.specs.Prelude.{◌≡◌, ◌∷◌, [], map, IfOk, OnOk};
+ghost use Rattle.asking.specs.Laws.{IsEntryOf};
+ghost use Rattle.include_units.specs.Coming.{IsShortAnswer, question};
+ghost use Rattle.include_units.specs.Files.{Exists, Lines, Text, files};
+ghost use Rattle.plain_mean.specs.Given.{HasTold, given};
+ghost use Rattle.plain_mean.specs.Renewed.{path_of};
 
 use crate::lexings::Lexings;
 use doc_texts::Docs;
@@ -8,109 +12,91 @@ use include_units::{FileAnswer, Unit, Want};
 use std::alloc::AllocError;
 use uri_paths::Path;
 
-fn held(docs: &Docs, path: Path) -> (Path, FileAnswer)
-    ensures { IsTrue docs.now result }
+fn held(docs: &Docs, path: &Path) -> FileAnswer
+    ensures entry { IsEntryOf files (given docs.now) (Exists path.now) (path.now, result) }
+    ensures short { IsShortAnswer result }
 {
-    match docs.text(&path) {
-        Some(_) => (path, FileAnswer::There),
-        None => (path, FileAnswer::Absent),
+    match docs.text(path) {
+        Some(_) => FileAnswer::There,
+        None => FileAnswer::Absent,
     }
 }
 
-fn lines_of(lexings: &mut Lexings<'_>, path: Path) -> Result<(Path, FileAnswer), AllocError>
-    ensures answer { IfOk result (λ e. IsTrue lexings.old e) }
+fn tokens_of(lexings: &mut Lexings<'_>, path: &Path) -> Result<FileAnswer, AllocError>
+    ensures entry { IfOk result (λ answer. IsEntryOf files (given lexings.old) (Text path.now) (path.now, answer)) }
+    ensures short { IfOk result (λ answer. IsShortAnswer answer) }
     ensures same { lexings.new ≡ lexings.old }
 {
-    let lexed = lexings.at(&path)?;
-    Ok((path, FileAnswer::Lines(lexed.places)))
+    let lexed = lexings.at(path)?;
+    Ok(FileAnswer::Tokens(lexed.tokens))
 }
 
-fn tokens_of(lexings: &mut Lexings<'_>, path: Path) -> Result<(Path, FileAnswer), AllocError>
-    ensures answer { IfOk result (λ e. IsTrue lexings.old e) }
+fn lines_of(lexings: &mut Lexings<'_>, path: &Path) -> Result<FileAnswer, AllocError>
+    ensures entry { IfOk result (λ answer. IsEntryOf files (given lexings.old) (Lines path.now) (path.now, answer)) }
+    ensures short { IfOk result (λ answer. IsShortAnswer answer) }
     ensures same { lexings.new ≡ lexings.old }
 {
-    let lexed = lexings.at(&path)?;
-    Ok((path, FileAnswer::Tokens(lexed.tokens)))
+    let lexed = lexings.at(path)?;
+    Ok(FileAnswer::Lines(lexed.places))
 }
 
-fn is_there(answer: &FileAnswer) -> bool {
-    match answer {
-        FileAnswer::There => true,
-        FileAnswer::Absent => false,
-        FileAnswer::Tokens(_) => false,
-        FileAnswer::Lines(_) => false,
-    }
-}
-
-// Tells a unit the tokens of the text at a path.
-#[tactic(auto, using(crate::proofs::Truth::true_told))]
-fn tell_tokens(lexings: &mut Lexings<'_>, path: Path, unit: &mut Unit) -> Result<(), AllocError>
-    requires { AreTrue lexings.old unit.old.answers }
-    ensures answers { OnOk result (AreTrue lexings.old unit.new.answers) }
+fn answer_to(lexings: &mut Lexings<'_>, want: &Want) -> Result<FileAnswer, AllocError>
+    ensures entry { IfOk result (λ answer. IsEntryOf files (given lexings.old) (question want.now) (path_of (question want.now), answer)) }
+    ensures short { IfOk result (λ answer. IsShortAnswer answer) }
     ensures same { lexings.new ≡ lexings.old }
-    ensures conf { OnOk result (unit.new.conf ≡ unit.old.conf) }
-{
-    let (path, answer) = tokens_of(lexings, path)?;
-    unit.tell(path, answer)?;
-    Ok(())
-}
-
-#[tactic(auto, using(crate::proofs::Truth::true_told))]
-fn tell_lines(lexings: &mut Lexings<'_>, path: Path, unit: &mut Unit) -> Result<(), AllocError>
-    requires { AreTrue lexings.old unit.old.answers }
-    ensures answers { OnOk result (AreTrue lexings.old unit.new.answers) }
-    ensures same { lexings.new ≡ lexings.old }
-    ensures conf { OnOk result (unit.new.conf ≡ unit.old.conf) }
-{
-    let (path, answer) = lines_of(lexings, path)?;
-    unit.tell(path, answer)?;
-    Ok(())
-}
-
-// Tells a unit whether a text is held at a path, and where one is, its tokens too, since it asks for them next.
-#[tactic(auto, using(crate::proofs::Truth::true_told))]
-fn tell_held(lexings: &mut Lexings<'_>, path: Path, unit: &mut Unit) -> Result<(), AllocError>
-    requires { AreTrue lexings.old unit.old.answers }
-    ensures answers { OnOk result (AreTrue lexings.old unit.new.answers) }
-    ensures same { lexings.new ≡ lexings.old }
-    ensures conf { OnOk result (unit.new.conf ≡ unit.old.conf) }
-{
-    let (path, answer) = held(lexings.docs(), path);
-    let there = is_there(&answer);
-    let next = path.share()?;
-    unit.tell(path, answer)?;
-    if there {
-        return tell_tokens(lexings, next, unit);
-    }
-    Ok(())
-}
-
-fn tell_answer(lexings: &mut Lexings<'_>, want: Want, unit: &mut Unit) -> Result<(), AllocError>
-    requires { AreTrue lexings.old unit.old.answers }
-    ensures answers { OnOk result (AreTrue lexings.old unit.new.answers) }
-    ensures same { lexings.new ≡ lexings.old }
-    ensures conf { OnOk result (unit.new.conf ≡ unit.old.conf) }
 {
     match want {
-        Want::Exists(path) => tell_held(lexings, path, unit),
-        Want::Text(path) => tell_tokens(lexings, path, unit),
-        Want::Lines(path) => tell_lines(lexings, path, unit),
+        Want::Exists(path) => {
+            let answer = held(lexings.docs(), path);
+            Ok(answer)
+        }
+        Want::Text(path) => {
+            let answer = tokens_of(lexings, path)?;
+            Ok(answer)
+        }
+        Want::Lines(path) => {
+            let answer = lines_of(lexings, path)?;
+            Ok(answer)
+        }
     }
 }
 
-// Tells a unit an answer to each want.
-pub(crate) fn tell_answers(
-    lexings: &mut Lexings<'_>,
-    wants: Vec<Want>,
-    unit: &mut Unit,
-) -> Result<(), AllocError>
-    requires { AreTrue lexings.old unit.old.answers }
-    ensures answers { OnOk result (AreTrue lexings.old unit.new.answers) }
+pub(crate) fn path_of(want: &Want) -> &Path
+    ensures { result.now ≡ path_of (question want.now) }
+{
+    match want {
+        Want::Exists(path) => path,
+        Want::Text(path) => path,
+        Want::Lines(path) => path,
+    }
+}
+
+// Tells a unit what it wants, and nothing else.
+fn tell(lexings: &mut Lexings<'_>, want: &Want, unit: &mut Unit) -> Result<(), AllocError>
+    ensures told { OnOk result (HasTold lexings.old unit.old.answers unit.new.answers (question want.now ∷ [])) }
     ensures same { lexings.new ≡ lexings.old }
     ensures conf { OnOk result (unit.new.conf ≡ unit.old.conf) }
 {
-    'wants: for want in wants {
-        tell_answer(lexings, want, unit)?;
+    let answer = answer_to(lexings, want)?;
+    let path = path_of(want).share()?;
+    unit.tell(path, answer)?;
+    Ok(())
+}
+
+// Tells a unit all that it wants, in order.
+pub(crate) fn tell_all(
+    lexings: &mut Lexings<'_>,
+    wants: &[Want],
+    unit: &mut Unit,
+) -> Result<(), AllocError>
+    ensures told { OnOk result (HasTold lexings.old unit.old.answers unit.new.answers (map question wants.now)) }
+    ensures same { lexings.new ≡ lexings.old }
+    ensures conf { OnOk result (unit.new.conf ≡ unit.old.conf) }
+{
+    let mut rest = wants;
+    'wants: while let Some((want, behind)) = rest.split_first() {
+        rest = behind;
+        tell(lexings, want, unit)?;
     }
     Ok(())
 }

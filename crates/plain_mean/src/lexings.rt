@@ -1,11 +1,14 @@
 // What lexing gives of the texts that units read, once for all units.
-ghost use Rattle.std.specs.Prelude.{◌≡◌, ◌≤◌, length, IfOk};
+ghost use Rattle.std.specs.Prelude.{◌≡◌, ℕ, ◌≤◌, List, [], length, bytes_eq, None, unwrap_or, IfOk, OnOk, if◌then◌else◌};
+ghost use Rattle.std.specs.List.{list_any};
+ghost use Rattle.std.specs.Option.{option_or};
+ghost use Rattle.doc_texts.specs.Prior.{text_before};
 ghost use Rattle.doc_texts.specs.Texts.{Texts};
 ghost use Rattle.plain_mean.specs.Given.{text_in};
-ghost use Rattle.plain_mean.specs.Lexing.{IsLexed, HasLexed};
+ghost use Rattle.plain_mean.specs.Lexing.{IsLexed, HasLexed, WereLexed, lexing_at};
 
 use c_tokens::lex;
-use doc_texts::Docs;
+use doc_texts::{Docs, PriorTexts};
 use include_units::{PpTokens, TextPlaces};
 use std::alloc::{AllocError, Global};
 use std::collections::BTreeMap;
@@ -50,6 +53,16 @@ fn text_in<'a>(docs: &'a Docs, path: &Path) -> &'a str
     }
 }
 
+fn text_before<'a>(prior: &'a PriorTexts, docs: &'a Docs, path: &Path) -> &'a str
+    ensures text { result.now ≡ unwrap_or (text_before prior.now docs.now path.now) [] }
+    ensures short { length result.now ≤ 4290772992 }
+{
+    match prior.text(docs, path) {
+        Some(text) => text,
+        None => "",
+    }
+}
+
 /// What lexing gave of some texts, by path, without the texts.
 #[derive(Drop)]
 pub struct KeptLexings {
@@ -80,6 +93,68 @@ impl KeptLexings {
         }
         let lexed = lexed_text(self.alloc, text_in(docs, path))?;
         Ok(lexed)
+    }
+
+    /// What lexing gave of the text that a path had, which is empty where it had none: what is kept, shared, or else lexed anew.
+    pub(crate) fn before(
+        &self,
+        prior: &PriorTexts,
+        docs: &Docs,
+        path: &Path,
+    ) -> Result<LexedText, AllocError>
+        requires { WereLexed prior.now docs.now self.now }
+        ensures { IfOk result (λ l. IsLexed (unwrap_or (text_before prior.now docs.now path.now) []) l) }
+    {
+        match self.kept.get(path) {
+            Some(kept) => return kept.share(),
+            None => {}
+        }
+        let lexed = lexed_text(self.alloc, text_before(prior, docs, path))?;
+        Ok(lexed)
+    }
+
+    #[tactic(auto, unfolding(crate::specs::Lexing::lexing_at))]
+    fn none(alloc: Global) -> KeptLexings
+        ensures { (q : List ℕ) → lexing_at result q ≡ None }
+    {
+        KeptLexings {
+            alloc,
+            kept: BTreeMap::new(alloc),
+        }
+    }
+
+    // Moves what is kept of a path to others.
+    fn give(&mut self, path: &Path, others: &mut KeptLexings) -> Result<(), AllocError>
+        ensures kept { OnOk result ((q : List ℕ) → lexing_at self.new q ≡ (if bytes_eq q path.now then None else lexing_at self.old q)) }
+        ensures given { OnOk result ((q : List ℕ) → lexing_at others.new q ≡ (if bytes_eq q path.now then option_or (lexing_at self.old path.now) (lexing_at others.old q) else lexing_at others.old q)) }
+    {
+        match self.kept.remove(path) {
+            Some(lexed) => {
+                others.kept.insert(path.share()?, lexed)?;
+                Ok(())
+            }
+            None => Ok(()),
+        }
+    }
+
+    /// Moves what is kept of these paths to others, where it is kept.
+    pub(crate) fn give_all(
+        &mut self,
+        prior: &PriorTexts,
+        docs: &Docs,
+        paths: &[Path],
+    ) -> Result<KeptLexings, AllocError>
+        requires { WereLexed prior.now docs.now self.old }
+        ensures kept { IfOk result (λ _. (q : List ℕ) → lexing_at self.new q ≡ (if list_any (bytes_eq q) paths.now then None else lexing_at self.old q)) }
+        ensures given { IfOk result (λ others. WereLexed prior.now docs.now others) }
+    {
+        let mut others = KeptLexings::none(self.alloc);
+        let mut rest = paths;
+        'paths: while let Some((path, behind)) = rest.split_first() {
+            rest = behind;
+            self.give(path, &mut others)?;
+        }
+        Ok(others)
     }
 }
 
@@ -116,6 +191,18 @@ impl<'a> Lexings<'a> {
         }
     }
 
+    /// These texts, of some of which it is kept what lexing gives. It takes no memory.
+    pub(crate) fn over(docs: &'a Docs, kept: KeptLexings) -> Lexings<'a>
+        requires { HasLexed docs.now kept }
+        ensures { result ≡ docs.now }
+    {
+        Lexings {
+            alloc: kept.alloc,
+            docs,
+            kept: kept.kept,
+        }
+    }
+
     /// The texts.
     pub(crate) fn docs(&self) -> &'a Docs
         ensures { result.now ≡ self.now }
@@ -138,8 +225,8 @@ impl<'a> Lexings<'a> {
         Ok(copy)
     }
 
-    /// What was lexed.
-    pub(crate) fn into_kept(self) -> KeptLexings
+    /// What was lexed, without the texts.
+    pub fn into_kept(self) -> KeptLexings
         ensures { HasLexed self.entry result }
     {
         KeptLexings {

@@ -2,24 +2,28 @@
 #![tactic(auto)]
 
 mod answers;
+mod changes;
 mod confs;
 mod laws;
 mod lexings;
 mod lists;
+mod marks;
 mod meaning;
 mod messages;
 mod reading;
+mod same;
 mod shown;
 mod token_kinds;
+mod tokens;
 mod types;
-mod units;
 
+pub use changes::Changes;
 pub use confs::{conf_of, database_fault, database_path};
-pub use laws::{meanings_follow, shown_follows};
+pub use laws::{answers_stay, configurations_are_equal, grounds_hold, meanings_follow, units_stay};
 pub use lexings::{KeptLexings, LexedText, Lexings};
-pub use lists::{ShownLists, WorkedOut, unit_count, worked_out};
+pub use lists::{Gathered, ShownLists, shown_lists, unit_count, units};
 pub use meaning::mean;
 pub use messages::is_warning;
 pub use reading::Reading;
 pub use token_kinds::kinds;
-pub use types::{MeantUnit, Shown, ShownFaults, ShownList, UnitMeaning};
+pub use types::{Grounds, Meant, Shown, ShownFaults, ShownList, UnitMeaning};

@@ -1,27 +1,26 @@
 // What all files show, over all units of the texts.
-ghost use Rattle.std.specs.Prelude.{◌≡◌, ℕ, ◌+◌, ◌≤◌, ◌||◌, false, List, [], ◌∷◌, ◌++◌, length, map, flat_map, bytes_eq, IfOk, OnOk, if◌then◌else◌};
+ghost use Rattle.std.specs.Prelude.{◌≡◌, ℕ, ◌≤◌, false, List, [], ◌∷◌, ◌++◌, length, bytes_eq, IfOk, OnOk, if◌then◌else◌};
 ghost use Rattle.std.specs.List.{filter, list_any};
 ghost use Rattle.doc_texts.specs.Texts.{text_at};
-ghost use Rattle.plain_mean.specs.Lexing.{HasLexed};
-ghost use Rattle.plain_mean.specs.Meanings.{meant_unit};
 ghost use Rattle.plain_mean.specs.Confs.{IsUsable};
 ghost use Rattle.plain_mean.specs.Given.{text_in};
-ghost use Rattle.plain_mean.specs.Shown.{falls_on, is_unit_of, of_file, units};
-ghost use Rattle.plain_mean.specs.Lists.{AreShown, faults_at, faults_by, has_read, reads_by, shown_in};
+ghost use Rattle.plain_mean.specs.Gathered.{AreGathered, faults_at};
+ghost use Rattle.plain_mean.specs.Marks.{is_marked};
+ghost use Rattle.plain_mean.specs.Shown.{falls_on, is_unit_of, of_file, shown_by, units};
+ghost use Rattle.plain_mean.specs.Lists.{shown_in};
+ghost use Rattle.tok_data.specs.declared.faults.ShownFault.{ShownFault as Fault};
 ghost use Rattle.plain_mean.specs.Within.{AreWithin};
 
-use crate::lexings::{KeptLexings, Lexings};
-use crate::meaning::mean;
+use crate::lexings::Lexings;
+use crate::marks::Marks;
 use crate::reading::Reading;
 use crate::shown::of_text;
-use crate::types::{MeantUnit, Shown, ShownFaults, ShownList};
+use crate::types::{Shown, ShownFaults, ShownList};
 use doc_texts::{Docs, paths_are_sets};
 use project_conf::Conf;
 use shared_text::Name;
 use std::alloc::{AllocError, Global};
 use std::collections::BTreeMap;
-use std::sync::ledger::Ledger;
-use steps::Steps;
 use tok_data::{FileId, ShownFault};
 use uri_paths::Path;
 
@@ -91,52 +90,39 @@ impl ByFile {
     }
 }
 
-// Paths that units read.
+/// The faults of units and the paths that they read, as they are gathered.
 #[derive(Drop)]
-struct Reads {
-    paths: BTreeMap<Path, ()>,
-}
-
-impl Reads {
-    fn new(alloc: Global) -> Reads
-        ensures { (q : List ℕ) → has_read result q ≡ false }
-    {
-        Reads {
-            paths: BTreeMap::new(alloc),
-        }
-    }
-
-    fn add(&mut self, path: Path) -> Result<(), AllocError>
-        ensures { OnOk result ((q : List ℕ) → has_read self.new q ≡ (bytes_eq q path || has_read self.old q)) }
-    {
-        self.paths.insert(path, ())?;
-        Ok(())
-    }
-
-    fn add_all(&mut self, paths: &[Path]) -> Result<(), AllocError>
-        ensures { OnOk result ((q : List ℕ) → has_read self.new q ≡ (has_read self.old q || list_any (bytes_eq q) paths.now)) }
-    {
-        let mut rest = paths;
-        'paths: while let Some((path, behind)) = rest.split_first() {
-            rest = behind;
-            self.add(path.share()?)?;
-        }
-        Ok(())
-    }
-
-    fn has(&self, path: &Path) -> bool
-        ensures { result ≡ has_read self.now path.now }
-    {
-        self.paths.contains_key(path)
-    }
-}
-
-// What the units of the texts come to: what each means, their faults, and the texts that they read.
-#[derive(Drop)]
-struct Found {
-    units: Vec<MeantUnit>,
+pub struct Gathered {
     faults: ByFile,
-    reads: Reads,
+    reads: Marks,
+}
+
+impl Gathered {
+    /// Nothing yet. It takes no memory.
+    pub fn new(alloc: Global) -> Gathered
+        ensures { AreGathered [] [] result }
+    {
+        Gathered {
+            faults: ByFile::new(alloc),
+            reads: Marks::new(alloc),
+        }
+    }
+
+    /// These faults too.
+    pub fn add_faults(&mut self, faults: &[ShownFault]) -> Result<(), AllocError>
+        ensures { OnOk result ((fs : List Fault) (rs : List (List ℕ)) → AreGathered fs rs self.old → AreGathered (fs ++ faults.now) rs self.new) }
+    {
+        self.faults.add_all(faults)?;
+        Ok(())
+    }
+
+    /// These paths are read too.
+    pub fn add_reads(&mut self, paths: &[Path]) -> Result<(), AllocError>
+        ensures { OnOk result ((fs : List Fault) (rs : List (List ℕ)) → AreGathered fs rs self.old → AreGathered fs (rs ++ paths.now) self.new) }
+    {
+        self.reads.add_all(paths)?;
+        Ok(())
+    }
 }
 
 // Those of the paths that are units.
@@ -160,8 +146,9 @@ fn chosen(
     Ok(out)
 }
 
+/// The units of the texts, in order of path, at most 1,024. It costs the texts' paths.
 #[tactic(auto, unfolding(crate::specs::Shown::units))]
-fn units(alloc: Global, docs: &Docs, reading: &Reading<'_>) -> Result<Vec<Path>, AllocError>
+pub fn units(alloc: Global, docs: &Docs, reading: &Reading<'_>) -> Result<Vec<Path>, AllocError>
     ensures units { IfOk result (λ list. list.items ≡ units docs.now reading.now) }
     ensures few { IfOk result (λ list. length list.items ≤ 1024) }
 {
@@ -171,72 +158,14 @@ fn units(alloc: Global, docs: &Docs, reading: &Reading<'_>) -> Result<Vec<Path>,
     Ok(units)
 }
 
-fn meant_unit<L: Ledger>(
-    alloc: Global,
-    lexings: &mut Lexings<'_>,
-    reading: &Reading<'_>,
-    unit: &Path,
-    steps: &mut Steps<L>,
-) -> Result<MeantUnit, AllocError>
-    ensures unit { IfOk result (λ u. u ≡ meant_unit lexings.old reading.now unit.now) }
-    ensures faults { IfOk result (λ u. u.meaning.meaning.faults ≡ faults_by lexings.old reading.now unit.now) }
-    ensures reads { IfOk result (λ u. u.meaning.reads ≡ reads_by lexings.old reading.now unit.now) }
-    ensures same { lexings.new ≡ lexings.old }
-    ensures steps { steps.new ≡ steps.old + 1 }
-{
-    let meaning = mean(alloc, lexings, reading, unit, steps)?;
-    let path = unit.share()?;
-    Ok(MeantUnit { path, meaning })
-}
-
-// Adds what is shown of a unit, and what it reads.
-fn note(faults: &mut ByFile, reads: &mut Reads, unit: &MeantUnit) -> Result<(), AllocError>
-    ensures faults { OnOk result ((q : List ℕ) → faults_at faults.new q ≡ faults_at faults.old q ++ filter (falls_on q) unit.now.meaning.meaning.faults) }
-    ensures reads { OnOk result ((q : List ℕ) → has_read reads.new q ≡ (has_read reads.old q || list_any (bytes_eq q) unit.now.meaning.reads)) }
-{
-    faults.add_all(unit.meaning.meaning.faults.as_slice())?;
-    reads.add_all(unit.meaning.reads.as_slice())?;
-    Ok(())
-}
-
-fn found_in<L: Ledger>(
-    alloc: Global,
-    lexings: &mut Lexings<'_>,
-    reading: &Reading<'_>,
-    units: &[Path],
-    steps: &mut Steps<L>,
-) -> Result<Found, AllocError>
-    ensures units { IfOk result (λ found. found.units.items ≡ map (meant_unit lexings.old reading.now) units.now) }
-    ensures faults { IfOk result (λ found. (q : List ℕ) → faults_at found.faults q ≡ filter (falls_on q) (flat_map (faults_by lexings.old reading.now) units.now)) }
-    ensures reads { IfOk result (λ found. (q : List ℕ) → has_read found.reads q ≡ list_any (bytes_eq q) (flat_map (reads_by lexings.old reading.now) units.now)) }
-    ensures same { lexings.new ≡ lexings.old }
-    ensures steps { OnOk result (steps.new ≡ steps.old + length units.now) }
-{
-    let mut meant = Vec::new(alloc);
-    let mut faults = ByFile::new(alloc);
-    let mut reads = Reads::new(alloc);
-    let mut rest = units;
-    'units: while let Some((unit, behind)) = rest.split_first() {
-        rest = behind;
-        let one = meant_unit(alloc, lexings, reading, unit, steps)?;
-        note(&mut faults, &mut reads, &one)?;
-        meant.push(one)?;
-    }
-    Ok(Found {
-        units: meant,
-        faults,
-        reads,
-    })
-}
-
 // What a file shows; one that no unit reads, and on which nothing falls, isn't lexed.
 fn list_of(
     alloc: Global,
     lexings: &mut Lexings<'_>,
-    found: &Found,
+    gathered: &Gathered,
     path: &Path,
 ) -> Result<ShownList, AllocError>
-    ensures shown { IfOk result (λ list. list ≡ of_file (text_at lexings.old path.now) (faults_at found.now.faults path.now) (has_read found.now.reads path.now)) }
+    ensures shown { IfOk result (λ list. list ≡ of_file (text_at lexings.old path.now) (faults_at gathered.now.faults path.now) (is_marked gathered.now.reads path.now)) }
     ensures within { IfOk result (λ list. AreWithin (length (text_in lexings.old path.now)) list) }
     ensures same { lexings.new ≡ lexings.old }
 {
@@ -244,8 +173,8 @@ fn list_of(
         return Ok(ShownList::from_vec(Vec::new(alloc)));
     };
     let file = FileId::from_name(Name::from_str(alloc, path.as_str())?);
-    let faults = found.faults.of(&file);
-    let read = found.reads.has(path);
+    let faults = gathered.faults.of(&file);
+    let read = gathered.reads.has(path);
     if faults.is_empty() && !read {
         return Ok(ShownList::from_vec(Vec::new(alloc)));
     }
@@ -290,10 +219,10 @@ impl ShownLists {
 fn listed(
     alloc: Global,
     lexings: &mut Lexings<'_>,
-    found: &Found,
+    gathered: &Gathered,
     paths: &[Path],
 ) -> Result<ShownLists, AllocError>
-    ensures listed { IfOk result (λ lists. (q : List ℕ) → shown_in lists q ≡ (if list_any (bytes_eq q) paths.now then of_file (text_at lexings.old q) (faults_at found.now.faults q) (has_read found.now.reads q) else [])) }
+    ensures listed { IfOk result (λ lists. (q : List ℕ) → shown_in lists q ≡ (if list_any (bytes_eq q) paths.now then of_file (text_at lexings.old q) (faults_at gathered.now.faults q) (is_marked gathered.now.reads q) else [])) }
     ensures within { IfOk result (λ lists. (q : List ℕ) → AreWithin (length (text_in lexings.old q)) (shown_in lists q)) }
     ensures same { lexings.new ≡ lexings.old }
 {
@@ -301,7 +230,7 @@ fn listed(
     let mut rest = paths;
     'paths: while let Some((path, behind)) = rest.split_first() {
         rest = behind;
-        let list = list_of(alloc, lexings, found, path)?;
+        let list = list_of(alloc, lexings, gathered, path)?;
         lists.insert(path.share()?, list)?;
     }
     Ok(lists)
@@ -317,42 +246,19 @@ pub fn unit_count(alloc: Global, docs: &Docs, conf: &Conf) -> Result<u32, AllocE
     Ok(units.len() as u32)
 }
 
-/// What all units of some texts come to.
-#[derive(Drop)]
-pub struct WorkedOut {
-    /// What each file shows.
-    pub shown: ShownLists,
-    /// What each unit means, in order of path.
-    pub units: Vec<MeantUnit>,
-    /// What lexing gave of the texts that the units read.
-    pub lexings: KeptLexings,
-}
-
-/// What all units of the texts mean and what each file shows, each unit worked out once, which is one step each. Names of definitions are identifiers; those of
-/// the words have together at most 131,072 bytes of names and texts, and those of an entry of the database 2^25. Beside the units it
-/// costs the texts' paths and the database's entries. It fails as `mean` does.
-pub fn worked_out<L: Ledger>(
+/// What each file of the texts shows, by what was gathered of all units. It costs the texts' paths and what was gathered; a text that no unit reads, and on which
+/// nothing falls, isn't lexed. It fails for want of memory alone.
+pub fn shown_lists(
     alloc: Global,
-    docs: &Docs,
-    conf: &Conf,
-    steps: &mut Steps<L>,
-) -> Result<WorkedOut, AllocError>
-    requires { IsUsable conf.now }
-    ensures shown { IfOk result (λ w. AreShown docs.now conf.now w.shown) }
-    ensures units { IfOk result (λ w. w.units.items ≡ map (meant_unit docs.now conf.now) (units docs.now conf.now)) }
-    ensures lexed { IfOk result (λ w. HasLexed docs.now w.lexings) }
-    ensures steps { OnOk result (steps.new ≡ steps.old + length (units docs.now conf.now)) }
+    lexings: &mut Lexings<'_>,
+    gathered: &Gathered,
+) -> Result<ShownLists, AllocError>
+    ensures shown { IfOk result (λ lists. (fs : List Fault) (rs : List (List ℕ)) → AreGathered fs rs gathered.now → (path : List ℕ) → shown_in lists path ≡ shown_by lexings.old fs rs path) }
+    ensures within { IfOk result (λ lists. (path : List ℕ) → AreWithin (length (text_in lexings.old path)) (shown_in lists path)) }
+    ensures same { lexings.new ≡ lexings.old }
 {
     paths_are_sets();
-    let reading = Reading::of(alloc, conf)?;
-    let units = units(alloc, docs, &reading)?;
-    let mut lexings = Lexings::new(alloc, docs);
-    let found = found_in(alloc, &mut lexings, &reading, units.as_slice(), steps)?;
-    let paths = docs.paths()?;
-    let shown = listed(alloc, &mut lexings, &found, paths.as_slice())?;
-    Ok(WorkedOut {
-        shown,
-        units: found.units,
-        lexings: lexings.into_kept(),
-    })
+    let paths = lexings.docs().paths()?;
+    let lists = listed(alloc, lexings, gathered, paths.as_slice())?;
+    Ok(lists)
 }

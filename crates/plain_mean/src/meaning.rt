@@ -2,12 +2,13 @@
 ghost use Rattle.std.specs.Prelude.{◌≡◌, ◌+◌, ◌≤◌, ◌++◌, length, map, take, IfOk, OnOk};
 ghost use Rattle.plain_mean.specs.Meanings as spec;
 ghost use Rattle.plain_mean.specs.Meanings.{meaning};
+ghost use Rattle.plain_mean.specs.Renewed.{IsGrounds};
 
 use crate::lexings::Lexings;
 use crate::messages::message;
 use crate::reading::Reading;
-use crate::types::{ShownFaults, UnitMeaning};
-use crate::units::tokens_over;
+use crate::tokens::tokens_over;
+use crate::types::{Grounds, Meant, ShownFaults, UnitMeaning};
 use include_units::{Entered, UnitTokens};
 use item_readings::readings_exist;
 use shared_list::Listing;
@@ -164,23 +165,27 @@ fn meant_by(alloc: Global, tokens: UnitTokens) -> Result<UnitMeaning, AllocError
     })
 }
 
-/// What a unit means over the texts of a session, worked out anew but for what was lexed, which is one step. A path without a text counts as one that isn't there, and the unit's
-/// own path without a text as an empty text. It fails for want of memory, and after 2^64-1 rounds of questions, whose answers no
-/// memory holds.
+/// What a unit means over the texts of a session, worked out anew but for what was lexed, which is one step, and what that rests on. A path without a text
+/// counts as one that isn't there, and the unit's own path without a text as an empty text. It fails for want of memory, and after 2^64-1 rounds of
+/// questions, whose answers no memory holds.
 pub fn mean<L: Ledger>(
     alloc: Global,
     lexings: &mut Lexings<'_>,
     reading: &Reading<'_>,
     unit: &Path,
     steps: &mut Steps<L>,
-) -> Result<UnitMeaning, AllocError>
-    ensures meaning { IfOk result (λ m. m ≡ meaning lexings.old reading.now unit.now) }
+) -> Result<Meant, AllocError>
+    ensures meaning { IfOk result (λ m. m.meaning ≡ meaning lexings.old reading.now unit.now) }
+    ensures grounds { IfOk result (λ m. IsGrounds lexings.old reading.now unit.now m.grounds) }
     ensures same { lexings.new ≡ lexings.old }
     ensures steps { steps.new ≡ steps.old + 1 }
 {
     steps.tick();
     let conf = reading.unit_conf(alloc, unit)?;
-    let tokens = tokens_over(alloc, lexings, &conf)?;
-    let meant = meant_by(alloc, tokens)?;
-    Ok(meant)
+    let (tokens, asked) = tokens_over(alloc, lexings, &conf)?;
+    let meaning = meant_by(alloc, tokens)?;
+    Ok(Meant {
+        meaning,
+        grounds: Grounds { conf, asked },
+    })
 }

@@ -113,7 +113,7 @@ fn behind_of(rule: u16) -> Option<&'static str>
 pub fn is_warning(rule: u16) -> bool
     ensures { result ≡ is_warning rule }
 {
-    (rule == 211 || rule == 230) || fault_texts::is_warning(rule)
+    ((rule == 211 || rule == 230) || (rule == 801 || rule == 802)) || fault_texts::is_warning(rule)
 }
 
 /// The message of a rule, with the text that it prints.

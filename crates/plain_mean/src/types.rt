@@ -6,7 +6,8 @@ ghost use Rattle.std.specs.Cmp.Lexicographic.{slice_cmp};
 ghost use Rattle.std.specs.Cmp.Rules.{comparing};
 ghost use Rattle.std.specs.Ordering.{nat_cmp, on, then_cmp, as_partial_cmp};
 
-use include_units::Paths;
+use include_units::{Paths, Wants};
+use project_conf::UnitConf;
 use shared_list::Listing;
 use shared_text::Name;
 use std::alloc::AllocError;
@@ -27,11 +28,19 @@ pub struct UnitMeaning {
     pub reads: Paths,
 }
 
-/// A unit, and what it means.
+/// What the meaning of a unit rests on: how the unit was read, and what it asked of files.
 #[derive(Drop)]
-pub struct MeantUnit {
-    pub path: Path,
+pub struct Grounds {
+    pub conf: UnitConf,
+    /// Each question once, in the order in which they were asked.
+    pub asked: Wants,
+}
+
+/// What a unit means, and what that rests on.
+#[derive(Drop)]
+pub struct Meant {
     pub meaning: UnitMeaning,
+    pub grounds: Grounds,
 }
 
 /// A fault that a file shows. Faults are ordered by place, then rule, then message.

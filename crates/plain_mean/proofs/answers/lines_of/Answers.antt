@@ -1,5 +1,5 @@
-use Rattle.plain_mean.proofs.Truth.{lines_true}
+use Rattle.plain_mean.proofs.Told.{lines_entry}
 use Rattle.plain_mean.proofs.answers.lines_of.Goals as goal
 
-pub returns-clause-answer : goal.returns-clause-answer
-returns-clause-answer c = lines_true c.args.lexings.now c.args.path c.in_ok-lexed.lexed.places c.in_ok-lexed.ensures.lexed.places
+pub returns-clause-entry : goal.returns-clause-entry
+returns-clause-entry c = lines_entry c.args.lexings.now c.args.path.now c.in_ok-lexed.lexed.places c.in_ok-lexed.ensures.lexed.places

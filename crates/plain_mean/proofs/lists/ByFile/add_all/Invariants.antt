@@ -1,7 +1,7 @@
 use Rattle.std.proofs.Common.{◌≡◌, ℕ, List, ◌++◌, length}
 use Rattle.std.specs.List.{filter}
 use Rattle.plain_mean.specs.Shown.{falls_on}
-use Rattle.plain_mean.specs.Lists.{faults_at}
+use Rattle.plain_mean.specs.Gathered.{faults_at}
 use Rattle.plain_mean.proofs.lists.ByFile.add_all.Given as goal
 
 abbrev pub invariant-faults : goal.invariant-faults
