@@ -2,6 +2,7 @@ pub mod Answering
 pub mod Asking
 pub mod Counting
 pub mod Elements
+pub mod Keeping
 pub mod Loads
 pub mod Nothing
 pub mod PathSets
@@ -13,13 +14,16 @@ pub mod Remembered
 pub mod Responding
 pub mod Responses
 pub mod Telling
-pub mod Turning
-pub mod Unchanged
 pub mod Unlike
 pub mod Usable
 pub mod Utf8
 pub mod Floats
-pub mod Followed
 pub mod Hovering
 pub mod Nulls
 pub mod Orders
+pub mod Before
+pub mod Gathering
+pub mod Holding
+pub mod NoTexts
+pub mod Passing
+pub mod Renewing

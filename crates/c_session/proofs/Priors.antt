@@ -1,5 +1,5 @@
 -- Laws of texts of which one changes, and of those that are remembered.
-use Rattle.std.proofs.Common.{◌≡◌, ℕ, ℤ, List, Option, None, Some, Result, Ok, Err, Bool, true, false, not, cond, is_some, option_map, unwrap_or, T, refl, sym, ap, ◌∙◌, subst, bytes_eq, nat_lt, length}
+use Rattle.std.proofs.Common.{◌≡◌, ℕ, ℤ, List, Option, None, Some, Result, Ok, Err, Bool, true, false, not, cond, is_some, unwrap_or, T, refl, sym, ap, ◌∙◌, subst, bytes_eq, nat_lt, length}
 use Rattle.std.proofs.lemmas.Map.Text.{is_eq-slice_cmp}
 use Rattle.std.proofs.lemmas.Slice.Eq.{bytes_eq-Decides}
 use Rattle.std.specs.Cmp.Lexicographic.{nat_list_cmp_total}
@@ -9,7 +9,7 @@ use Rattle.io_edges.specs.declared.ends.Found.{Found}
 use Rattle.io_edges.specs.declared.ends.Found.TheVariants as found
 use Rattle.text_lines.specs.declared.edit.Change.{Change}
 use Rattle.text_lines.specs.declared.encoding.Encoding.{Encoding}
-use Rattle.doc_texts.specs.Texts.{TextMap, Texts, OpenText, shown, text_at, version_at, with_disk, without_disk, with_open, without_open}
+use Rattle.doc_texts.specs.Texts.{TextMap, Texts, OpenText, shown, text_at, with_disk, without_disk, with_open, without_open}
 use Rattle.doc_texts.specs.Docs.{allowed, is_outside, with_bytes, loaded, opened, changed, closed, with_changes, with_text, all_edited}
 use Rattle.doc_texts.specs.Limits.{most_files, longest_text, most_bytes}
 use Rattle.doc_texts.specs.Prior.{Prior, remembered}
@@ -18,7 +18,6 @@ use Rattle.doc_texts.specs.declared.error.DocError.TheVariants.{OutsideRoot, Alr
 use Rattle.c_session.specs.Files.{with_found}
 use Rattle.c_session.specs.Loading.{Loading, settles}
 use Rattle.c_session.specs.Ties.News.{IsPrior, KeepsPrior, SameBut}
-use Rattle.c_session.specs.Ties.Sessions.{SameOpen, Turned}
 
 -- ---- maps
 
@@ -128,93 +127,6 @@ closes_if false t t' path is = not_ok NotOpen t' is
 pub closed_differs : (t t' : Texts) (path : List ℕ) → closed t path ≡ Ok t' → SameBut path t t'
 unfolding closed
 closed_differs t t' path is = closes_if (contains_key t.opened path) t t' path (passes (is_outside t path) OutsideRoot _ t' is)
-
--- ---- which documents are open
-
-bytes_open : (t t' : Texts) (path : List ℕ) (bytes : Option (List ℕ)) → with_bytes t path bytes ≡ Ok t' → SameOpen t t'
-unfolding with_bytes version_at
-bytes_open t t' path None is = subst (SameOpen t) (same_ok (without_disk t path) t' is) (λ q. refl)
-bytes_open t t' path (Some bytes) is =
-    subst (SameOpen t) (fits_is _ _ (with_disk t path bytes) t' (passes (nat_lt longest_text (length bytes)) TooLong _ t' (passes (not (is_utf8 bytes)) NotText _ t' is))) (λ q. refl)
-
-pub loaded_open : (t t' : Texts) (path : List ℕ) (bytes : Option (List ℕ)) → loaded t path bytes ≡ Ok t' → SameOpen t t'
-unfolding loaded
-loaded_open t t' path bytes is = bytes_open t t' path bytes (passes (is_outside t path) OutsideRoot _ t' is)
-
-pub found_open : (t t' : Texts) (path : List ℕ) (found : Found) → with_found t path found ≡ Ok t' → SameOpen t t'
-found_open t t' path found.Absent is = loaded_open t t' path None is
-found_open t t' path found.TooLarge is = not_ok TooLong t' (passes (is_outside t path) OutsideRoot (Err TooLong) t' is)
-found_open t t' path (found.Bytes bytes) is = loaded_open t t' path (Some bytes) is
-
--- a document is there exactly where it has a version
-abbrev held : Option OpenText → Bool
-held o = is_some (option_map (λ document. document.version) o)
-
-held_is : (o : Option OpenText) → held o ≡ is_some o
-held_is None = refl
-held_is (Some document) = refl
-
-itself : (path : List ℕ) → bytes_eq path path ≡ true
-itself path = (bytes_eq-Decides path path).1 refl
-
-gone : {X : Type 0} (m : TextMap X) (path : List ℕ) → get (remove m path) path ≡ None
-gone m path = get-remove nat_list_cmp_total m path path ∙ ap (λ b. cond b None (get m path)) (is_eq-slice_cmp path path ∙ itself path)
-
-fails_test : (b : Bool) (e : DocError) (r : Result Texts DocError) (t : Texts) → cond b (Err e) r ≡ Ok t → b ≡ false
-fails_test true e r t is = not_ok e t is
-fails_test false e r t is = refl
-
-open_turns : (t : Texts) (path : List ℕ) (document : OpenText) → contains_key t.opened path ≡ false → Turned path t (with_open t path document)
-unfolding version_at
-open_turns t path document shut = record {
-  others = λ other apart. ap held (elsewhere t.opened path document other apart);
-  turns = held_is (get t.opened path) ∙ shut ∙ sym (ap (λ o. not (held o)) (here t.opened path document path (itself path)));
-}
-
-pub opened_turns : (t t' : Texts) (path uri : List ℕ) (version : ℤ) (text : List ℕ) → opened t path uri version text ≡ Ok t' → Turned path t t'
-unfolding opened
-opened_turns t t' path uri version text is =
-    let inside = passes (is_outside t path) OutsideRoot _ t' is in
-    subst (Turned path t) (fits_is _ _ _ t' (passes (nat_lt longest_text (length text)) TooLong _ t' (passes (contains_key t.opened path) AlreadyOpen _ t' inside)))
-    (open_turns t path _ (fails_test (contains_key t.opened path) AlreadyOpen _ t' inside))
-
-again_by : (t : Texts) (path : List ℕ) (new document : OpenText) (q : List ℕ) (same : Bool) → bytes_eq q path ≡ same → get t.opened path ≡ Some document →
-    held (get (insert t.opened path new) q) ≡ held (get t.opened q)
-again_by t path new document q true same was = ap held (here t.opened path new q same) ∙ sym (ap held (ap (get t.opened) ((bytes_eq-Decides q path).0 same) ∙ was))
-again_by t path new document q false apart was = ap held (elsewhere t.opened path new q apart)
-
-opens_again : (t : Texts) (path : List ℕ) (new document : OpenText) → get t.opened path ≡ Some document → SameOpen t (with_open t path new)
-unfolding version_at
-opens_again t path new document was = λ q. again_by t path new document q (bytes_eq q path) refl was
-
-text_open : (t t' : Texts) (path uri : List ℕ) (version : ℤ) (document : OpenText) (text : Result (List ℕ) DocError) → get t.opened path ≡ Some document →
-    with_text t path uri version text ≡ Ok t' → SameOpen t t'
-text_open t t' path uri version document (Ok text) was is = subst (SameOpen t) (fits_is _ _ _ t' is) (opens_again t path _ document was)
-text_open t t' path uri version document (Err e) was is = not_ok e t' is
-
-changes_open : (t t' : Texts) (path : List ℕ) (version : ℤ) (changes : List Change) (enc : Encoding) (document : Option OpenText) → get t.opened path ≡ document →
-    with_changes t path version changes enc document ≡ Ok t' → SameOpen t t'
-changes_open t t' path version changes enc None was is = not_ok NotOpen t' is
-changes_open t t' path version changes enc (Some document) was is = text_open t t' path document.uri version document (all_edited document.text changes enc) was is
-
-pub changed_open : (t t' : Texts) (path : List ℕ) (version : ℤ) (changes : List Change) (enc : Encoding) → changed t path version changes enc ≡ Ok t' → SameOpen t t'
-unfolding changed
-changed_open t t' path version changes enc is = changes_open t t' path version changes enc (get t.opened path) refl (passes (is_outside t path) OutsideRoot _ t' is)
-
-shut_turns : (t : Texts) (path : List ℕ) → contains_key t.opened path ≡ true → Turned path t (without_open t path)
-unfolding version_at
-shut_turns t path there = record {
-  others = λ other apart. ap held (elsewhere_removed t.opened path other apart);
-  turns = held_is (get t.opened path) ∙ there ∙ sym (ap (λ o. not (held o)) (gone t.opened path));
-}
-
-closes_turn : (b : Bool) (t t' : Texts) (path : List ℕ) → contains_key t.opened path ≡ b → cond b (Ok (without_open t path)) (Err NotOpen) ≡ Ok t' → Turned path t t'
-closes_turn true t t' path there is = subst (Turned path t) (same_ok (without_open t path) t' is) (shut_turns t path there)
-closes_turn false t t' path there is = not_ok NotOpen t' is
-
-pub closed_turns : (t t' : Texts) (path : List ℕ) → closed t path ≡ Ok t' → Turned path t t'
-unfolding closed
-closed_turns t t' path is = closes_turn (contains_key t.opened path) t t' path refl (passes (is_outside t path) OutsideRoot _ t' is)
 
 -- what settled differs there at most
 pub settled_differs : (log_of : DocError → List ℕ) (l l' : Loading) (path : List ℕ) (r : Result Texts DocError) →

@@ -430,7 +430,7 @@ pub reached_each : {A : Type 0} (P : A → Type 0) (t : Asking A) (x : A) (old n
 reached_each P t x old new r h = all_keep P t (Gives x) r.added r.follows h
 
 handled_fits : (s : State) (content : List ℕ) (o : Outcome) (old new : Option (List Entry)) → Reached (asks s content) (Gives o) old new → Fits s (message content) o
-handled_fits s content o old new r = all_keep (Fits s (message content)) (asks s content) (Gives o) r.added r.follows (asks_fits s content)
+handled_fits s content o old new r = reached_each (Fits s (message content)) (asks s content) o old new r (asks_fits s content)
 
 pub handled_answered : (s : State) (content : List ℕ) (o : Outcome) (old new : Option (List Entry)) →
     Reached (asks s content) (Gives o) old new → IsAnswered (message content) o.bytes

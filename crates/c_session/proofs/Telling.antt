@@ -1,5 +1,5 @@
 -- What the reply to a message is made of.
-use Rattle.std.proofs.Common.{◌≡◌, ◌≢◌, ℕ, List, [], ◌++◌, Option, Some, Result, Ok, Err, true, false, is_some, T, IfOk, refl, sym, ap, ◌∙◌, subst, codes}
+use Rattle.std.proofs.Common.{◌≡◌, ◌≢◌, ℕ, List, [], ◌++◌, Option, Some, Result, Ok, Err, true, is_some, T, IfOk, refl, sym, ap, ◌∙◌, subst, codes}
 use Rattle.std.specs.Cmp.Lexicographic.{slice_cmp}
 use Rattle.std.specs.FinMap.{empty, get-empty}
 use Rattle.std.specs.Ordering.{nat_cmp}
@@ -18,11 +18,11 @@ use Rattle.c_session.specs.Ties.Interrupted.{Refused, GaveUp}
 use Rattle.c_session.specs.Loading.{Loading, read_back, updates_all, loads_root, did_change_watched}
 use Rattle.c_session.specs.Ties.News.{IsPrior, KeepsPrior, ByPath, HasPublished, tidings}
 use Rattle.c_session.specs.Params.{FileChange, opening_in, changing_in}
-use Rattle.c_session.specs.React.{Outcome, Edited, tells, has_texts, edits, opened_by, changed_by, closing_path, closed_by, closes, did_close, watches, Beginning, begins, starts, on_message, asks}
+use Rattle.c_session.specs.React.{Outcome, Edited, tells, has_texts, edits, opened_by, changed_by, closes, did_close, watches, Beginning, begins, starts, on_message, asks}
 use Rattle.c_session.specs.Message.{Message, value_of, of_read}
 use Rattle.c_session.specs.Reasons.{Reason, reason_text, by_params, by_uri, by_texts, if_ok}
 use Rattle.c_session.specs.Ties.Refused.{reason, Answers, Leaves, edited, IsReply, IsBehind}
-use Rattle.c_session.specs.Ties.Sessions.{Turned, SameOpen, Shifts, shifted_by, current_state, IsKept}
+use Rattle.c_session.specs.Ties.Sessions.{current_state, IsKept}
 use Rattle.c_session.specs.declared.current.Current.{Current}
 use Rattle.plain_mean.specs.Lists.{shown_in}
 use Rattle.lsp_answers.specs.Replies as Replies
@@ -34,7 +34,7 @@ use Rattle.c_session.specs.declared.error.SessionError.{SessionError}
 use Rattle.c_session.specs.declared.reasons.Refusal.{Refusal}
 use Rattle.c_session.specs.declared.reasons.Refusal.TheVariants.{NoMemory}
 use Rattle.c_session.proofs.Asking.{goes_then, gave_up, reached_same, refused_then}
-use Rattle.c_session.proofs.Priors.{IsEdit, opened_edits, changed_edits, keeps_prior, opened_turns, changed_open, closed_turns}
+use Rattle.c_session.proofs.Priors.{IsEdit, opened_edits, changed_edits, keeps_prior}
 use Rattle.c_session.proofs.Publications.{news_told, touched_told}
 
 -- ---- steps that weren't refused
@@ -89,42 +89,6 @@ changing_edits t t' encoding params path is =
     let d : WentOn (by_texts (changed t p.value o.value.version o.value.changes encoding)) (λ texts. Ok (edited texts p.value)) (edited t' path) = went_on _ _ _ p.second in
     subst (λ (e : Edited). IsEdit e.path t e.texts) (same_edit (edited d.value p.value) (edited t' path) d.second)
     (changed_edits t d.value p.value o.value.version o.value.changes encoding (texts_came _ d.value d.first))
-
--- ---- which documents are open then
-
-opening_turns : (t t' : Texts) (params : Option Data) (path : List ℕ) → opened_by t params ≡ Ok (edited t' path) → Turned path t t'
-unfolding opened_by
-opening_turns t t' params path is =
-    let o : WentOn (by_params (opening_in params)) _ (edited t' path) = went_on _ _ _ is in
-    let p : WentOn (by_uri (path_of_uri o.value.uri)) _ (edited t' path) = went_on _ _ _ o.second in
-    let d : WentOn (by_texts (opened t p.value o.value.uri o.value.version o.value.text)) (λ texts. Ok (edited texts p.value)) (edited t' path) = went_on _ _ _ p.second in
-    subst (λ (e : Edited). Turned e.path t e.texts) (same_edit (edited d.value p.value) (edited t' path) d.second)
-    (opened_turns t d.value p.value o.value.uri o.value.version o.value.text (texts_came _ d.value d.first))
-
-changing_opens : (t t' : Texts) (encoding : Encoding) (params : Option Data) (path : List ℕ) → changed_by t encoding params ≡ Ok (edited t' path) → SameOpen t t'
-unfolding changed_by
-changing_opens t t' encoding params path is =
-    let o : WentOn (by_params (changing_in params)) _ (edited t' path) = went_on _ _ _ is in
-    let p : WentOn (by_uri (path_of_uri o.value.uri)) _ (edited t' path) = went_on _ _ _ o.second in
-    let d : WentOn (by_texts (changed t p.value o.value.version o.value.changes encoding)) (λ texts. Ok (edited texts p.value)) (edited t' path) = went_on _ _ _ p.second in
-    subst (λ (e : Edited). SameOpen t e.texts) (same_edit (edited d.value p.value) (edited t' path) d.second)
-    (changed_open t d.value p.value o.value.version o.value.changes encoding (texts_came _ d.value d.first))
-
-pub closing_turns : (t t' : Texts) (params : Option Data) (path : List ℕ) → closed_by t params ≡ Ok (edited t' path) → Turned path t t'
-closing_turns t t' params path is =
-    let p : WentOn (closing_path params) _ (edited t' path) = went_on _ _ _ is in
-    let d : WentOn (by_texts (closed t p.value)) (λ texts. Ok (edited texts p.value)) (edited t' path) = went_on _ _ _ p.second in
-    subst (λ (e : Edited). Turned e.path t e.texts) (same_edit (edited d.value p.value) (edited t' path) d.second)
-    (closed_turns t d.value p.value (texts_came _ d.value d.first))
-
-pub opening_shifts : (t t' : Texts) (params : Option Data) (r : Result (List ℕ) Refusal) → IfOk r (λ path. opened_by t params ≡ Ok (edited t' path) → Shifts (shifted_by true path) t t')
-opening_shifts t t' params (Ok path) = opening_turns t t' params path
-opening_shifts t t' params (Err e) = tt
-
-pub changing_shifts : (t t' : Texts) (encoding : Encoding) (params : Option Data) (r : Result (List ℕ) Refusal) →
-    IfOk r (λ path. changed_by t encoding params ≡ Ok (edited t' path) → Shifts (shifted_by false path) t t')
-changing_shifts t t' encoding params (Ok path) = changing_opens t t' encoding params path
-changing_shifts t t' encoding params (Err e) = tt
 
 -- ---- what was remembered
 

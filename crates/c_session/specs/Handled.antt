@@ -1,13 +1,11 @@
 -- What the handling of one content does: what the plain server's reaction does, with the store's answers that it got.
-use Rattle.std.specs.Prelude.{◌≡◌, ◌+◌, ℕ, false, not, List, ◌++◌, length, Option, Some, option_map}
+use Rattle.std.specs.Prelude.{◌≡◌, ◌+◌, ℕ, List, ◌++◌, length, Option, Some, option_map}
 use Rattle.io_edges.specs.Store.{Entry}
-use Rattle.doc_texts.specs.Texts.{text_at, same_text}
-use Rattle.plain_mean.specs.Shown.{units}
+use Rattle.plain_mean.specs.Renewed.{renewed}
 use Rattle.c_session.specs.Asking.{Asking, Gives, after_all}
 use Rattle.c_session.specs.React.{Outcome, asks}
-use Rattle.c_session.specs.Shown.{conf_in, is_unit_in}
+use Rattle.c_session.specs.Shown.{conf_in}
 use Rattle.c_session.specs.State.{State}
-use Rattle.c_session.specs.declared.phase.Phase.TheVariants.{Fresh, Running}
 
 -- The store answered these entries between two moments; what it tells, it tells at both.
 abbrev pub Answered : List Entry → Option (List Entry) → Option (List Entry) → Type 0
@@ -26,15 +24,7 @@ outcome s bytes end = record { state = s; bytes = bytes; end = end }
 abbrev pub Handled : State → List ℕ → State → List ℕ → Option ℕ → Option (List Entry) → Option (List Entry) → Type 0
 Handled s content s' bytes end old new = Reached (asks s content) (Gives (outcome s' bytes end)) old new
 
--- The session began with a message, or the message left some file another text, or made a path a unit that was none, or none that was
--- one.
-pub data Differ (s s' : State) : Type 0 where
-  Began : s.phase ≡ Fresh → s'.phase ≡ Running → Differ s s'
-  DifferAt : (path : List ℕ) → same_text (text_at s.texts path) (text_at s'.texts path) ≡ false → Differ s s'
-  TurnsAt : (path : List ℕ) → is_unit_in s path ≡ not (is_unit_in s' path) → Differ s s'
-
--- How the counter of steps stands behind a message: where texts or units differ, each unit of those that it left was worked out, once,
--- and else no unit.
-pub data IsWork (s s' : State) (old new : ℕ) : Type 0 where
-  NoUnit : (Differ s s' → ⊥) → new ≡ old → IsWork s s' old new
-  EachUnit : Differ s s' → new ≡ old + length (units s'.texts (conf_in s')) → IsWork s s' old new
+-- How the counter of steps stands behind a message: each unit of the texts that it left was worked out, once, that wasn't a unit before, has another
+-- configuration, or asked something of files that has another answer; and no other unit.
+abbrev pub IsWork : State → State → ℕ → ℕ → Type 0
+IsWork s s' old new = new ≡ old + length (renewed s.texts (conf_in s) s'.texts (conf_in s'))

@@ -23,3 +23,4 @@ pub mod References
 pub mod Symbols
 pub mod Answered
 pub mod Kept
+pub mod Renewal

@@ -9,10 +9,11 @@ use Rattle.project_conf.specs.Entries.{refusal}
 use Rattle.project_conf.specs.declared.conf.Conf.{Conf}
 use Rattle.project_conf.specs.declared.database.ConfError.{ConfError}
 use Rattle.plain_mean.specs.Confs.{conf_of, database_path, database_fault}
-use Rattle.plain_mean.specs.Shown.{shown, is_unit_of}
+use Rattle.plain_mean.specs.Shown.{faults_of, reads_of, shown_by, is_unit_of}
 use Rattle.plain_mean.specs.declared.types.Shown.{Shown}
 use Rattle.lsp_answers.specs.Replies.{log}
 use Rattle.c_session.specs.Places.{uri_for}
+use Rattle.c_session.specs.Units.{cross_faults, known}
 use Rattle.c_session.specs.Diagnostics.{diagnostic, publish}
 use Rattle.c_session.specs.State.{State}
 
@@ -24,7 +25,10 @@ conf_in s = conf_of s.options s.texts
 abbrev pub is_unit_in : State → List ℕ → Bool
 is_unit_in s path = is_unit_of s.texts (conf_in s) path
 
--- what a file shows: the faults of all units that fall on it
+-- what a file shows: the faults of all units that fall on it, and the warnings across units
+unfoldable pub shown : Texts → Conf → List ℕ → List Shown
+shown texts conf path = shown_by texts (faults_of texts conf ++ cross_faults (known texts conf)) (reads_of texts conf) path
+
 abbrev pub shows : State → List ℕ → List Shown
 shows s path = shown s.texts (conf_in s) path
 

@@ -1,4 +1,5 @@
 -- What ties the code to the definitions beside this folder: none of these says what a message does.
+pub mod AtHand
 pub mod Interrupted
 pub mod News
 pub mod Published

@@ -1,28 +1,42 @@
-// What all units of the texts come to, and what is kept of them, so that a question works out nothing.
-ghost use Rattle.std.specs.Prelude.{◌≡◌, ◌+◌, None, length, map, IfOk, OnOk};
-ghost use Rattle.doc_texts.specs.Texts.{texts_under};
+// What all units of the texts come to, and what is kept of them, so that a question works out nothing and a message only the units that it touches.
+ghost use Rattle.std.specs.Prelude.{◌≡◌, ◌+◌, ◌++◌, ℕ, List, None, length, IfOk, OnOk};
+ghost use Rattle.doc_texts.specs.Texts.{Texts, texts_under};
 ghost use Rattle.plain_mean.specs.Confs.{IsUsable};
-ghost use Rattle.plain_mean.specs.Shown.{units};
+ghost use Rattle.plain_mean.specs.Given.{text_in};
+ghost use Rattle.plain_mean.specs.Lexing.{WereLexed};
+ghost use Rattle.plain_mean.specs.Lists.{shown_in};
+ghost use Rattle.plain_mean.specs.Renewed.{renewed};
+ghost use Rattle.plain_mean.specs.Shown.{shown_by, units};
+ghost use Rattle.plain_mean.specs.Within.{AreWithin};
 ghost use Rattle.project_conf.specs.declared.conf.Conf.{Conf as Read};
-ghost use Rattle.c_session.specs.Kept.{IsAnalysis};
-ghost use Rattle.c_session.specs.Units.{known_of};
+ghost use Rattle.c_session.specs.Kept.{HasLexed, IsAnalysis};
+ghost use Rattle.c_session.specs.Renewal.{held_at, held_of};
+ghost use Rattle.c_session.specs.Ties.News.{IsPrior};
+ghost use Rattle.c_session.specs.Units.{all_reads, cross_faults, own_faults};
 
-use doc_texts::{Docs, paths_are_sets};
-use plain_mean::{KeptLexings, MeantUnit, ShownLists, UnitMeaning, WorkedOut, worked_out};
+use crate::held::{Standing, Waiting};
+use crate::news::prior_of;
+use crate::renewal::units_now;
+use crate::showing::shown_of;
+use doc_texts::{Docs, PriorTexts, paths_are_sets};
+use plain_mean::{
+    Changes, Grounds, KeptLexings, Lexings, Reading, ShownLists, grounds_hold, units, units_stay,
+};
 use project_conf::Conf;
 use std::alloc::{AllocError, Global};
 use std::sync::ledger::Ledger;
 use steps::Steps;
 use unit_index::IndexedUnit;
 
-/// What all units of some texts come to: what each file shows, what each unit means, with an index, and what lexing gave of the texts that the
-/// units read.
+/// What all units of some texts come to: what each file shows, what each unit means, with an index, and on what that rests, and what lexing gave of the
+/// texts that the units read.
 #[derive(Drop)]
 pub struct Analysis {
     pub(crate) alloc: Global,
     /// What each file shows.
     pub shown: ShownLists,
     pub(crate) units: Vec<IndexedUnit>,
+    pub(crate) grounds: Vec<Grounds>,
     pub(crate) lexings: KeptLexings,
 }
 
@@ -36,40 +50,121 @@ impl Analysis {
             alloc,
             shown: ShownLists::new(alloc),
             units: Vec::new(alloc),
+            grounds: Vec::new(alloc),
             lexings: KeptLexings::new(alloc),
         }
     }
-
-    /// What each file shows, alone.
-    pub fn into_shown(self) -> ShownLists
-        ensures { result ≡ self.shown }
-    {
-        self.shown
-    }
 }
 
-fn index_unit(alloc: Global, unit: MeantUnit) -> Result<IndexedUnit, AllocError>
-    ensures { IfOk result (λ u. u ≡ known_of unit) }
+/// What the texts come to now, and what the files showed before.
+#[derive(Drop)]
+pub(crate) struct Renewal {
+    pub analysis: Analysis,
+    pub before: ShownLists,
+}
+
+// What is kept, with its units by path.
+#[derive(Drop)]
+struct Parted {
+    shown: ShownLists,
+    waiting: Waiting,
+    lexings: KeptLexings,
+}
+
+fn part(kept: Analysis) -> Result<Parted, AllocError>
+    ensures shown { IfOk result (λ p. p.shown ≡ kept.shown) }
+    ensures waiting { IfOk result (λ p. (q : List ℕ) → held_at p.waiting q ≡ held_of kept.units.items kept.grounds.items q None) }
+    ensures lexings { IfOk result (λ p. p.lexings ≡ kept.lexings) }
 {
-    let MeantUnit { path, meaning } = unit;
-    let UnitMeaning { meaning, reads } = meaning;
-    IndexedUnit::of(alloc, path, reads, meaning)
+    let Analysis {
+        alloc,
+        shown,
+        units,
+        grounds,
+        lexings,
+    } = kept;
+    let waiting = Waiting::of(alloc, units, grounds)?;
+    Ok(Parted {
+        shown,
+        waiting,
+        lexings,
+    })
 }
 
-fn index_units(alloc: Global, units: Vec<MeantUnit>) -> Result<Vec<IndexedUnit>, AllocError>
-    ensures { IfOk result (λ v. v.items ≡ map known_of units.items) }
+// What these units come to, which are all units of the texts.
+fn standing_as(
+    alloc: Global,
+    standing: Standing,
+    lexings: Lexings<'_>,
+) -> Result<Analysis, AllocError>
+    ensures shown { IfOk result (λ a. (path : List ℕ) → shown_in a.shown path ≡ shown_by lexings.entry (own_faults standing.units.items ++ cross_faults standing.units.items) (all_reads standing.units.items) path) }
+    ensures within { IfOk result (λ a. (path : List ℕ) → AreWithin (length (text_in lexings.entry path)) (shown_in a.shown path)) }
+    ensures units { IfOk result (λ a. a.units.items ≡ standing.units.items) }
+    ensures grounds { IfOk result (λ a. a.grounds.items ≡ standing.grounds.items) }
+    ensures lexed { IfOk result (λ a. HasLexed lexings.entry a) }
 {
-    let mut out = Vec::new(alloc);
-    'units: for unit in units {
-        out.push(index_unit(alloc, unit)?)?;
-    }
-    Ok(out)
+    let mut lexings = lexings;
+    let shown = shown_of(alloc, &mut lexings, standing.units.as_slice())?;
+    let Standing { units, grounds } = standing;
+    Ok(Analysis {
+        alloc,
+        shown,
+        units,
+        grounds,
+        lexings: lexings.into_kept(),
+    })
 }
 
-/// Works out each unit of the texts once, which is one step each. The definitions of the words are identifiers and have together at most
-/// 131,072 bytes of names and texts, those of an entry of the database 2^25. Beside the units it costs the texts' paths, the database's
-/// entries, and the units' occurrences and entities. It fails for want of memory, and after 2^64-1 rounds of questions, whose answers no
-/// memory holds.
+/// Works out what the texts come to now, by what those before came to: each unit that wasn't one before, has another configuration, or asked something of
+/// files that has another answer now, once, which is one step each. The definitions of the words are identifiers and have together at most
+/// 131,072 bytes of names and texts, those of an entry of the database 2^25. Beside these units it costs the texts' paths, the database's
+/// entries, the questions of all units, their faults, the paths that they read and the names that they show to one another. It fails for want of memory, and after 2^64-1
+/// rounds of questions, whose answers no memory holds.
+pub(crate) fn renewed<L: Ledger>(
+    alloc: Global,
+    kept: Analysis,
+    docs: &Docs,
+    conf: &Conf,
+    prior: &PriorTexts,
+    steps: &mut Steps<L>,
+) -> Result<Renewal, AllocError>
+    requires usable { IsUsable conf.now }
+    requires lexed { WereLexed prior.now docs.now kept.lexings }
+    ensures before { IfOk result (λ r. r.before ≡ kept.shown) }
+    ensures analysis { IfOk result (λ r. (t : Texts) (c : Read) → IsPrior t prior.now docs.now → IsAnalysis t c kept → IsAnalysis docs.now conf.now r.analysis) }
+    ensures steps { OnOk result ((t : Texts) (c : Read) → IsPrior t prior.now docs.now → IsAnalysis t c kept → steps.new ≡ steps.old + length (renewed t c docs.now conf.now)) }
+{
+    paths_are_sets();
+    units_stay();
+    grounds_hold();
+    let reading = Reading::of(alloc, conf)?;
+    let paths = units(alloc, docs, &reading)?;
+    let Parted {
+        shown,
+        mut waiting,
+        lexings,
+    } = part(kept)?;
+    let (mut changes, mut lexings) = Changes::of(alloc, docs, prior, lexings)?;
+    let standing = units_now(
+        alloc,
+        &mut waiting,
+        &mut changes,
+        &mut lexings,
+        &reading,
+        paths.as_slice(),
+        steps,
+    )?;
+    let analysis = standing_as(alloc, standing, lexings)?;
+    Ok(Renewal {
+        analysis,
+        before: shown,
+    })
+}
+
+/// What the texts come to, each unit worked out, which is one step each. The definitions of the words are identifiers and have together at most
+/// 131,072 bytes of names and texts, those of an entry of the database 2^25. Beside the units it costs the texts' paths, the
+/// database's entries, the units' faults, the paths that they read and the names that they show to one another. It fails for want of memory, and after 2^64-1 rounds
+/// of questions, whose answers no memory holds.
 pub fn analysed<L: Ledger>(
     alloc: Global,
     docs: &Docs,
@@ -80,17 +175,10 @@ pub fn analysed<L: Ledger>(
     ensures analysis { IfOk result (λ a. IsAnalysis docs.now conf.now a) }
     ensures steps { OnOk result (steps.new ≡ steps.old + length (units docs.now conf.now)) }
 {
-    let worked = worked_out(alloc, docs, conf, steps)?;
-    let WorkedOut {
-        shown,
-        units,
-        lexings,
-    } = worked;
-    let units = index_units(alloc, units)?;
-    Ok(Analysis {
-        alloc,
-        shown,
-        units,
-        lexings,
-    })
+    paths_are_sets();
+    let nothing = Analysis::new(alloc);
+    let none = Docs::new(alloc, None);
+    let prior = prior_of(alloc, &none, docs)?;
+    let renewed = renewed(alloc, nothing, docs, conf, &prior, steps)?;
+    Ok(renewed.analysis)
 }

@@ -1,8 +1,5 @@
 // What the server keeps between two contents, and its reaction to a message.
-ghost use Rattle.std.specs.Prelude.{◌≡◌, ◌≢◌, ◌+◌, ◌++◌, ◌<◌, ◌^◌, ℕ, false, List, [], length, None, Some, Ok, IfOk, IfErr, OnOk, option_map, map, bytes_eq, codes};
-ghost use Rattle.std.specs.List.{list_any};
-ghost use Rattle.doc_texts.specs.Prior.{Prior};
-ghost use Rattle.doc_texts.specs.Texts.{Texts};
+ghost use Rattle.std.specs.Prelude.{◌≡◌, ◌≢◌, ◌+◌, ◌++◌, ◌<◌, ◌^◌, ℕ, List, [], length, None, Some, Ok, IfOk, IfErr, OnOk, option_map, map, codes};
 ghost use Rattle.serde_json.specs.View.{view};
 ghost use Rattle.c_session.specs.Asking.{Gives};
 ghost use Rattle.c_session.specs.Counts.{counts_of};
@@ -13,36 +10,35 @@ ghost use Rattle.c_session.specs.Params.{watching_in};
 ghost use Rattle.c_session.specs.Reasons.{reason_text, by_params};
 ghost use Rattle.c_session.specs.Ties.Refused.{reason, IsReply, IsBehind, IsKeptBy, IsWorked};
 ghost use Rattle.c_session.specs.Loading.{read_back};
-ghost use Rattle.c_session.specs.Ties.News.{KeepsPrior, touched_by, tidings, HasPublished};
+ghost use Rattle.c_session.specs.Ties.News.{touched_by, tidings, HasPublished};
 ghost use Rattle.plain_mean.specs.Given.{text_in};
 ghost use Rattle.plain_mean.specs.Lists.{shown_in};
 ghost use Rattle.plain_mean.specs.Shown.{units};
 ghost use Rattle.plain_mean.specs.Within.{AreWithin};
-ghost use Rattle.project_conf.specs.Defines.{AreUsable};
 ghost use Rattle.c_session.specs.Kept.{IsAnalysis};
-ghost use Rattle.project_conf.specs.Entries.{is_source};
+ghost use Rattle.project_conf.specs.Defines.{AreUsable};
 ghost use Rattle.plain_mean.specs.Confs.{IsUsable};
 ghost use Rattle.lsp_answers.specs.Replies.{log, error};
 ghost use Rattle.c_session.specs.Ties.SeenParams.{seen_file_change};
 ghost use Rattle.c_session.specs.Ties.Seen.{seen};
-ghost use Rattle.c_session.specs.Ties.Sessions.{current_state, loading, outcome_of, SameOpen, shifted_by, is_hinged, turns, is_due, IsKept, WereKept, WereShown, worked};
+ghost use Rattle.c_session.specs.Ties.Sessions.{current_state, loading, outcome_of, IsKept, WereKept, Renews, Works};
 ghost use Rattle.c_session.specs.Shown.{conf_in};
-ghost use Rattle.c_session.specs.State.{fresh, with_texts};
+ghost use Rattle.c_session.specs.State.{fresh};
 ghost use Rattle.c_session.specs.declared.phase.Phase.TheVariants.{Fresh};
 ghost use Rattle.c_session.specs.declared.reasons.Refusal.TheVariants.{NoMemory};
 
-use crate::analysis::{Analysis, analysed};
-use crate::analysis_laws::analysis_follows;
+use crate::analysis::{Analysis, Renewal, analysed, renewed};
 use crate::counts::{Counts, fault_count};
 use crate::documents::{change_document, close_document, open_document};
 use crate::error::SessionError;
 use crate::loading::read_back;
 use crate::message::Message;
-use crate::news::{Change, any_changed, prior_of, push_tidings};
+use crate::news::{Change, prior_of, push_tidings};
 use crate::params::{FileChange, watching_in};
 use crate::phase::Phase;
 use crate::reasons::Refusal;
 use crate::starting::{Beginning, Loaded, beginning_in, load_root};
+use crate::unrenewed::nothing_is_renewed;
 use crate::watching::update_all;
 use crate::words::Words;
 use doc_texts::{Docs, PriorTexts};
@@ -50,7 +46,7 @@ use io_edges::Store;
 use json_view::Id;
 use lsp_answers::{error, initialize_result, log, response};
 use plain_mean::unit_count;
-use project_conf::{Conf, Options, UnitConf};
+use project_conf::{Conf, Options};
 use serde_json::Value;
 use shared_list::Listing;
 use std::alloc::{AllocError, Global};
@@ -105,40 +101,6 @@ fn refusal_log(alloc: Global, method: &str, reason: &str) -> Result<Vec<u8>, All
     log(alloc, text.as_str())
 }
 
-/// The document that an edit opened, and none that it changed.
-fn shifted_by(opens: bool, path: &Path) -> Option<&Path>
-    ensures { option_map (λ p. p.now) result ≡ shifted_by opens path.now }
-{
-    if opens {
-        return Some(path);
-    }
-    None
-}
-
-/// Whether a database has an entry of a file.
-fn has_entry(units: &[UnitConf], file: &Path) -> bool
-    ensures { result ≡ list_any (λ unit. bytes_eq unit.file file.now) units.now }
-{
-    units.iter().any(|unit| unit.file.as_str() == file.as_str())
-}
-
-fn is_source(path: &Path) -> bool
-    ensures { result ≡ is_source path.now }
-{
-    path.as_str().as_bytes().ends_with(b".c")
-}
-
-/// Whether a path is a unit just as long as its document is open: a C source to which the database has no entry.
-#[tactic(auto, using(crate::proofs::Turning::never_hinged))]
-fn is_hinged(conf: &Conf, path: &Path) -> bool
-    ensures { result ≡ is_hinged conf.now.database path.now }
-{
-    match &conf.database {
-        Some(units) => is_source(path) && !has_entry(units.as_slice(), path),
-        None => false,
-    }
-}
-
 impl Current {
     /// What stands before the first content.
     pub fn new(alloc: Global, options: Options) -> Current
@@ -191,27 +153,18 @@ impl Current {
         &mut self,
         method: &str,
         edited: Result<Path, Refusal>,
-        opens: bool,
         prior: &PriorTexts,
         steps: &mut Steps<L>,
     ) -> Result<Vec<u8>, AllocError>
-        requires kept { IsKeptBy edited opens prior.now self.old }
+        requires kept { IsKeptBy edited prior.now self.old }
         ensures reply { IfOk result (λ v. IsReply method.now self.old.docs self.old.encoding edited v.items (shown_in self.old.kept.shown) (shown_in self.new.kept.shown) prior.now) }
         ensures behind { OnOk result (IsBehind edited self.old self.new) }
-        ensures steps { OnOk result (IsWorked edited opens prior.now (current_state self.old) steps.old steps.new) }
+        ensures steps { OnOk result (IsWorked edited prior.now self.old steps.old steps.new) }
         ensures same { OnOk result (current_state self.new ≡ current_state self.old) }
     {
         match edited {
             Ok(path) => {
-                let shifted = shifted_by(opens, &path);
-                let bytes = self.finish(
-                    Vec::new(self.alloc),
-                    &[],
-                    prior,
-                    Some(&path),
-                    shifted,
-                    steps,
-                )?;
+                let bytes = self.finish(Vec::new(self.alloc), &[], prior, Some(&path), steps)?;
                 Ok(bytes)
             }
             Err(refusal) => {
@@ -230,11 +183,11 @@ impl Current {
         requires { IsKept self.old }
         ensures told { IfOk result (λ v. edits (current_state self.old) did_open (opened_by self.old.docs (option_map (λ v. view v.now) params.entry)) ≡ tells (current_state self.new) v.items) }
         ensures kept { OnOk result (IsKept self.new) }
-        ensures steps { OnOk result (IsWork (current_state self.old) (current_state self.new) steps.old steps.new) }
+        ensures steps { OnOk result (Works (current_state self.old) (current_state self.new) steps.old steps.new) }
     {
         let mut prior = PriorTexts::new(self.alloc);
         let edited = open_document(self.alloc, &mut self.docs, &mut prior, params);
-        let bytes = self.reply_to_edit("textDocument/didOpen", edited, true, &prior, steps)?;
+        let bytes = self.reply_to_edit("textDocument/didOpen", edited, &prior, steps)?;
         Ok(bytes)
     }
 
@@ -247,7 +200,7 @@ impl Current {
         requires { IsKept self.old }
         ensures told { IfOk result (λ v. edits (current_state self.old) did_change (changed_by self.old.docs self.old.encoding (option_map (λ v. view v.now) params.entry)) ≡ tells (current_state self.new) v.items) }
         ensures kept { OnOk result (IsKept self.new) }
-        ensures steps { OnOk result (IsWork (current_state self.old) (current_state self.new) steps.old steps.new) }
+        ensures steps { OnOk result (Works (current_state self.old) (current_state self.new) steps.old steps.new) }
     {
         let mut prior = PriorTexts::new(self.alloc);
         let edited = change_document(
@@ -257,7 +210,7 @@ impl Current {
             &mut prior,
             params,
         );
-        let bytes = self.reply_to_edit("textDocument/didChange", edited, false, &prior, steps)?;
+        let bytes = self.reply_to_edit("textDocument/didChange", edited, &prior, steps)?;
         Ok(bytes)
     }
 
@@ -270,14 +223,21 @@ impl Current {
         Ok(conf)
     }
 
-    /// Works out what the texts come to now.
-    fn analysed_now<L: Ledger>(&self, steps: &mut Steps<L>) -> Result<Analysis, AllocError>
-        ensures analysis { IfOk result (λ a. IsAnalysis self.now.docs (conf_in (current_state self.now)) a) }
-        ensures steps { OnOk result (steps.new ≡ steps.old + length (units self.now.docs (conf_in (current_state self.now)))) }
+    /// What the texts come to now, by what was kept. It costs what `renewed` does, and the database's text.
+    fn renew<L: Ledger>(
+        &self,
+        kept: Analysis,
+        prior: &PriorTexts,
+        steps: &mut Steps<L>,
+    ) -> Result<Renewal, AllocError>
+        requires { WereKept prior.now self.now.docs kept }
+        ensures before { IfOk result (λ r. r.before ≡ kept.shown) }
+        ensures analysis { IfOk result (λ r. IsAnalysis self.now.docs (conf_in (current_state self.now)) r.analysis) }
+        ensures steps { OnOk result (Renews prior.now self.now.docs kept (current_state self.now) steps.old steps.new) }
     {
         let conf = self.conf_now()?;
-        let analysis = analysed(self.alloc, &self.docs, &conf, steps)?;
-        Ok(analysis)
+        let renewal = renewed(self.alloc, kept, &self.docs, &conf, prior, steps)?;
+        Ok(renewal)
     }
 
     /// Works out what the texts come to now, where that isn't kept.
@@ -286,7 +246,8 @@ impl Current {
         ensures steps { OnOk result (steps.new ≡ steps.old + length (units self.old.docs (conf_in (current_state self.old)))) }
         ensures same { OnOk result (current_state self.new ≡ current_state self.old) }
     {
-        self.kept = self.analysed_now(steps)?;
+        let conf = self.conf_now()?;
+        self.kept = analysed(self.alloc, &self.docs, &conf, steps)?;
         Ok(())
     }
 
@@ -322,88 +283,36 @@ impl Current {
         Ok(out)
     }
 
-    /// The same, where what the files show is worked out anew.
-    fn finish_anew<L: Ledger>(
-        &mut self,
-        response: Vec<u8>,
-        logs: &[u8],
-        prior: &PriorTexts,
-        touched: Option<&Path>,
-        steps: &mut Steps<L>,
-    ) -> Result<Vec<u8>, AllocError>
-        ensures wrote { IfOk result (λ v. v.items ≡ (response.items ++ logs.now) ++ tidings (touched_by (option_map (λ p. p.now) touched.entry)) self.old.encoding (shown_in self.old.kept.shown) (shown_in self.new.kept.shown) prior.now self.old.docs) }
-        ensures kept { OnOk result (IsKept self.new) }
-        ensures steps { OnOk result (steps.new ≡ steps.old + length (units self.old.docs (conf_in (current_state self.old)))) }
-        ensures same { OnOk result (current_state self.new ≡ current_state self.old) }
-    {
-        // The units are let go before they are worked out anew.
-        let before = mem::replace(&mut self.kept, Analysis::new(self.alloc)).into_shown();
-        let after = self.analysed_now(steps)?;
-        let change = Change {
-            before: &before,
-            after: &after.shown,
-            prior,
-            touched,
-        };
-        let out = self.told(response, logs, change)?;
-        self.kept = after;
-        Ok(out)
-    }
-
-    /// Whether the document that was opened or closed, if one was, is a unit by that, or none. For a C source it costs the
-    /// database's text.
-    #[tactic(auto, using(crate::proofs::Turning::no_source_turns))]
-    fn turns(&self, shifted: Option<&Path>) -> Result<bool, AllocError>
-        ensures { IfOk result (λ b. b ≡ turns (conf_in (current_state self.now)) (option_map (λ p. p.now) shifted.entry)) }
-    {
-        let Some(path) = shifted else {
-            return Ok(false);
-        };
-        if !is_source(path) {
-            return Ok(false);
-        }
-        let conf = self.conf_now()?;
-        Ok(is_hinged(&conf, path))
-    }
-
-    /// Whether what files show has to be worked out: some text differs, or the document that was opened or closed is a unit by that, or
-    /// none.
-    fn is_due(&self, prior: &PriorTexts, shifted: Option<&Path>) -> Result<bool, AllocError>
-        ensures { IfOk result (λ b. b ≡ is_due (option_map (λ p. p.now) shifted.entry) prior.now (current_state self.now)) }
-    {
-        if any_changed(&self.docs, prior)? {
-            return Ok(true);
-        }
-        self.turns(shifted)
-    }
-
-    /// The same, where what the files show is worked out anew if that is due, and else stays.
+    /// The same, once what the texts come to now is worked out.
     fn finish<L: Ledger>(
         &mut self,
         response: Vec<u8>,
         logs: &[u8],
         prior: &PriorTexts,
         touched: Option<&Path>,
-        shifted: Option<&Path>,
         steps: &mut Steps<L>,
     ) -> Result<Vec<u8>, AllocError>
-        requires kept { is_due (option_map (λ p. p.now) shifted) prior.now (current_state self.old) ≡ false → WereKept self.old }
+        requires kept { WereKept prior.now self.old.docs self.old.kept }
         ensures wrote { IfOk result (λ v. v.items ≡ (response.items ++ logs.now) ++ tidings (touched_by (option_map (λ p. p.now) touched.entry)) self.old.encoding (shown_in self.old.kept.shown) (shown_in self.new.kept.shown) prior.now self.old.docs) }
         ensures kept { OnOk result (IsKept self.new) }
-        ensures steps { OnOk result (steps.new ≡ worked (is_due (option_map (λ p. p.now) shifted.entry) prior.now (current_state self.old)) (current_state self.old) steps.old) }
+        ensures steps { OnOk result (Renews prior.now self.old.docs self.old.kept (current_state self.old) steps.old steps.new) }
         ensures same { OnOk result (current_state self.new ≡ current_state self.old) }
     {
-        if self.is_due(prior, shifted)? {
-            return self.finish_anew(response, logs, prior, touched, steps);
-        }
-        analysis_follows();
+        let kept = mem::replace(&mut self.kept, Analysis::new(self.alloc));
+        let renewal = self.renew(kept, prior, steps)?;
         let change = Change {
-            before: &self.kept.shown,
-            after: &self.kept.shown,
+            before: &renewal.before,
+            after: &renewal.analysis.shown,
             prior,
             touched,
         };
-        self.told(response, logs, change)
+        let out = self.told(response, logs, change)?;
+        let Renewal {
+            analysis,
+            before: _,
+        } = renewal;
+        self.kept = analysis;
+        Ok(out)
     }
 
     /// `textDocument/didClose`.
@@ -417,7 +326,7 @@ impl Current {
         requires kept { IsKept self.old }
         ensures handled { IfOk result (λ v. Reached (closes (current_state self.old) (closed_by self.old.docs (option_map (λ v. view v.now) params.entry))) (Gives (tells (current_state self.new) v.items)) (D.answers store.old) (D.answers store.new)) }
         ensures kept { OnOk result (IsKept self.new) }
-        ensures steps { OnOk result (IsWork (current_state self.old) (current_state self.new) steps.old steps.new) }
+        ensures steps { OnOk result (Works (current_state self.old) (current_state self.new) steps.old steps.new) }
         ensures counted { OnOk result (D.faults store.new ≡ D.faults store.old) }
         ensures refused { IfErr result (λ e. Refused e (closes (current_state self.old) (closed_by self.old.docs (option_map (λ v. view v.now) params.entry))) (D.answers store.old) (D.answers store.new) (D.faults store.old) (D.faults store.new)) }
     {
@@ -443,11 +352,10 @@ impl Current {
         steps: &mut Steps<L>,
     ) -> Result<Vec<u8>, SessionError>
         requires store { D.faults store.old + 1 < 2 ^ 64 }
-        requires kept { (last : Prior) (t : Texts) → KeepsPrior prior.old self.old.docs last t → SameOpen self.old.docs t → is_due (Some path.now) last (with_texts t (current_state self.old)) ≡ false → WereShown t (conf_in (with_texts t (current_state self.old))) self.old.kept }
+        requires kept { WereKept prior.old self.old.docs self.old.kept }
         ensures handled { IfOk result (λ v. HasPublished (read_back (loading self.old.docs []) path.now) (current_state self.old) (current_state self.new) v.items (shown_in self.old.kept.shown) (shown_in self.new.kept.shown) prior.old (D.answers store.old) (D.answers store.new)) }
         ensures kept { OnOk result (IsKept self.new) }
-        ensures prior { OnOk result (KeepsPrior prior.old self.old.docs prior.new self.new.docs) }
-        ensures steps { OnOk result (steps.new ≡ worked (is_due (Some path.now) prior.new (current_state self.new)) (current_state self.new) steps.old) }
+        ensures steps { OnOk result (Renews prior.old self.old.docs self.old.kept (current_state self.new) steps.old steps.new) }
         ensures counted { OnOk result (D.faults store.new ≡ D.faults store.old) }
         ensures refused { IfErr result (λ e. Refused e (read_back (loading self.old.docs []) path.now) (D.answers store.old) (D.answers store.new) (D.faults store.old) (D.faults store.new)) }
     {
@@ -456,14 +364,7 @@ impl Current {
             Ok(()) => {}
             Err(error) => return Err(error),
         }
-        match self.finish(
-            Vec::new(self.alloc),
-            logs.as_slice(),
-            prior,
-            None,
-            Some(path),
-            steps,
-        ) {
+        match self.finish(Vec::new(self.alloc), logs.as_slice(), prior, None, steps) {
             Ok(bytes) => Ok(bytes),
             Err(_) => Err(SessionError::NoMemory),
         }
@@ -480,7 +381,7 @@ impl Current {
         requires kept { IsKept self.old }
         ensures handled { IfOk result (λ v. Reached (watches (current_state self.old) (by_params (watching_in (option_map (λ v. view v.now) params.entry)))) (Gives (tells (current_state self.new) v.items)) (D.answers store.old) (D.answers store.new)) }
         ensures kept { OnOk result (IsKept self.new) }
-        ensures steps { OnOk result (IsWork (current_state self.old) (current_state self.new) steps.old steps.new) }
+        ensures steps { OnOk result (Works (current_state self.old) (current_state self.new) steps.old steps.new) }
         ensures counted { OnOk result (D.faults store.new ≡ D.faults store.old) }
         ensures refused { IfErr result (λ e. Refused e (watches (current_state self.old) (by_params (watching_in (option_map (λ v. view v.now) params.entry)))) (D.answers store.old) (D.answers store.new) (D.faults store.old) (D.faults store.new)) }
     {
@@ -510,7 +411,7 @@ impl Current {
         requires kept { IsKept self.old }
         ensures handled { IfOk result (λ v. Reached (watches (current_state self.old) (Ok (map seen_file_change changes.now))) (Gives (tells (current_state self.new) v.items)) (D.answers store.old) (D.answers store.new)) }
         ensures kept { OnOk result (IsKept self.new) }
-        ensures steps { OnOk result (IsWork (current_state self.old) (current_state self.new) steps.old steps.new) }
+        ensures steps { OnOk result (Works (current_state self.old) (current_state self.new) steps.old steps.new) }
         ensures counted { OnOk result (D.faults store.new ≡ D.faults store.old) }
         ensures refused { IfErr result (λ e. Refused e (watches (current_state self.old) (Ok (map seen_file_change changes.now))) (D.answers store.old) (D.answers store.new) (D.faults store.old) (D.faults store.new)) }
     {
@@ -527,14 +428,7 @@ impl Current {
             Ok(()) => {}
             Err(error) => return Err(error),
         }
-        match self.finish(
-            Vec::new(self.alloc),
-            logs.as_slice(),
-            &prior,
-            None,
-            None,
-            steps,
-        ) {
+        match self.finish(Vec::new(self.alloc), logs.as_slice(), &prior, None, steps) {
             Ok(bytes) => Ok(bytes),
             Err(_) => Err(SessionError::NoMemory),
         }
@@ -552,7 +446,7 @@ impl Current {
         requires fresh { self.old.phase ≡ Fresh }
         ensures told { IfOk result (λ v. begins (current_state self.old) id.now encoding (loading loaded.docs loaded.logs.items) ≡ tells (current_state self.new) v.items) }
         ensures kept { OnOk result (IsKept self.new) }
-        ensures steps { OnOk result (IsWork (current_state self.old) (current_state self.new) steps.old steps.new) }
+        ensures steps { OnOk result (Works (current_state self.old) (current_state self.new) steps.old steps.new) }
     {
         let Loaded { docs, logs } = loaded;
         let prior = prior_of(self.alloc, &self.docs, &docs)?;
@@ -561,7 +455,7 @@ impl Current {
         self.docs = docs;
         self.encoding = encoding;
         self.phase = Phase::Running;
-        match self.finish_anew(bytes, logs.as_slice(), &prior, None, steps) {
+        match self.finish(bytes, logs.as_slice(), &prior, None, steps) {
             Ok(bytes) => Ok(bytes),
             Err(_) => Err(AllocError),
         }
@@ -580,7 +474,7 @@ impl Current {
         requires fresh { self.old.phase ≡ Fresh }
         ensures handled { IfOk result (λ v. Reached (starts (current_state self.old) id.now (beginning_by (option_map (λ v. view v.now) params.entry))) (Gives (tells (current_state self.new) v.items)) (D.answers store.old) (D.answers store.new)) }
         ensures kept { OnOk result (IsKept self.new) }
-        ensures steps { OnOk result (IsWork (current_state self.old) (current_state self.new) steps.old steps.new) }
+        ensures steps { OnOk result (Works (current_state self.old) (current_state self.new) steps.old steps.new) }
         ensures counted { OnOk result (D.faults store.new ≡ D.faults store.old) }
         ensures refused { IfErr result (λ e. Refused e (starts (current_state self.old) id.now (beginning_by (option_map (λ v. view v.now) params.entry))) (D.answers store.old) (D.answers store.new) (D.faults store.old) (D.faults store.new)) }
     {
@@ -619,7 +513,7 @@ impl Current {
         requires fresh { self.old.phase ≡ Fresh }
         ensures handled { IfOk result (λ v. Reached (fresh_request (current_state self.old) id.now method.now (option_map (λ v. view v.now) params.entry)) (Gives (tells (current_state self.new) v.items)) (D.answers store.old) (D.answers store.new)) }
         ensures kept { OnOk result (IsKept self.new) }
-        ensures steps { OnOk result (IsWork (current_state self.old) (current_state self.new) steps.old steps.new) }
+        ensures steps { OnOk result (Works (current_state self.old) (current_state self.new) steps.old steps.new) }
         ensures counted { OnOk result (D.faults store.new ≡ D.faults store.old) }
         ensures refused { IfErr result (λ e. Refused e (fresh_request (current_state self.old) id.now method.now (option_map (λ v. view v.now) params.entry)) (D.answers store.old) (D.answers store.new) (D.faults store.old) (D.faults store.new)) }
     {
@@ -644,7 +538,7 @@ impl Current {
         requires kept { IsKept self.old }
         ensures handled { IfOk result (λ v. Reached (on_request self.old.phase (current_state self.old) id.now method.now (option_map (λ v. view v.now) params.entry)) (Gives (tells (current_state self.new) v.items)) (D.answers store.old) (D.answers store.new)) }
         ensures kept { OnOk result (IsKept self.new) }
-        ensures steps { OnOk result (IsWork (current_state self.old) (current_state self.new) steps.old steps.new) }
+        ensures steps { OnOk result (Works (current_state self.old) (current_state self.new) steps.old steps.new) }
         ensures counted { OnOk result (D.faults store.new ≡ D.faults store.old) }
         ensures refused { IfErr result (λ e. Refused e (on_request self.old.phase (current_state self.old) id.now method.now (option_map (λ v. view v.now) params.entry)) (D.answers store.old) (D.answers store.new) (D.faults store.old) (D.faults store.new)) }
     {
@@ -674,7 +568,7 @@ impl Current {
         requires kept { IsKept self.old }
         ensures handled { IfOk result (λ v. Reached (running_notification (current_state self.old) method.now (option_map (λ v. view v.now) params.entry)) (Gives (tells (current_state self.new) v.items)) (D.answers store.old) (D.answers store.new)) }
         ensures kept { OnOk result (IsKept self.new) }
-        ensures steps { OnOk result (IsWork (current_state self.old) (current_state self.new) steps.old steps.new) }
+        ensures steps { OnOk result (Works (current_state self.old) (current_state self.new) steps.old steps.new) }
         ensures counted { OnOk result (D.faults store.new ≡ D.faults store.old) }
         ensures refused { IfErr result (λ e. Refused e (running_notification (current_state self.old) method.now (option_map (λ v. view v.now) params.entry)) (D.answers store.old) (D.answers store.new) (D.faults store.old) (D.faults store.new)) }
     {
@@ -712,7 +606,7 @@ impl Current {
         requires kept { IsKept self.old }
         ensures handled { IfOk result (λ reply. Reached (on_notification (current_state self.old) method.now (option_map (λ v. view v.now) params.entry)) (Gives (outcome_of self.new reply)) (D.answers store.old) (D.answers store.new)) }
         ensures kept { OnOk result (IsKept self.new) }
-        ensures steps { OnOk result (IsWork (current_state self.old) (current_state self.new) steps.old steps.new) }
+        ensures steps { OnOk result (Works (current_state self.old) (current_state self.new) steps.old steps.new) }
         ensures counted { OnOk result (D.faults store.new ≡ D.faults store.old) }
         ensures refused { IfErr result (λ e. Refused e (on_notification (current_state self.old) method.now (option_map (λ v. view v.now) params.entry)) (D.answers store.old) (D.answers store.new) (D.faults store.old) (D.faults store.new)) }
     {
@@ -768,6 +662,7 @@ impl Current {
         ensures counted { OnOk result (D.faults store.new ≡ D.faults store.old) }
         ensures refused { IfErr result (λ e. Refused e (on_message (current_state self.old) (seen message.now)) (D.answers store.old) (D.answers store.new) (D.faults store.old) (D.faults store.new)) }
     {
+        nothing_is_renewed();
         match message {
             Message::Request { id, method, params } => {
                 match self.on_request(id, *method, *params, store, steps) {

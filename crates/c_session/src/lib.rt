@@ -2,14 +2,15 @@
 #![tactic(auto)]
 
 mod analysis;
-mod analysis_laws;
 mod answers;
 mod counts;
+mod cross;
 mod current;
 mod diagnostics;
 mod documents;
 mod error;
 mod files;
+mod held;
 mod laws;
 mod loading;
 mod located;
@@ -22,8 +23,11 @@ mod question;
 mod questions;
 mod reasons;
 mod refusals;
+mod renewal;
 mod session;
+mod showing;
 mod starting;
+mod unrenewed;
 mod watching;
 mod words;
 

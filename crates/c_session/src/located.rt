@@ -1,11 +1,12 @@
 // Where tokens stand, as the client reads it.
-ghost use Rattle.std.specs.Prelude.{◌≡◌, ◌≤◌, length, IfOk};
+ghost use Rattle.std.specs.Prelude.{◌≡◌, ◌≤◌, length, IfOk, IfSome};
 ghost use Rattle.c_tokens.specs.Lexed as lexing;
 ghost use Rattle.plain_mean.specs.Given.{text_in};
 ghost use Rattle.plain_mean.specs.Lexing.{IsLexed};
 ghost use Rattle.plain_mean.specs.Shown.{place_of};
 ghost use Rattle.c_session.specs.Kept.{HasLexed};
 ghost use Rattle.c_session.specs.Places as spec;
+ghost use Rattle.c_session.specs.Ties.AtHand.{IsOpened, IsAtHand};
 
 use crate::analysis::Analysis;
 use crate::positions::text_in;
@@ -15,8 +16,8 @@ use plain_mean::LexedText;
 use scope_tables::Symbol;
 use shared_text::Name;
 use std::alloc::{AllocError, Global};
-use text_lines::{Encoding, Pos};
-use tok_data::TokId;
+use text_lines::{Encoding, Pos, Walk};
+use tok_data::{FileId, TokId};
 use unit_index::symbol_number;
 use uri_paths::{Path, uri_of};
 
@@ -85,21 +86,124 @@ pub(crate) fn range_in(
     Ok(range_of(text_in(docs, path), &lexed, encoding, at))
 }
 
-// A token of the text at a path, with what is written beside its place.
-fn at_path(
+// A file in which tokens are placed: how the client names it, what lexing gave of its text, and a walk over it.
+#[derive(Drop)]
+pub(crate) struct Opened<'a> {
+    path: Path,
+    uri: Name,
+    text: &'a str,
+    lexed: LexedText,
+    walk: Walk<'a>,
+}
+
+// The text at hand, by its name, with its file, where it is one's. Tokens come in order, so each file is walked over once.
+#[derive(Drop)]
+pub(crate) struct AtHand<'a> {
+    name: FileId,
+    file: Option<Opened<'a>>,
+}
+
+fn open_file<'a>(
     kept: &Analysis,
+    docs: &'a Docs,
+    encoding: Encoding,
+    path: Path,
+) -> Result<Opened<'a>, AllocError>
+    requires { HasLexed docs.now kept.now }
+    ensures { IfOk result (λ file. IsOpened docs.now encoding path file) }
+{
+    let uri = uri_for(kept.alloc, docs, &path)?;
+    let lexed = kept.lexings.at(docs, &path)?;
+    let text = text_in(docs, &path);
+    let walk = Walk::new(text, encoding);
+    Ok(Opened {
+        path,
+        uri,
+        text,
+        lexed,
+        walk,
+    })
+}
+
+fn found<'a>(
+    kept: &Analysis,
+    docs: &'a Docs,
+    encoding: Encoding,
+    name: &FileId,
+) -> Result<AtHand<'a>, AllocError>
+    requires { HasLexed docs.now kept.now }
+    ensures name { IfOk result (λ hand. hand.name ≡ name.now) }
+    ensures hand { IfOk result (λ hand. IsAtHand docs.now encoding hand) }
+{
+    let copy = name.copy()?;
+    match Path::read(kept.alloc, name.as_str())? {
+        Some(path) => {
+            let file = open_file(kept, docs, encoding, path)?;
+            Ok(AtHand {
+                name: copy,
+                file: Some(file),
+            })
+        }
+        None => Ok(AtHand {
+            name: copy,
+            file: None,
+        }),
+    }
+}
+
+// The text with this name at hand: the one that is there, or else another.
+fn turned_to<'a>(
+    kept: &Analysis,
+    docs: &'a Docs,
+    encoding: Encoding,
+    hand: Option<AtHand<'a>>,
+    name: &FileId,
+) -> Result<AtHand<'a>, AllocError>
+    requires lexed { HasLexed docs.now kept.now }
+    requires hand { IfSome hand (IsAtHand docs.now encoding) }
+    ensures name { IfOk result (λ hand. hand.name ≡ name.now) }
+    ensures hand { IfOk result (λ hand. IsAtHand docs.now encoding hand) }
+{
+    match hand {
+        Some(hand) => {
+            if hand.name == *name {
+                return Ok(hand);
+            }
+            found(kept, docs, encoding, name)
+        }
+        None => found(kept, docs, encoding, name),
+    }
+}
+
+// Where the token with this number begins and ends.
+#[tactic(auto, unfolding(crate::specs::Places::range_in))]
+fn walked_to(walk: &mut Walk<'_>, text: &str, lexed: &LexedText, at: u32) -> (Pos, Pos)
+    requires lexed { IsLexed text.now lexed.now }
+    requires walk { walk.old.text ≡ text.now }
+    ensures range { result ≡ spec.range_in text.now walk.old.encoding at }
+    ensures same { walk.new ≡ walk.old }
+{
+    let (start, end) = place_of(text, lexed, at);
+    let first = walk.pos(start);
+    let last = walk.pos(end);
+    (first, last)
+}
+
+// A token of a file, with what is written beside its place.
+fn in_file(
     docs: &Docs,
     encoding: Encoding,
+    file: &mut Opened<'_>,
     kind: u8,
     name: Name,
     at: u32,
-    path: &Path,
 ) -> Result<Located, AllocError>
-    requires { HasLexed docs.now kept.now }
-    ensures { IfOk result (λ l. l ≡ spec.at_path docs.now encoding kind name at path.now) }
+    requires { IsOpened docs.now encoding file.old.path file.old }
+    ensures located { IfOk result (λ l. l ≡ spec.at_path docs.now encoding kind name at file.old.path) }
+    ensures same { file.new ≡ file.old }
 {
-    let (start, end) = range_in(kept, docs, encoding, path, at)?;
-    let uri = uri_for(kept.alloc, docs, path)?;
+    let uri = file.uri.share()?;
+    let (start, end) = walked_to(&mut file.walk, file.text, &file.lexed, at);
     Ok(Located {
         uri,
         start,
@@ -111,19 +215,21 @@ fn at_path(
 
 #[tactic(auto, unfolding(crate::specs::Places::located))]
 fn located(
-    kept: &Analysis,
     docs: &Docs,
     encoding: Encoding,
+    hand: &mut AtHand<'_>,
     kind: u8,
     name: Name,
     tok: &TokId,
 ) -> Result<Option<Located>, AllocError>
-    requires { HasLexed docs.now kept.now }
-    ensures { IfOk result (λ l. l ≡ spec.located docs.now encoding kind name tok.now) }
+    requires hand { IsAtHand docs.now encoding hand.old }
+    requires name { hand.old.name ≡ tok.now.file }
+    ensures located { IfOk result (λ l. l ≡ spec.located docs.now encoding kind name tok.now) }
+    ensures same { hand.new ≡ hand.old }
 {
-    match Path::read(kept.alloc, tok.file.as_str())? {
-        Some(path) => {
-            let shown = at_path(kept, docs, encoding, kind, name, tok.at, &path)?;
+    match &mut hand.file {
+        Some(file) => {
+            let shown = in_file(docs, encoding, file, kind, name, tok.at)?;
             Ok(Some(shown))
         }
         None => Ok(None),
@@ -131,19 +237,22 @@ fn located(
 }
 
 fn mention(
-    kept: &Analysis,
+    alloc: Global,
     docs: &Docs,
     encoding: Encoding,
+    hand: &mut AtHand<'_>,
     tok: &TokId,
 ) -> Result<Option<Located>, AllocError>
-    requires { HasLexed docs.now kept.now }
-    ensures { IfOk result (λ l. l ≡ spec.mention docs.now encoding tok.now) }
+    requires hand { IsAtHand docs.now encoding hand.old }
+    requires name { hand.old.name ≡ tok.now.file }
+    ensures located { IfOk result (λ l. l ≡ spec.mention docs.now encoding tok.now) }
+    ensures same { hand.new ≡ hand.old }
 {
-    let name = Name::from_str(kept.alloc, "")?;
-    located(kept, docs, encoding, 0, name, tok)
+    let name = Name::from_str(alloc, "")?;
+    located(docs, encoding, hand, 0, name, tok)
 }
 
-/// The places of some tokens, in their order.
+/// The places of some tokens, in their order. Tokens of one text that come one behind the other, by place, cost one walk over it.
 pub(crate) fn mentions(
     kept: &Analysis,
     docs: &Docs,
@@ -154,10 +263,14 @@ pub(crate) fn mentions(
     ensures { IfOk result (λ out. out.items ≡ spec.gathered (spec.mention docs.now encoding) toks.now) }
 {
     let mut out = Vec::new(kept.alloc);
+    let mut hand = None;
     let mut rest = toks;
     'toks: while let Some((tok, behind)) = rest.split_first() {
         rest = behind;
-        let Some(shown) = mention(kept, docs, encoding, tok)? else {
+        let mut here = turned_to(kept, docs, encoding, hand, &tok.file)?;
+        let shown = mention(kept.alloc, docs, encoding, &mut here, tok)?;
+        hand = Some(here);
+        let Some(shown) = shown else {
             continue;
         };
         out.push(shown)?;
@@ -166,20 +279,22 @@ pub(crate) fn mentions(
 }
 
 fn symbol(
-    kept: &Analysis,
     docs: &Docs,
     encoding: Encoding,
+    hand: &mut AtHand<'_>,
     symbol: &Symbol,
 ) -> Result<Option<Located>, AllocError>
-    requires { HasLexed docs.now kept.now }
-    ensures { IfOk result (λ l. l ≡ spec.symbol docs.now encoding symbol.now) }
+    requires hand { IsAtHand docs.now encoding hand.old }
+    requires name { hand.old.name ≡ symbol.now.tok.file }
+    ensures located { IfOk result (λ l. l ≡ spec.symbol docs.now encoding symbol.now) }
+    ensures same { hand.new ≡ hand.old }
 {
     let name = symbol.name.share()?;
     let kind = symbol_number(symbol.kind);
-    located(kept, docs, encoding, kind, name, &symbol.tok)
+    located(docs, encoding, hand, kind, name, &symbol.tok)
 }
 
-/// The places of some symbols, each with its name and kind, in their order.
+/// The places of some symbols, each with its name and kind, in their order, at the same cost.
 pub(crate) fn all_symbols(
     kept: &Analysis,
     docs: &Docs,
@@ -190,10 +305,14 @@ pub(crate) fn all_symbols(
     ensures { IfOk result (λ out. out.items ≡ spec.gathered (spec.symbol docs.now encoding) symbols.now) }
 {
     let mut out = Vec::new(kept.alloc);
+    let mut hand = None;
     let mut rest = symbols;
     'symbols: while let Some((one, behind)) = rest.split_first() {
         rest = behind;
-        let Some(shown) = symbol(kept, docs, encoding, one)? else {
+        let mut here = turned_to(kept, docs, encoding, hand, &one.tok.file)?;
+        let shown = symbol(docs, encoding, &mut here, one)?;
+        hand = Some(here);
+        let Some(shown) = shown else {
             continue;
         };
         out.push(shown)?;

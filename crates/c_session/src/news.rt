@@ -1,5 +1,5 @@
 // What is published after a message that changed texts.
-ghost use Rattle.std.specs.Prelude.{◌≡◌, ◌≤◌, ℕ, ◌++◌, List, [], codes, bytes_eq, length, option_map, IfOk, OnOk, string_bytes, unwrap_or};
+ghost use Rattle.std.specs.Prelude.{◌≡◌, ◌≤◌, ℕ, ◌++◌, List, [], codes, bytes_eq, length, option_map, IfOk, OnOk, unwrap_or};
 ghost use Rattle.std.specs.List.{list_any};
 ghost use Rattle.doc_texts.specs.Texts.{text_at, add_all};
 ghost use Rattle.plain_mean.specs.Given.{text_in};
@@ -8,7 +8,7 @@ ghost use Rattle.plain_mean.specs.Within.{AreWithin};
 ghost use Rattle.c_session.specs.Shown.{same_fault, same_list, has_news, publication};
 ghost use Rattle.project_conf.specs.Entries.{refusal};
 ghost use Rattle.lsp_answers.specs.Replies.{log};
-ghost use Rattle.c_session.specs.Ties.News.{IsPrior, any_changed, all_remembered, touched_by, is_told, news_of, may_have_news, news, other_database, database_news, tidings};
+ghost use Rattle.c_session.specs.Ties.News.{IsPrior, all_remembered, touched_by, is_told, news_of, may_have_news, news, other_database, database_news, tidings};
 
 use crate::diagnostics::{Showing, push_diagnostics_of};
 use crate::located::uri_for;
@@ -130,21 +130,6 @@ fn push_news_of(
         return Ok(());
     }
     push_shown(alloc, out, docs, encoding, path, change.after.of(path))
-}
-
-/// Whether some file has another text than the one that is kept for it.
-pub(crate) fn any_changed(docs: &Docs, prior: &PriorTexts) -> Result<bool, AllocError>
-    ensures { IfOk result (λ differs. differs ≡ any_changed prior.now docs.now) }
-{
-    let paths = prior.paths()?;
-    let mut rest = paths.as_slice();
-    'paths: while let Some((path, behind)) = rest.split_first() {
-        rest = behind;
-        if prior.is_changed(docs, path) {
-            return Ok(true);
-        }
-    }
-    Ok(false)
 }
 
 fn add_paths(set: &mut PathSet, paths: Vec<Path>) -> Result<(), AllocError>

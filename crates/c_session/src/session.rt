@@ -26,7 +26,7 @@ use steps::Steps;
 pub struct Session {
     current: Current,
     handled: u64,
-    /// What is kept of what files show is so, as it is behind each call of `handle` that gave a reply.
+    /// What is kept is what the texts come to, as it is behind each call of `handle` that gave a reply.
     whole: bool,
 }
 
@@ -45,7 +45,7 @@ impl Model for Session {
     ghost invariant = { λ s. s.whole ≡ true → IsKept s.current };
 }
 
-// What the files show is worked out where it isn't kept, as behind a call that failed.
+// What the texts come to is worked out where it isn't kept, as behind a call that failed.
 fn ready<L: Ledger>(
     current: &mut Current,
     whole: bool,
@@ -87,11 +87,11 @@ impl Session {
 
     /// Handles one content: what the plain server does with it, asking the store for what that wants. Each answer that
     /// the store gives was wanted then. A content that is refused leaves the state. As long as each call gave a reply
-    /// (`is_whole`), each unit of the texts is worked out, which is one step each, where the session began with this content,
-    /// some file has another text than before, or a path became a unit or none, and else none is. The database is read where
-    /// units are worked out and where a document is opened or closed, which costs its text. After an error (`StoreFault`,
-    /// `NoMemory`) the session isn't used again: its state isn't told then, and a call that came nonetheless might work out
-    /// more units.
+    /// (`is_whole`), each unit of the texts that the content left is worked out once, which is one step each, that wasn't a unit before,
+    /// is read in another way, or asked something of files that has another answer now, and no other unit. Beside these units, a content
+    /// that opens, changes or closes a document or tells of files costs the texts' paths, what all units asked and read and their faults,
+    /// and the database's text. After an error (`StoreFault`, `NoMemory`) the session isn't used again: its state isn't told then, and a
+    /// call that came nonetheless might work out more units.
     pub fn handle<D: Store, L: Ledger>(
         &mut self,
         content: &[u8],

@@ -31,10 +31,6 @@ pub record SameBut (path : List ℕ) (t t' : Texts) : Type 0 where
   pub others : (other : List ℕ) → bytes_eq other path ≡ false → text_at t' other ≡ text_at t other
   pub root : t'.root ≡ t.root
 
--- some file has another text than the one that is kept for it
-abbrev pub any_changed : Prior → Texts → Bool
-any_changed prior now = list_any (is_changed prior now) (keys prior)
-
 -- with the texts of these files remembered too
 abbrev pub all_remembered : Prior → Texts → List (List ℕ) → Prior
 all_remembered prior t [] = prior

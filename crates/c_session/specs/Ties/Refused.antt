@@ -1,5 +1,5 @@
 -- What the code's refusals stand for.
-use Rattle.std.specs.Prelude.{◌≡◌, ◌≢◌, ℕ, Bool, false, List, [], ◌∷◌, ◌++◌, codes, Result, Ok, Err}
+use Rattle.std.specs.Prelude.{◌≡◌, ◌≢◌, ℕ, List, [], ◌∷◌, ◌++◌, codes, Result, Ok, Err}
 use Rattle.json_view.specs.Refusals as view
 use Rattle.json_view.specs.declared.error.ViewError.{ViewError}
 use Rattle.json_view.specs.declared.error.ViewError.TheVariants as view_error
@@ -13,9 +13,8 @@ use Rattle.text_lines.specs.declared.encoding.Encoding.{Encoding}
 use Rattle.c_session.specs.React.{Edited}
 use Rattle.c_session.specs.Reasons.{Reason, ByParams, ByUri, ByTexts, reason_text}
 use Rattle.lsp_answers.specs.Replies.{log}
-use Rattle.c_session.specs.State.{State}
 use Rattle.c_session.specs.Ties.News.{ByPath, tidings}
-use Rattle.c_session.specs.Ties.Sessions.{current_state, shifted_by, is_due, IsKept, WereKept, worked}
+use Rattle.c_session.specs.Ties.Sessions.{current_state, IsKept, WereKept, Renews}
 use Rattle.c_session.specs.declared.current.Current.{Current}
 use Rattle.c_session.specs.declared.reasons.Refusal.{Refusal}
 use Rattle.c_session.specs.declared.reasons.Refusal.TheVariants.{Params, Uri, Texts as ByDocs, NoMemory}
@@ -75,12 +74,12 @@ abbrev pub IsBehind : {T : Type 0} → Result T Refusal → Current → Current 
 IsBehind (Ok x) old new = IsKept new
 IsBehind (Err r) old new = new ≡ old
 
--- the lists that are kept are those of the same texts and units, where an edit left each as it was
-abbrev pub IsKeptBy : Result (List ℕ) Refusal → Bool → Prior → Current → Type 0
-IsKeptBy (Ok path) opens prior current = is_due (shifted_by opens path) prior (current_state current) ≡ false → WereKept current
-IsKeptBy (Err r) opens prior current = Unit {0}
+-- what is kept is of texts before the edit, where it was one
+abbrev pub IsKeptBy : Result (List ℕ) Refusal → Prior → Current → Type 0
+IsKeptBy (Ok path) prior c = WereKept prior c.docs c.kept
+IsKeptBy (Err r) prior c = Unit {0}
 
--- the counter of steps behind the reply to an edit that left this state
-abbrev pub IsWorked : Result (List ℕ) Refusal → Bool → Prior → State → ℕ → ℕ → Type 0
-IsWorked (Ok path) opens prior s old new = new ≡ worked (is_due (shifted_by opens path) prior s) s old
-IsWorked (Err r) opens prior s old new = new ≡ old
+-- the counter of steps behind the reply to an edit that left these texts
+abbrev pub IsWorked : Result (List ℕ) Refusal → Prior → Current → ℕ → ℕ → Type 0
+IsWorked (Ok path) prior c old new = Renews prior c.docs c.kept (current_state c) old new
+IsWorked (Err r) prior c old new = new ≡ old

@@ -1,21 +1,18 @@
 -- The state that a session keeps.
-use Rattle.std.specs.Prelude.{◌≡◌, ◌+◌, ℕ, Bool, true, false, not, ◌&&◌, ◌||◌, List, length, bytes_eq, Option, None, Some, if◌then◌else◌}
-use Rattle.std.specs.Option.{option_map_or}
-use Rattle.doc_texts.specs.Texts.{Texts, text_at}
+use Rattle.std.specs.Prelude.{◌≡◌, ◌+◌, ℕ, Bool, List, length}
+use Rattle.doc_texts.specs.Texts.{Texts}
 use Rattle.doc_texts.specs.Prior.{Prior}
-use Rattle.project_conf.specs.Entries.{is_unit}
+use Rattle.plain_mean.specs.Renewed.{renewed}
 use Rattle.project_conf.specs.declared.conf.Conf.{Conf}
-use Rattle.project_conf.specs.declared.conf.UnitConf.{UnitConf}
-use Rattle.c_session.specs.Handled.{outcome}
+use Rattle.c_session.specs.Handled.{IsWork, outcome}
 use Rattle.c_session.specs.Loading.{Loading}
 use Rattle.c_session.specs.React.{Outcome, Beginning}
 use Rattle.c_session.specs.State.{State}
-use Rattle.c_session.specs.Ties.News.{any_changed}
+use Rattle.c_session.specs.Ties.News.{IsPrior}
 use Rattle.c_session.specs.declared.starting.Beginning as code
 use Rattle.c_session.specs.declared.current.Current.{Current}
 use Rattle.c_session.specs.declared.current.Reply.{Reply}
 use Rattle.c_session.specs.Shown.{conf_in}
-use Rattle.plain_mean.specs.Shown.{is_open, is_unit_of, units}
 use Rattle.c_session.specs.Kept.{IsAnalysis}
 use Rattle.c_session.specs.declared.analysis.Analysis.{Analysis}
 
@@ -23,7 +20,7 @@ use Rattle.c_session.specs.declared.analysis.Analysis.{Analysis}
 pub record SessionView : Type 0 where
   pub state : State
   pub handled : ℕ
-  -- what is kept of what files show is so, as it is behind each call that gave a reply
+  -- what is kept is what the texts come to, as it is behind each call that gave a reply
   pub whole : Bool
 
 abbrev pub current_state : Current → State
@@ -33,50 +30,26 @@ current_state c = record { options = c.words; texts = c.docs; encoding = c.encod
 abbrev pub IsKept : Current → Type 0
 IsKept c = IsAnalysis c.docs (conf_in (current_state c)) c.kept
 
--- What is kept is what the texts came to when each path had the text that it has now, and the same paths were units.
-pub record WereShown (t : Texts) (conf : Conf) (kept : Analysis) : Type 0 where
+-- What is kept is what some texts came to, of which these are the prior texts.
+pub record WereKept (prior : Prior) (now : Texts) (kept : Analysis) : Type 0 where
   pub before : Texts
-  pub same : (path : List ℕ) → text_at t path ≡ text_at before path
-  pub units : (path : List ℕ) → is_unit_of t conf path ≡ is_unit_of before conf path
-  pub were : IsAnalysis before conf kept
+  pub read : Conf
+  pub since : IsPrior before prior now
+  pub were : IsAnalysis before read kept
 
-abbrev pub WereKept : Current → Type 0
-WereKept c = WereShown c.docs (conf_in (current_state c)) c.kept
+-- ---- the counter of steps
 
--- ---- what is due
+-- The units of a state's texts were worked out that had to be, by what was kept of the texts before, whichever these were.
+abbrev pub Renews : Prior → Texts → Analysis → State → ℕ → ℕ → Type 0
+Renews prior now kept s old new =
+    (t : Texts) (conf : Conf) → IsPrior t prior now → IsAnalysis t conf kept → new ≡ old + length (renewed t conf s.texts (conf_in s))
 
--- The same documents are open.
-abbrev pub SameOpen : Texts → Texts → Type 0
-SameOpen t t' = (path : List ℕ) → is_open t' path ≡ is_open t path
+-- A message left texts and options, and no unit was worked out, or those were that had to be.
+pub data Works (s s' : State) (old new : ℕ) : Type 0 where
+  Stood : s'.texts ≡ s.texts → s'.options ≡ s.options → new ≡ old → Works s s' old new
+  Worked : IsWork s s' old new → Works s s' old new
 
--- A document was opened or closed, and no other.
-pub record Turned (path : List ℕ) (t t' : Texts) : Type 0 where
-  pub others : (other : List ℕ) → bytes_eq other path ≡ false → is_open t' other ≡ is_open t other
-  pub turns : is_open t path ≡ not (is_open t' path)
-
-abbrev pub Shifts : Option (List ℕ) → Texts → Texts → Type 0
-Shifts None t t' = SameOpen t t'
-Shifts (Some path) t t' = Turned path t t'
-
--- the document that an edit opened, and none that it changed
-abbrev pub shifted_by : Bool → List ℕ → Option (List ℕ)
-shifted_by opens path = if opens then Some path else None
-
--- a path that is a unit just as long as its document is open
-abbrev pub is_hinged : Option (List UnitConf) → List ℕ → Bool
-is_hinged database path = is_unit database true path && not (is_unit database false path)
-
--- the document that was opened or closed is a unit by that, or none
-abbrev pub turns : Conf → Option (List ℕ) → Bool
-turns conf shifted = option_map_or (is_hinged conf.database) shifted false
-
--- what files show has to be worked out: some text differs, or a document's opening or closing makes a unit or takes one away
-abbrev pub is_due : Option (List ℕ) → Prior → State → Bool
-is_due shifted prior s = any_changed prior s.texts || turns (conf_in s) shifted
-
--- the counter, where each unit of the texts is worked out if that is due
-abbrev pub worked : Bool → State → ℕ → ℕ
-worked due s old = if due then old + length (units s.texts (conf_in s)) else old
+-- ---- a session
 
 -- the session's state, and how many contents it has handled
 abbrev pub state_of : SessionView → State

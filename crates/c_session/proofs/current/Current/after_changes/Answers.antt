@@ -1,10 +1,10 @@
-use Rattle.std.proofs.Common.{None, map}
+use Rattle.std.proofs.Common.{map}
 use Rattle.c_session.specs.Ties.SeenParams.{seen_file_change}
 use Rattle.plain_mean.specs.Lists.{shown_in}
-use Rattle.c_session.specs.Ties.Sessions.{current_state, loading}
-use Rattle.c_session.proofs.Telling.{watched_tells, watched_refused, watched_wants}
-use Rattle.c_session.proofs.Unchanged.{first_kept, read_keeps, works}
-use Rattle.c_session.proofs.Turning.{watched_open}
+use Rattle.c_session.specs.Shown.{conf_in}
+use Rattle.c_session.specs.Ties.Sessions.{current_state}
+use Rattle.c_session.proofs.Telling.{watched_tells, watched_refused, watched_wants, with_docs}
+use Rattle.c_session.proofs.Keeping.{first_kept, works_as}
 use Rattle.c_session.proofs.current.Current.after_changes.Goals as goal
 
 pub returns-in-Err-clause-refused : goal.returns-in-Err-clause-refused
@@ -25,14 +25,16 @@ returns-clause-refused g c = (
 )
 
 pub returns-in-Ok-finish-clause-steps : goal.returns-in-Ok-finish-clause-steps
-returns-in-Ok-finish-clause-steps g c = works (current_state c.args.self.now) (current_state c.finish.new.self) c.update_all.new.docs c.update_all.new.prior None _ _ c.in-Ok-finish.ensures.same
-    (first_kept c.args.self.now.docs c.update_all.new.docs c.new-prior.result c.update_all.new.prior c.new-prior.ensures c.in-Ok.ensures.prior) c.in-Ok.ensures.prior.root
-    (watched_open (loading c.args.self.now.docs c.new-logs.result.items) (loading c.update_all.new.docs c.update_all.new.logs.items) (map seen_file_change c.args.changes.now) _ _ c.in-Ok.ensures.updated)
-    c.in-Ok-finish.ensures.steps
+returns-in-Ok-finish-clause-steps g c = works_as (current_state c.args.self.now) (current_state (with_docs c.update_all.new.docs c.args.self.now)) (current_state c.finish.new.self) _ _ c.in-Ok-finish.ensures.same
+    (c.in-Ok-finish.ensures.steps c.args.self.now.docs (conf_in (current_state c.args.self.now))
+    (first_kept c.args.self.now.docs c.update_all.new.docs c.new-prior.result c.update_all.new.prior c.new-prior.ensures c.in-Ok.ensures.prior) c.requires.kept)
 
 pub finish-requires : goal.finish-requires
 finish-requires g c = record {
-  kept = read_keeps (current_state c.args.self.now) c.update_all.new.docs c.new-prior.result c.update_all.new.prior None c.args.self.now.kept c.new-prior.ensures c.in-Ok.ensures.prior
-      (watched_open (loading c.args.self.now.docs c.new-logs.result.items) (loading c.update_all.new.docs c.update_all.new.logs.items) (map seen_file_change c.args.changes.now) _ _ c.in-Ok.ensures.updated)
-      c.requires.kept;
+  kept = record {
+    before = c.args.self.now.docs;
+    read = conf_in (current_state c.args.self.now);
+    since = first_kept c.args.self.now.docs c.update_all.new.docs c.new-prior.result c.update_all.new.prior c.new-prior.ensures c.in-Ok.ensures.prior;
+    were = c.requires.kept;
+  };
 }

@@ -1,11 +1,10 @@
-use Rattle.std.proofs.Common.{[], option_map, refl}
-use Rattle.serde_json.specs.View.{view}
+use Rattle.std.proofs.Common.{refl}
 use Rattle.plain_mean.specs.Lists.{shown_in}
-use Rattle.c_session.specs.Ties.Sessions.{current_state, loading}
+use Rattle.c_session.specs.Shown.{conf_in}
+use Rattle.c_session.specs.Ties.Sessions.{Worked, current_state}
 use Rattle.c_session.proofs.Asking.{gave_up, stays}
-use Rattle.c_session.proofs.Telling.{with_docs, closing_turns, closes_tells, closed_refused, not_closed}
-use Rattle.c_session.proofs.Unchanged.{left_works, closed_keeps, closed_works}
-use Rattle.c_session.proofs.Turning.{back_open}
+use Rattle.c_session.proofs.Telling.{with_docs, closes_tells, closed_refused, not_closed}
+use Rattle.c_session.proofs.Keeping.{first_kept, left_works}
 use Rattle.c_session.proofs.current.Current.on_close.Goals as goal
 
 pub returns-in-Ok-after_close-clause-handled : goal.returns-in-Ok-after_close-clause-handled
@@ -24,15 +23,16 @@ pub returns-clause-refused : goal.returns-clause-refused
 returns-clause-refused g c = (refl, gave_up (stays _ _))
 
 pub returns-in-Ok-after_close-clause-steps : goal.returns-in-Ok-after_close-clause-steps
-returns-in-Ok-after_close-clause-steps g c = closed_works (current_state c.args.self.now) (current_state (with_docs c.close_document.new.docs c.args.self.now)) (current_state c.after_close.new.self) c.in-Ok.path c.new-prior.result c.close_document.new.prior
-    c.after_close.new.prior _ _ refl c.in-Ok-after_close.ensures.handled.settings c.new-prior.ensures c.in-Ok.ensures.prior
-    (closing_turns c.args.self.now.docs c.close_document.new.docs (option_map (λ v. view v.now) c.args.params) c.in-Ok.path c.in-Ok.ensures.meant) c.in-Ok-after_close.ensures.prior
-    (back_open (loading c.close_document.new.docs []) (loading c.after_close.new.self.docs c.in-Ok-after_close.ensures.handled.logs) c.in-Ok.path _ _ c.in-Ok-after_close.ensures.handled.reached)
-    c.in-Ok-after_close.ensures.steps
+returns-in-Ok-after_close-clause-steps g c = Worked (c.in-Ok-after_close.ensures.steps c.args.self.now.docs (conf_in (current_state c.args.self.now))
+    (first_kept c.args.self.now.docs c.close_document.new.docs c.new-prior.result c.close_document.new.prior c.new-prior.ensures c.in-Ok.ensures.prior) c.requires.kept)
 
 pub after_close-requires-clause-kept : goal.after_close-requires-clause-kept
-after_close-requires-clause-kept g c = closed_keeps (current_state c.args.self.now) c.close_document.new.docs c.in-Ok.path c.new-prior.result c.close_document.new.prior c.args.self.now.kept c.new-prior.ensures c.in-Ok.ensures.prior
-    (closing_turns c.args.self.now.docs c.close_document.new.docs (option_map (λ v. view v.now) c.args.params) c.in-Ok.path c.in-Ok.ensures.meant) c.requires.kept
+after_close-requires-clause-kept g c = record {
+  before = c.args.self.now.docs;
+  read = conf_in (current_state c.args.self.now);
+  since = first_kept c.args.self.now.docs c.close_document.new.docs c.new-prior.result c.close_document.new.prior c.new-prior.ensures c.in-Ok.ensures.prior;
+  were = c.requires.kept;
+}
 
 pub returns-in-Ok-refuse-clause-steps : goal.returns-in-Ok-refuse-clause-steps
 returns-in-Ok-refuse-clause-steps g c = left_works (current_state c.args.self.now) (current_state (with_docs c.close_document.new.docs c.args.self.now)) c.close_document.new.docs _ _ refl c.in-Err.ensures.kept refl

@@ -2,7 +2,7 @@ use Rattle.std.proofs.Common.{refl}
 use Rattle.c_session.specs.Ties.Sessions.{current_state, loading, seen_beginning}
 use Rattle.c_session.proofs.Asking.{gave_up, stays}
 use Rattle.c_session.proofs.Telling.{began_then, began_refused, began_wants}
-use Rattle.c_session.proofs.Unchanged.{no_work}
+use Rattle.c_session.proofs.Keeping.{no_work}
 use Rattle.c_session.proofs.current.Current.on_initialize.Goals as goal
 
 pub returns-in-Err-reject-clause-refused : goal.returns-in-Err-reject-clause-refused

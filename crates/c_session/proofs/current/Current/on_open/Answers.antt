@@ -1,10 +1,10 @@
-use Rattle.std.proofs.Common.{true, option_map}
+use Rattle.std.proofs.Common.{option_map}
 use Rattle.serde_json.specs.View.{view}
 use Rattle.plain_mean.specs.Lists.{shown_in}
 use Rattle.c_session.specs.React.{did_open}
 use Rattle.c_session.specs.Ties.Sessions.{current_state}
-use Rattle.c_session.proofs.Telling.{edit_told, opening_prior, opening_shifts, shows_behind, kept_behind, with_docs}
-use Rattle.c_session.proofs.Unchanged.{edit_keeps, edit_works}
+use Rattle.c_session.proofs.Telling.{edit_told, opening_prior, shows_behind, kept_behind, with_docs}
+use Rattle.c_session.proofs.Keeping.{edit_keeps, edit_works}
 use Rattle.c_session.proofs.current.Current.on_open.Goals as goal
 
 pub returns-clause-told : goal.returns-clause-told
@@ -18,15 +18,13 @@ pub returns-clause-kept : goal.returns-clause-kept
 returns-clause-kept g c = kept_behind c.open_document-edited.result c.args.self.now c.open_document-edited.new.docs c.reply_to_edit.new.self c.in_ok-bytes.ensures.behind c.open_document-edited.ensures.kept c.requires
 
 pub returns-clause-steps : goal.returns-clause-steps
-returns-clause-steps g c = edit_works (current_state c.args.self.now) (current_state c.reply_to_edit.new.self) c.open_document-edited.new.docs c.open_document-edited.result true _ c.open_document-edited.new.prior _ _ c.in_ok-bytes.ensures.same
+returns-clause-steps g c = edit_works c.args.self.now (current_state c.reply_to_edit.new.self) c.open_document-edited.new.docs c.open_document-edited.result _ c.open_document-edited.new.prior _ _ c.in_ok-bytes.ensures.same
     (opening_prior c.args.self.now.docs c.open_document-edited.new.docs (option_map (λ v. view v.now) c.args.params) c.open_document-edited.result c.new-prior.result c.open_document-edited.new.prior c.new-prior.ensures c.open_document-edited.ensures.prior)
-    (opening_shifts c.args.self.now.docs c.open_document-edited.new.docs (option_map (λ v. view v.now) c.args.params) c.open_document-edited.result)
-    c.open_document-edited.ensures.meant c.open_document-edited.ensures.kept c.in_ok-bytes.ensures.steps
+    c.open_document-edited.ensures.meant c.open_document-edited.ensures.kept c.requires c.in_ok-bytes.ensures.steps
 
 pub reply_to_edit-requires : goal.reply_to_edit-requires
 reply_to_edit-requires g c = record {
-  kept = edit_keeps c.args.self.now c.open_document-edited.new.docs c.open_document-edited.result true _ c.open_document-edited.new.prior
+  kept = edit_keeps c.args.self.now c.open_document-edited.new.docs c.open_document-edited.result _ c.open_document-edited.new.prior
       (opening_prior c.args.self.now.docs c.open_document-edited.new.docs (option_map (λ v. view v.now) c.args.params) c.open_document-edited.result c.new-prior.result c.open_document-edited.new.prior c.new-prior.ensures c.open_document-edited.ensures.prior)
-      (opening_shifts c.args.self.now.docs c.open_document-edited.new.docs (option_map (λ v. view v.now) c.args.params) c.open_document-edited.result)
       c.open_document-edited.ensures.meant c.requires;
 }

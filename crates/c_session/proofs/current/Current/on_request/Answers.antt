@@ -2,7 +2,7 @@ use Rattle.std.proofs.Common.{refl, option_map}
 use Rattle.serde_json.specs.View.{view}
 use Rattle.c_session.specs.Ties.Sessions.{current_state}
 use Rattle.c_session.proofs.Asking.{gave_up, stays}
-use Rattle.c_session.proofs.Unchanged.{no_work, running_works}
+use Rattle.c_session.proofs.Keeping.{no_work, running_works}
 use Rattle.c_session.proofs.current.Current.on_request.Goals as goal
 
 pub returns-in-Err-clause-refused : goal.returns-in-Err-clause-refused

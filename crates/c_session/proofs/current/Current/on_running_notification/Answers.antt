@@ -1,7 +1,7 @@
 use Rattle.std.proofs.Common.{refl}
 use Rattle.c_session.specs.Ties.Sessions.{current_state}
 use Rattle.c_session.proofs.Asking.{gave_up, stays}
-use Rattle.c_session.proofs.Unchanged.{no_work}
+use Rattle.c_session.proofs.Keeping.{no_work}
 use Rattle.c_session.proofs.current.Current.on_running_notification.Goals as goal
 
 pub returns-in-Err-clause-refused : goal.returns-in-Err-clause-refused

@@ -3,7 +3,7 @@ use Rattle.c_session.specs.Ties.Sessions.{current_state}
 use Rattle.c_session.proofs.Asking.{gave_up, stays}
 use Rattle.c_session.proofs.Reasoning.{params_refused_by}
 use Rattle.c_session.proofs.Telling.{not_watched}
-use Rattle.c_session.proofs.Unchanged.{no_work}
+use Rattle.c_session.proofs.Keeping.{no_work}
 use Rattle.c_session.proofs.current.Current.on_watch.Goals as goal
 
 pub returns-in-Ok-refuse-clause-handled : goal.returns-in-Ok-refuse-clause-handled

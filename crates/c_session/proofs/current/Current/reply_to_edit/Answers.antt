@@ -1,5 +1,5 @@
-use Rattle.c_session.proofs.Unchanged.{edit_kept}
+use Rattle.c_session.proofs.Keeping.{edit_kept}
 use Rattle.c_session.proofs.current.Current.reply_to_edit.Goals as goal
 
 pub finish-requires : goal.finish-requires
-finish-requires g c = record { kept = edit_kept c.args.edited c.in-Ok.path _ c.args.opens c.args.prior.now c.args.self.now c.in-Ok.is c.shifted_by-shifted.ensures c.requires.kept }
+finish-requires g c = record { kept = edit_kept c.args.edited c.in-Ok.path c.args.prior.now c.args.self.now c.in-Ok.is c.requires.kept }

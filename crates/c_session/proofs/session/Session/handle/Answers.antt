@@ -3,7 +3,7 @@ use Rattle.c_session.specs.Ties.Sessions.{state_of, is_whole, current_state}
 use Rattle.c_session.proofs.Asking.{gave_up, stays}
 use Rattle.c_session.proofs.Responses.{handled_answered, handled_kept}
 use Rattle.c_session.proofs.Telling.{asked_handled, asked_refused}
-use Rattle.c_session.proofs.Unchanged.{handled_works}
+use Rattle.c_session.proofs.Keeping.{handled_works}
 use Rattle.c_session.proofs.session.Session.handle.Goals as goal
 
 pub returns-in-Err-clause-refused : goal.returns-in-Err-clause-refused
@@ -30,5 +30,5 @@ pub returns-in-Err-ready-clause-refused : goal.returns-in-Err-ready-clause-refus
 returns-in-Err-ready-clause-refused g c = (refl, gave_up (stays _ _))
 
 pub returns-in-Ok-on_message-clause-steps : goal.returns-in-Ok-on_message-clause-steps
-returns-in-Ok-on_message-clause-steps g c = λ whole. handled_works (state_of c.args.self.now) (current_state c.ready.new.current) _ _ _ _ (c.in-Ok-ready.ensures.same ∙ ap state_of c.self.view_is)
+returns-in-Ok-on_message-clause-steps g c = λ whole. handled_works (state_of c.args.self.now) (current_state c.ready.new.current) (current_state c.on_message.new.self) _ _ _ (c.in-Ok-ready.ensures.same ∙ ap state_of c.self.view_is)
     (c.in-Ok-ready.ensures.steps (ap is_whole c.self.view_is ∙ whole)) c.in-Ok-on_message.ensures.steps
