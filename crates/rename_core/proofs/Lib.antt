@@ -1,6 +1,8 @@
 mod ApartLemmas
+mod ChainLemmas
 mod ClassLemmas
 mod CompareLemmas
+mod ConfirmLemmas
 mod GoingLemmas
 mod LinkLemmas
 mod LookupLemmas

@@ -68,10 +68,10 @@ module _ {K : Type 0} (R : K → K → Ordering) (o : IsTotalOrder R) where
 
 -- ---- tokens
 
-tok_order : IsTotalOrder tok_cmp
+pub tok_order : IsTotalOrder tok_cmp
 tok_order = total-law
 
-tok_cmp_exact : (s t : TokId) → tok_cmp s t ≡ Equal → s ≡ t
+pub tok_cmp_exact : (s t : TokId) → tok_cmp s t ≡ Equal → s ≡ t
 tok_cmp_exact s t e =
     let pairs : (s.file, s.at) ≡ (t.file, t.at) = exact_pairs (slice_cmp nat_cmp) nat_cmp exact_bytes exact_unsigned (s.file, s.at) (t.file, t.at) e in
     λ i. record { file = (pairs i).0; at = (pairs i).1 }

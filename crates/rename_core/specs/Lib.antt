@@ -1,4 +1,5 @@
 pub mod Apart
+pub mod Chained
 pub mod Clashes
 pub mod Classes
 pub mod Found

@@ -23,6 +23,6 @@ pub use class::{Class, Plan, TwoMeanings};
 pub use confirming::{Edits, confirm};
 pub use error::RenameError;
 pub use finding::class_of;
-pub use laws::others_add_nothing;
+pub use laws::{classes_are_lists, confirmed_renames_keep, others_add_nothing};
 pub use planning::plan;
 pub use views::{FileKinds, UnitView};
