@@ -11,3 +11,4 @@ pub mod Renamed
 pub mod Copied
 pub mod EditsFollowed
 pub mod Placed
+pub mod Shorts

@@ -4,3 +4,4 @@ pub mod Prior
 pub mod Docs
 pub mod Edited
 pub mod Kept
+pub mod Short

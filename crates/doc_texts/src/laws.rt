@@ -1,13 +1,17 @@
 // What changes of the texts leave, as laws of the definitions.
-ghost use Rattle.std.specs.Prelude.{◌≡◌, ◌≢◌, ℕ, List, Some, None, option_map, is_some, bytes_eq};
+ghost use Rattle.std.specs.Prelude.{◌≡◌, ◌≢◌, ℕ, ℤ, List, Option, Some, None, option_map, is_some, bytes_eq, IfOk, IfSome};
 ghost use Rattle.std.specs.Cmp.Lexicographic.{slice_cmp};
 ghost use Rattle.std.specs.FinMap.{get};
 ghost use Rattle.std.specs.List.{list_any, AllByRecursion};
 ghost use Rattle.std.specs.List.Sorted.{IsStrictlySortedBy};
 ghost use Rattle.std.specs.Ordering.{nat_cmp};
+ghost use Rattle.text_lines.specs.declared.edit.Change.{Change as TextChange};
+ghost use Rattle.text_lines.specs.declared.encoding.Encoding.{Encoding as TextEncoding};
+ghost use Rattle.doc_texts.specs.Docs.{loaded, opened, changed, closed};
 ghost use Rattle.doc_texts.specs.Edited.{renamed, edited, AreApart};
 ghost use Rattle.doc_texts.specs.declared.ranges.TextEdits.{TextEdits};
-ghost use Rattle.doc_texts.specs.Texts.{Texts, OpenText, shown, text_at, version_at, uri_at, path_set, paths_of, with_disk, without_disk, with_open, without_open};
+ghost use Rattle.doc_texts.specs.Short.{AllShort, IsShort};
+ghost use Rattle.doc_texts.specs.Texts.{texts_under, Texts, OpenText, shown, text_at, version_at, uri_at, path_set, paths_of, with_disk, without_disk, with_open, without_open};
 
 /// A law of the definitions, which has nothing to run: what the text at a path is after each change, at its path and at others.
 pub fn texts_follow()
@@ -52,4 +56,15 @@ pub fn edits_follow()
     ensures held { (t : Texts) (edits : List TextEdits) (name q : List ℕ) → is_some (text_at (edited t edits name) q) ≡ is_some (text_at t q) }
     ensures version { (t : Texts) (edits : List TextEdits) (name q : List ℕ) → version_at (edited t edits name) q ≡ version_at t q }
     ensures uri { (t : Texts) (edits : List TextEdits) (name q : List ℕ) → uri_at (edited t edits name) q ≡ uri_at t q }
+{}
+
+/// A law of the definitions, which has nothing to run: no call takes a text in that is longer than the limit, so where none is, none
+/// ever is, and no text that stands at a path is.
+pub fn texts_stay_short()
+    ensures under { (root : Option (List ℕ)) → AllShort (texts_under root) }
+    ensures loaded { (t : Texts) → AllShort t → (p : List ℕ) (bytes : Option (List ℕ)) → IfOk (loaded t p bytes) AllShort }
+    ensures opened { (t : Texts) → AllShort t → (p uri : List ℕ) (version : ℤ) (text : List ℕ) → IfOk (opened t p uri version text) AllShort }
+    ensures changed { (t : Texts) → AllShort t → (p : List ℕ) (version : ℤ) (changes : List TextChange) (enc : TextEncoding) → IfOk (changed t p version changes enc) AllShort }
+    ensures closed { (t : Texts) → AllShort t → (p : List ℕ) → IfOk (closed t p) AllShort }
+    ensures shown { (t : Texts) → AllShort t → (p : List ℕ) → IfSome (text_at t p) IsShort }
 {}

@@ -13,7 +13,7 @@ mod ranges;
 
 pub use docs::Docs;
 pub use error::DocError;
-pub use laws::{documents_follow, edits_follow, paths_are_sets, texts_follow};
+pub use laws::{documents_follow, edits_follow, paths_are_sets, texts_follow, texts_stay_short};
 pub use path_set::PathSet;
 pub use prior::PriorTexts;
 pub use ranges::{ByteRange, TextEdits};
