@@ -15,3 +15,4 @@ pub mod Stepping
 pub mod TellLemmas
 pub mod TextLemmas
 pub mod Walking
+pub mod NamedLemmas

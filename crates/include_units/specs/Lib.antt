@@ -14,6 +14,7 @@ pub mod Definitions
 pub mod Params
 pub mod Inclusion
 pub mod Units
+pub mod Named
 pub mod Going
 pub mod Rests
 pub mod Rooms

@@ -243,7 +243,7 @@ fn is_read(name: &str, made: &Made) -> bool
     made.libraries.has(name) && name != "assert.h"
 }
 
-fn library_name(alloc: Global, name: &str) -> Result<Name, AllocError>
+pub(crate) fn library_name(alloc: Global, name: &str) -> Result<Name, AllocError>
     ensures { IfOk result (λ text. text ≡ spec.library_name name.now) }
 {
     let mut text = String::from_str(alloc, "<")?;
@@ -279,7 +279,7 @@ fn lead_to_own(
 }
 
 // The library text of this name.
-fn library_of(text: &str) -> Option<&'static str>
+pub(crate) fn library_of(text: &str) -> Option<&'static str>
     ensures value { option_map (λ t. t.now) result ≡ spec.library_of text.now }
     ensures short { IfSome result (λ t. length t.now ≤ 4290772992) }
 {

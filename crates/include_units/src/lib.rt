@@ -15,6 +15,7 @@ mod known;
 mod laws;
 mod literals;
 mod made;
+mod named;
 mod own;
 mod reading;
 mod runs;
@@ -31,6 +32,7 @@ mod units;
 pub use laws::{
     FileQuestions, UnitResults, files_are_lawful, units_are_right, units_ask_in_order, units_end,
 };
+pub use named::tokens_named;
 pub use shared::{PpTokens, TextPlaces};
 pub use types::{Entered, Entry, FileAnswer, Go, Paths, UnitTokens, Want, Wants};
 pub use unit::{Unit, are_usable, is_short};
