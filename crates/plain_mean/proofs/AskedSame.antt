@@ -37,6 +37,15 @@ module _ (kind : Kind) (lawful : IsLawful kind) (P : kind.Question → Type 0) w
   each_asked [] e = tt
   each_asked (x ∷ xs) e = (e.0, each_asked xs (each_filtered x (once kind xs) e.0 e.1))
 
+  picked_by : (q x : kind.Question) (xs : List kind.Question) (b : Bool) → kind.same q x ≡ b → P x → (list_any (kind.same q) xs ≡ true → P q) → (b || list_any (kind.same q) xs) ≡ true → P q
+  picked_by q x xs true same first rest any = subst P (sym (lawful.same q x same)) first
+  picked_by q x xs false same first rest any = rest any
+
+  -- it holds of a question that is one of these
+  picked : (q : kind.Question) (xs : List kind.Question) → Each P xs → list_any (kind.same q) xs ≡ true → P q
+  picked q [] e any = cc any
+  picked q (x ∷ xs) e any = picked_by q x xs (kind.same q x) refl e.0 (picked q xs e.1) any
+
 module _ (kind : Kind) (given given' : Given kind) where
   abbrev Stays : kind.Question → Type 0
   Stays q = given' q ≡ given q
@@ -63,3 +72,10 @@ module _ {kind : Kind} {A : Type 0} (given given' : Given kind) where
   stays lawful other says asking none =
       let each = each_by (λ q. other q ≡ false) (Stays kind given given') says (asked given asking) (none_of other (asked given asking) none) in
       let h = same_run asking (each_asked kind lawful (Stays kind given given') (all_asked given asking) each) in (h.0, ap (once kind) h.1)
+
+  -- and a question that is asked has the same answer
+  pub answer_stays : IsLawful kind → (other : kind.Question → Bool) → ((q : kind.Question) → other q ≡ false → given' q ≡ given q) → (asking : Asking kind A) →
+      list_any other (asked given asking) ≡ false → (q : kind.Question) → list_any (kind.same q) (asked given asking) ≡ true → given' q ≡ given q
+  answer_stays lawful other says asking none q any =
+      picked kind lawful (Stays kind given given') q (asked given asking)
+      (each_by (λ q. other q ≡ false) (Stays kind given given') says (asked given asking) (none_of other (asked given asking) none)) any

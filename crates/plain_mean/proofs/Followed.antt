@@ -5,14 +5,14 @@ use Rattle.std.specs.FinMap.{get, keys, contains_key-keys, same_map, slice_cmp-I
 use Rattle.std.specs.List.{list_any, filter}
 use Rattle.std.specs.Ordering.{eq_by_cmp}
 use Rattle.std.proofs.lemmas.Map.Text.{is_eq-slice_cmp}
-use Rattle.asking.specs.LookUps.{asked, result_of}
+use Rattle.asking.specs.LookUps.{asked}
 use Rattle.c_tokens.specs.Lexed.{lexed}
 use Rattle.doc_texts.specs.Texts.{PathSet, Texts, text_at, paths_of, marked}
 use Rattle.include_units.specs.Files.{Question, Exists, Text, Lines}
 use Rattle.include_units.specs.Runs.{own_places}
 use Rattle.include_units.specs.Units.{unit_tokens}
 use Rattle.plain_mean.specs.Given.{given}
-use Rattle.plain_mean.specs.Meanings.{meaning, meant_by}
+use Rattle.plain_mean.specs.Meanings.{meaning, meaning_by}
 use Rattle.plain_mean.specs.Renewed.{questions}
 use Rattle.plain_mean.specs.Shown.{units, most_units, is_unit_of}
 use Rattle.project_conf.specs.Entries.{unit_conf}
@@ -36,6 +36,22 @@ same_sets : (m n : PathSet) → ((q : List ℕ) → list_any (bytes_eq q) (keys 
 same_sets m n same =
     same_map nat_list_cmp_total (slice_cmp-IsAntisymmetric nat_cmp-IsAntisymmetric) m n (λ q. same_marks (get m q) (get n q) (has_key m q ∙ same q ∙ sym (has_key n q)))
 
+-- ---- which units there are
+
+module _
+    (members : (t : Texts) (q : List ℕ) → list_any (bytes_eq q) (paths_of t) ≡ is_some (text_at t q))
+    (t t' : Texts) (held : (path : List ℕ) → is_some (text_at t' path) ≡ is_some (text_at t path)) where
+  same_members : (q : List ℕ) → list_any (bytes_eq q) (paths_of t') ≡ list_any (bytes_eq q) (paths_of t)
+  same_members q = members t' q ∙ held q ∙ sym (members t q)
+
+  same_paths : paths_of t' ≡ paths_of t
+  unfolding paths_of
+  same_paths = ap keys (same_sets (marked (keys t'.disk ++ keys t'.opened)) (marked (keys t.disk ++ keys t.opened)) same_members)
+
+  pub held_units : (conf : Conf) → ((path : List ℕ) → is_unit_of t' conf path ≡ is_unit_of t conf path) → units t' conf ≡ units t conf
+  unfolding units
+  held_units conf same_test = λ i. take most_units (filter (λ path. same_test path i) (same_paths i))
+
 -- ---- what follows from the texts
 
 module _
@@ -48,20 +64,11 @@ module _
 
   pub same_meaning : (conf : Conf) (unit : List ℕ) → meaning t' conf unit ≡ meaning t conf unit
   unfolding meaning
-  same_meaning conf unit = λ i. meant_by (result_of (λ q. same_given q i) (unit_tokens (unit_conf conf unit)))
+  same_meaning conf unit = λ i. meaning_by (λ q. same_given q i) (unit_conf conf unit)
 
   pub same_questions : (conf : Conf) (unit : List ℕ) → questions t' conf unit ≡ questions t conf unit
   unfolding questions
   same_questions conf unit = λ i. asked (λ q. same_given q i) (unit_tokens (unit_conf conf unit))
 
-  same_members : (q : List ℕ) → list_any (bytes_eq q) (paths_of t') ≡ list_any (bytes_eq q) (paths_of t)
-  same_members q = members t' q ∙ ap is_some (same q) ∙ sym (members t q)
-
-  same_paths : paths_of t' ≡ paths_of t
-  unfolding paths_of
-  same_paths = ap keys (same_sets (marked (keys t'.disk ++ keys t'.opened)) (marked (keys t.disk ++ keys t.opened)) same_members)
-
-  module _ (conf : Conf) (same_test : (path : List ℕ) → is_unit_of t' conf path ≡ is_unit_of t conf path) where
-    pub same_units : units t' conf ≡ units t conf
-    unfolding units
-    same_units = λ i. take most_units (filter (λ path. same_test path i) (same_paths i))
+  pub same_units : (conf : Conf) → ((path : List ℕ) → is_unit_of t' conf path ≡ is_unit_of t conf path) → units t' conf ≡ units t conf
+  same_units conf same_test = held_units members t t' (λ path. ap is_some (same path)) conf same_test

@@ -5,7 +5,10 @@ pub mod Gathering
 pub mod Keys
 pub mod Lexed
 pub mod Listed
+pub mod OneUnit
+pub mod Ranging
 pub mod Sameness
+pub mod Spelling
 pub mod Told
 pub mod UnitsStay
 pub mod Usable

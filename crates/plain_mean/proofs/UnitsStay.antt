@@ -1,20 +1,22 @@
 -- Units that mean what they meant.
-use Rattle.std.proofs.Common.{◌≡◌, ℕ, Bool, true, false, not, ◌||◌, List, refl, sym, ap, ap₂, ◌∙◌}
+use Rattle.std.proofs.Common.{◌≡◌, ℕ, Bool, true, false, cond, not, ◌||◌, List, map, None, Some, unwrap_or, refl, sym, ap, ap₂, ◌∙◌}
 use Rattle.std.specs.List.{list_any}
 use Rattle.asking.specs.Asking.{IsLawful}
 use Rattle.asking.specs.LookUps.{result_of, asked}
 use Rattle.doc_texts.specs.Prior.{Prior, text_before}
 use Rattle.doc_texts.specs.Texts.{Texts, text_at}
-use Rattle.include_units.specs.Files.{Question, Exists, Text, Lines, files}
+use Rattle.include_units.specs.Files.{Question, Exists, Text, Lines, files, same as same_question}
+use Rattle.include_units.specs.Named.{tokens_named}
 use Rattle.include_units.specs.Units.{unit_tokens}
 use Rattle.project_conf.specs.declared.conf.Conf.{Conf}
 use Rattle.project_conf.specs.Entries.{unit_conf}
-use Rattle.plain_mean.specs.Given.{given}
-use Rattle.plain_mean.specs.Meanings.{meaning, meant_by}
+use Rattle.plain_mean.specs.Given.{given, tokens_over}
+use Rattle.plain_mean.specs.Meanings.{meaning, meaning_by, meant_by, meant_over}
 use Rattle.plain_mean.specs.Renewed.{IsGrounds, are_gone, differs, has_other, has_other_by, is_renewed, path_of, questions}
 use Rattle.plain_mean.specs.Same.{same_conf}
+use Rattle.plain_mean.specs.Spelled.{mark, told_path, told_tokens}
 use Rattle.plain_mean.specs.declared.types.Grounds.{Grounds}
-use Rattle.plain_mean.proofs.AskedSame.{stays}
+use Rattle.plain_mean.proofs.AskedSame.{answer_stays as asked_stays, stays}
 use Rattle.plain_mean.proofs.Sameness.{conf_is, no_other, not_false, said, says_same}
 
 given_said : (t : Texts) (q : Question) → given t q ≡ said (text_at t (path_of q)) q
@@ -51,9 +53,31 @@ module _ (lawful : IsLawful files) (t t' : Texts) (c c' : Conf) (unit : List ℕ
   unfolding questions
   runs = stays (given t) (given t') lawful (has_other t t') (answer_stays t t') (unit_tokens (unit_conf c unit)) parts.1
 
+  -- a text that was asked for has the tokens that it had
+  text_stays : (path : List ℕ) → list_any (same_question (Text path)) (questions t c unit) ≡ true → given t' (Text path) ≡ given t (Text path)
+  unfolding questions
+  text_stays path any = asked_stays (given t) (given t') lawful (has_other t t') (answer_stays t t') (unit_tokens (unit_conf c unit)) parts.1 (Text path) any
+
+  told_by : (path : List ℕ) (b : Bool) → list_any (same_question (Text path)) (questions t c unit) ≡ b →
+      told_tokens (given t') (cond b (Some path) None) ≡ told_tokens (given t) (cond b (Some path) None)
+  told_by path true any = text_stays path any
+  told_by path false any = refl
+
+  told_stays : (path : List ℕ) → told_tokens (given t') (told_path (questions t c unit) path) ≡ told_tokens (given t) (told_path (questions t c unit) path)
+  unfolding told_path
+  told_stays path = told_by path (list_any (same_question (Text path)) (questions t c unit)) refl
+
+  means_same : meaning_by (given t') (unit_conf c unit) ≡ meaning_by (given t) (unit_conf c unit)
+  unfolding meaning_by questions
+  means_same =
+      (λ i. meant_over (given t') (unit_conf c unit) (runs.1 i) (runs.0 i))
+      ∙ (λ i. meant_by
+      (map (mark (λ name. unwrap_or (tokens_named (unit_conf c unit).defines name) (told_stays name i))) (tokens_over t (unit_conf c unit)).spelled)
+      (tokens_over t (unit_conf c unit)))
+
   pub meaning_stays : meaning t' c' unit ≡ meaning t c unit
   unfolding meaning
-  meaning_stays = ap meant_by (ap (λ conf. result_of (given t') (unit_tokens conf)) (sym conf_stays) ∙ runs.0)
+  meaning_stays = ap (meaning_by (given t')) (sym conf_stays) ∙ means_same
 
   questions_stay : questions t' c' unit ≡ questions t c unit
   unfolding questions

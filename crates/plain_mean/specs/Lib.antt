@@ -1,5 +1,7 @@
 pub mod Confs
 pub mod Given
+pub mod Spelled
+pub mod Reads
 pub mod Messages
 pub mod Meanings
 pub mod TokenKinds
@@ -12,3 +14,5 @@ pub mod Changing
 pub mod Same
 pub mod Marks
 pub mod Gathered
+pub mod Ranges
+pub mod Collected

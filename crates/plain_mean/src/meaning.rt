@@ -7,10 +7,12 @@ ghost use Rattle.plain_mean.specs.Renewed.{IsGrounds};
 use crate::lexings::Lexings;
 use crate::messages::message;
 use crate::reading::Reading;
+use crate::spelled::spelled_marks;
 use crate::tokens::tokens_over;
 use crate::types::{Grounds, Meant, ShownFaults, UnitMeaning};
 use include_units::{Entered, UnitTokens};
 use item_readings::readings_exist;
+use scope_tables::Occ;
 use shared_list::Listing;
 use std::alloc::{AllocError, Global};
 use std::mem;
@@ -154,11 +156,35 @@ fn whole(
     Ok(meaning)
 }
 
-fn meant_by(alloc: Global, tokens: UnitTokens) -> Result<UnitMeaning, AllocError>
-    ensures { IfOk result (λ m. m ≡ spec.meant_by tokens) }
+fn followed(occs: Listing<Occ>, marks: Vec<Occ>) -> Result<Listing<Occ>, AllocError>
+    ensures { IfOk result (λ all. all ≡ occs ++ marks.items) }
+{
+    let mut all = occs.into_vec();
+    let mut behind = marks;
+    all.append(&mut behind)?;
+    Ok(Listing::from_vec(all))
+}
+
+// Puts these marks behind the occurrences.
+fn put_behind(
+    alloc: Global,
+    meaning: &mut scope_tables::UnitMeaning,
+    marks: Vec<Occ>,
+) -> Result<(), AllocError>
+    ensures { OnOk result (meaning.new ≡ spec.before marks.items meaning.old) }
+{
+    let occs = mem::replace(&mut meaning.occs, Listing::from_vec(Vec::new(alloc)));
+    let all = followed(occs, marks)?;
+    meaning.occs = all;
+    Ok(())
+}
+
+fn meant_by(alloc: Global, marks: Vec<Occ>, tokens: UnitTokens) -> Result<UnitMeaning, AllocError>
+    ensures { IfOk result (λ m. m ≡ spec.meant_by marks.items tokens) }
 {
     let entered = entries(alloc, tokens.entered.as_slice())?;
-    let meaning = whole(alloc, &tokens, &entered)?;
+    let mut meaning = whole(alloc, &tokens, &entered)?;
+    put_behind(alloc, &mut meaning, marks)?;
     Ok(UnitMeaning {
         meaning,
         reads: tokens.reads,
@@ -183,7 +209,8 @@ pub fn mean<L: Ledger>(
     steps.tick();
     let conf = reading.unit_conf(alloc, unit)?;
     let (tokens, asked) = tokens_over(alloc, lexings, &conf)?;
-    let meaning = meant_by(alloc, tokens)?;
+    let marks = spelled_marks(alloc, lexings, &conf, &asked, &tokens)?;
+    let meaning = meant_by(alloc, marks, tokens)?;
     Ok(Meant {
         meaning,
         grounds: Grounds { conf, asked },
