@@ -11,5 +11,5 @@ returns-clause-ranges c =
 
 pub returns-clause-can : goal.returns-clause-can
 returns-clause-can c = λ short up.
-    can_be_made c.args.docs.now c.args.path.now c.in_ok-lexed.lexed _ (numbers_at c.args.numbers.now c.args.path.now) c.in_ok-lexed.ensures c.in_ok-path.ensures
+    can_be_made c.args.docs.now c.args.path.now c.in_ok-lexed.lexed (record { path = c.in_ok-path.path; ranges = c.in_ok-ranges.ranges }) (numbers_at c.args.numbers.now c.args.path.now) c.in_ok-lexed.ensures c.in_ok-path.ensures
     (c.in_ok-ranges.ensures ∙ ap (λ ps. filter_map (range_at ps.places) (numbers_at c.args.numbers.now c.args.path.now)) c.in_ok-lexed.ensures.places) short up
