@@ -14,7 +14,7 @@ use Rattle.c_tokens.specs.Laws.{InOrder}
 use Rattle.c_tokens.specs.Lexed.{lexed}
 use Rattle.doc_texts.specs.Edited.{CanAllBeMade, CanBeMade, Stand, all_made, edited, with_edits}
 use Rattle.doc_texts.specs.Limits.{longest_text}
-use Rattle.doc_texts.specs.Texts.{PathSet, Texts, add_all, marked, text_at, version_at}
+use Rattle.doc_texts.specs.Texts.{PathSet, Texts, add_all, text_at, version_at}
 use Rattle.doc_texts.specs.declared.ranges.ByteRange.{ByteRange}
 use Rattle.doc_texts.specs.declared.ranges.TextEdits.{TextEdits}
 use Rattle.plain_mean.specs.Collected.{Ascend}

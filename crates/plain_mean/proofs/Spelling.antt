@@ -7,8 +7,8 @@ use Rattle.include_units.specs.Coming.{question}
 use Rattle.include_units.specs.Files.{Question, Text, same}
 use Rattle.include_units.specs.declared.types.Want.{Want}
 use Rattle.plain_mean.specs.Given.{given}
-use Rattle.plain_mean.specs.Reads.{AreRead, AreTold, path_in, tokens_in}
-use Rattle.plain_mean.specs.Spelled.{mark, mark_in, spelled_marks, told_path, told_tokens, tokens_read}
+use Rattle.plain_mean.specs.Reads.{AreRead, path_in, tokens_in}
+use Rattle.plain_mean.specs.Spelled.{mark, mark_in, spelled_marks, told_path, tokens_read}
 use Rattle.plain_mean.specs.declared.spelled.Held.{Held}
 use Rattle.plain_mean.specs.declared.spelled.Told.{Told}
 use Rattle.project_conf.specs.declared.options.Define.{Define}

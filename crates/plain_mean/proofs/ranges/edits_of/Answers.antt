@@ -1,4 +1,4 @@
-use Rattle.std.proofs.Common.{ℕ, List, map, ap, sym, subst, ◌++◌, ◌∙◌}
+use Rattle.std.proofs.Common.{map, ap, sym, subst, ◌++◌, ◌∙◌}
 use Rattle.std.specs.List.{filter_map}
 use Rattle.std.proofs.lemmas.List.{nil_from_length}
 use Rattle.c_tokens.specs.Lexed.{lexed}
