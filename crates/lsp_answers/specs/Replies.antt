@@ -1,5 +1,5 @@
 -- The bytes of each answer: JSON-RPC 2.0 in the base protocol of LSP 3.17.
-use Rattle.std.specs.Prelude.{◌≡◌, ℤ, List, ℕ, codes, Option, None, Some, true}
+use Rattle.std.specs.Prelude.{◌≡◌, ℤ, Bool, List, ℕ, codes, Option, None, Some, false, true}
 use Rattle.serde_json.specs.Data.{Data, null, boolean, number, string, object, unsigned, no_members, member}
 use Rattle.serde_json.specs.Find.{of_integer}
 use Rattle.serde_json.specs.Written.{compact_text}
@@ -43,16 +43,22 @@ encoding_name Utf8 = codes "utf-8"
 encoding_name Utf16 = codes "utf-16"
 encoding_name Utf32 = codes "utf-32"
 
+-- names are renamed, and where the client can ask for it, it is told beforehand whether one may be (LSP 3.17, RenameOptions)
+abbrev pub rename_provider : Bool → Data
+rename_provider true = object (member (codes "prepareProvider") (boolean true) no_members)
+rename_provider false = boolean true
+
 -- the result of `initialize`: which questions are answered, the encoding of positions, and that documents are opened, changed part by part, and
 -- closed
-abbrev pub initialize_result : Encoding → Data
-initialize_result encoding = object (member (codes "capabilities") (object
+abbrev pub initialize_result : Encoding → Bool → Data
+initialize_result encoding prepare = object (member (codes "capabilities") (object
     (member (codes "definitionProvider") (boolean true)
     (member (codes "documentSymbolProvider") (boolean true)
     (member (codes "hoverProvider") (boolean true)
     (member (codes "positionEncoding") (string (encoding_name encoding))
     (member (codes "referencesProvider") (boolean true)
-    (member (codes "textDocumentSync") (object (member (codes "change") (number (unsigned 2)) (member (codes "openClose") (boolean true) no_members))) no_members))))))) no_members)
+    (member (codes "renameProvider") (rename_provider prepare)
+    (member (codes "textDocumentSync") (object (member (codes "change") (number (unsigned 2)) (member (codes "openClose") (boolean true) no_members))) no_members)))))))) no_members)
 
 unfoldable pub response : Id → Data → List ℕ
 response id result = framed (compact_text (response_data (id_data id) result))

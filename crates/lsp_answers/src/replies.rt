@@ -3,7 +3,7 @@ ghost use Rattle.std.specs.Prelude.{◌≡◌, ◌++◌, false, option_map, IfOk
 ghost use Rattle.frame_form.specs.Written.{framed};
 ghost use Rattle.serde_json.specs.View.{view};
 ghost use Rattle.serde_json.specs.Written.{has_float, compact_text};
-ghost use Rattle.lsp_answers.specs.Replies.{id_data, id_or_null, response_data, error_data, log_data, response, error, log, encoding_name, initialize_result};
+ghost use Rattle.lsp_answers.specs.Replies.{id_data, id_or_null, response_data, error_data, log_data, response, error, log, encoding_name, rename_provider, initialize_result};
 
 use crate::framing::{framed, push_framed};
 use json_view::Id;
@@ -116,10 +116,24 @@ fn encoding_name(encoding: Encoding) -> &'static str
     }
 }
 
-/// The result of `initialize` (LSP 3.17, InitializeResult).
-pub fn initialize_result(alloc: Global, encoding: Encoding) -> Result<Value, AllocError>
-    ensures { IfOk result (λ v. view v ≡ initialize_result encoding) }
+fn rename_provider(alloc: Global, prepare: bool) -> Result<Value, AllocError>
+    ensures { IfOk result (λ v. view v ≡ rename_provider prepare) }
+{
+    if prepare {
+        return json!(in alloc; {"prepareProvider": true});
+    }
+    Ok(Value::Bool(true))
+}
+
+/// The result of `initialize` (LSP 3.17, InitializeResult), for a client that can ask whether a name may be renamed or that can't.
+pub fn initialize_result(
+    alloc: Global,
+    encoding: Encoding,
+    prepare: bool,
+) -> Result<Value, AllocError>
+    ensures { IfOk result (λ v. view v ≡ initialize_result encoding prepare) }
 {
     let name = encoding_name(encoding);
-    json!(in alloc; {"capabilities": {"definitionProvider": true, "documentSymbolProvider": true, "hoverProvider": true, "positionEncoding": name, "referencesProvider": true, "textDocumentSync": {"change": 2u8, "openClose": true}}})
+    let rename = rename_provider(alloc, prepare)?;
+    json!(in alloc; {"capabilities": {"definitionProvider": true, "documentSymbolProvider": true, "hoverProvider": true, "positionEncoding": name, "referencesProvider": true, "renameProvider": rename, "textDocumentSync": {"change": 2u8, "openClose": true}}})
 }
