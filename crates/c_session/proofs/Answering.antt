@@ -1,5 +1,5 @@
 -- A question is answered from what is kept.
-use Rattle.std.proofs.Common.{◌≡◌, ℕ, List, Result, Ok, Err, ap, sym, ◌∙◌}
+use Rattle.std.proofs.Common.{◌≡◌, ℕ, List, Result, Ok, ap, sym, ◌∙◌}
 use Rattle.serde_json.specs.Written.{compact_text}
 use Rattle.json_view.specs.declared.id.Id.{Id}
 use Rattle.lsp_answers.specs.Replies.{IsResponse}

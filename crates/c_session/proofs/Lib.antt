@@ -1,3 +1,4 @@
+pub mod Anewing
 pub mod Answering
 pub mod Asking
 pub mod Counting
@@ -26,4 +27,18 @@ pub mod Gathering
 pub mod Holding
 pub mod NoTexts
 pub mod Passing
+pub mod Offering
 pub mod Renewing
+pub mod Plans
+pub mod Bindings
+pub mod ShortTexts
+pub mod Mapped
+pub mod Viewing
+pub mod Placing
+pub mod Settling
+pub mod ReadBack
+pub mod Named
+pub mod TokenPlaces
+pub mod Standing
+pub mod AsAsked
+pub mod Preparing

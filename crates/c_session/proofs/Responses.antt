@@ -16,8 +16,12 @@ use Rattle.c_session.specs.Params.{FileChange, watching_in}
 use Rattle.c_session.specs.declared.params.FileChangeKind.{FileChangeKind}
 use Rattle.c_session.specs.Questions.{question_named, about_in}
 use Rattle.c_session.specs.declared.questions.QuestionKind.{QuestionKind}
-use Rattle.c_session.specs.React.{Outcome, tells, is_quiet, has_texts, invalid_request, method_not_found, invalid_params, server_not_initialized, rejects, refuses, did_open, did_change, did_close, Edited, opened_by, changed_by, closed_by, edits, closes, watches, Beginning, beginning_by, begins, starts, is_running, exit_status, answers, answered as said, asks_about, fresh_request, running_request, on_request, running_notification, on_notification, on_message, asks, Reaction, Replies, Wants, reaction, react}
+use Rattle.c_session.specs.React.{Outcome, tells, is_quiet, has_texts, invalid_request, method_not_found, invalid_params, server_not_initialized, rejects, refuses, did_open, did_change, did_close, Edited, opened_by, changed_by, closed_by, edits, closes, watches, Beginning, beginning_by, begins, starts, is_running, exit_status, answers, answered as said, asks_about, renames, settled, settles, fresh_request, running_request, on_request, running_notification, on_notification, on_message, asks, Reaction, Replies, Wants, reaction, react}
 use Rattle.c_session.specs.Reasons.{Reason, reason_text, by_params}
+use Rattle.c_session.specs.Renames.{Renaming, edits_of, rename_method, renaming_in}
+use Rattle.c_session.specs.Refused.{refusal_code, refusal_name}
+use Rattle.rename_core.specs.declared.confirming.Edits.{Edits}
+use Rattle.rename_core.specs.declared.error.RenameError.{RenameError}
 use Rattle.lsp_answers.specs.Replies.{response, error, log, initialize_result}
 use Rattle.c_session.specs.Responses.{IsResponse, HasResult, HasError, AreNotices, IsResponded, IsAnswered, IsExit, is_edit, IsRefusal, Fails, Logs}
 use Rattle.c_session.specs.Shown.{publications, database_logs}
@@ -86,27 +90,27 @@ answered s s' id result = record {
   kept = λ is. absurd (no_error id result [] is.0 is.1.0 is.1.1.0 (append-nil (response id result) ∙ is.1.1.1));
 }
 
-begun : (s : State) (id : Id) (encoding : Encoding) (l : Loading) → Logged l → Responds s id (begins s id encoding l)
-begun s id encoding l logged =
-    let answer = response id (initialize_result encoding) in
+begun : (s : State) (id : Id) (encoding : Encoding) (prepare : Bool) (l : Loading) → Logged l → Responds s id (begins s id encoding prepare l)
+begun s id encoding prepare l logged =
+    let answer = response id (initialize_result encoding prepare) in
     let s' : State = record { options = s.options; texts = l.texts; encoding = encoding; phase = Running } in
     let shown = database_logs s s' ++ publications [] s s' in
     record {
       answers = record {
         first = answer;
         rest = l.logs ++ shown;
-        responds = HasResult id (initialize_result encoding) refl refl;
+        responds = HasResult id (initialize_result encoding prepare) refl refl;
         notices = more_notices l.logs shown logged (tidings_notices [] s s');
         joined = append_assoc answer l.logs shown;
       };
       goes_on = refl;
-      kept = λ is. absurd (no_error id (initialize_result encoding) (l.logs ++ shown) is.0 is.1.0 is.1.1.0 (sym (append_assoc answer l.logs shown) ∙ is.1.1.1));
+      kept = λ is. absurd (no_error id (initialize_result encoding prepare) (l.logs ++ shown) is.0 is.1.0 is.1.1.0 (sym (append_assoc answer l.logs shown) ∙ is.1.1.1));
     }
 
 starts_responds : (s : State) (id : Id) (r : Result Beginning Reason) → Each (Responds s id) (starts s id r)
 starts_responds s id (Ok b) =
-    each_then Logged (Responds s id) (loads_root b.root) (λ l. Gives (begins s id b.encoding l)) (root_logged b.root)
-    (λ l logged. begun s id b.encoding l logged)
+    each_then Logged (Responds s id) (loads_root b.root) (λ l. Gives (begins s id b.encoding b.prepare l)) (root_logged b.root)
+    (λ l logged. begun s id b.encoding b.prepare l logged)
 starts_responds s id (Err r) = rejected s id invalid_params (reason_text r)
 
 fresh_responds : (s : State) (id : Id) (method : List ℕ) (params : Option Data) →
@@ -124,6 +128,14 @@ question_responds : (s : State) (id : Id) (kind : Option QuestionKind) (params :
 question_responds s id None params = rejected s id method_not_found (codes "unknown method")
 question_responds s id (Some kind) params = answers_respond s id (said s (about_in kind params))
 
+settled_responds : (s : State) (id : Id) (r : Result Edits RenameError) → Responds s id (settles s id r)
+settled_responds s id (Ok e) = answered s s id (edits_of s.texts s.encoding e)
+settled_responds s id (Err e) = rejected s id (refusal_code e) (refusal_name e)
+
+rename_responds : (s : State) (id : Id) (r : Result Renaming Reason) → Responds s id (renames s id r)
+rename_responds s id (Ok r) = settled_responds s id (settled s r)
+rename_responds s id (Err r) = rejected s id invalid_params (reason_text r)
+
 running_responds : (s : State) (id : Id) (method : List ℕ) (params : Option Data) → Responds s id (running_request s id method params)
 unfolding running_request
 running_responds s id method params =
@@ -131,7 +143,9 @@ running_responds s id method params =
     (rejected s id invalid_request (codes "already initialized"))
     (either (Responds s id) (bytes_eq method (codes "shutdown")) _ _
     (answered s (in_phase Down s) id null)
-    (question_responds s id (question_named method) params))
+    (either (Responds s id) (bytes_eq method rename_method) _ _
+    (rename_responds s id (renaming_in params))
+    (question_responds s id (question_named method) params)))
 
 request_responds : (phase : Phase) (s : State) (id : Id) (method : List ℕ) (params : Option Data) →
     Each (Responds s id) (on_request phase s id method params)

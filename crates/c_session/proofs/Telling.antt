@@ -1,5 +1,5 @@
 -- What the reply to a message is made of.
-use Rattle.std.proofs.Common.{◌≡◌, ◌≢◌, ℕ, List, [], ◌++◌, Option, Some, Result, Ok, Err, true, is_some, T, IfOk, refl, sym, ap, ◌∙◌, subst, codes}
+use Rattle.std.proofs.Common.{◌≡◌, ◌≢◌, ℕ, Bool, List, [], ◌++◌, Option, Some, Result, Ok, Err, true, is_some, T, IfOk, refl, sym, ap, ◌∙◌, subst, codes}
 use Rattle.std.specs.Cmp.Lexicographic.{slice_cmp}
 use Rattle.std.specs.FinMap.{empty, get-empty}
 use Rattle.std.specs.Ordering.{nat_cmp}
@@ -233,24 +233,24 @@ watched_then s s' changes bytes logs before after prior old new reached settings
 
 -- the session began
 pub began_then : (s s' : State) (id : Id) (meant : Result Beginning Reason) (b : Beginning) (l : Loading) (bytes : List ℕ) (old new : Option (List Entry)) →
-    meant ≡ Ok b → Reached (loads_root b.root) (Gives l) old new → begins s id b.encoding l ≡ tells s' bytes → Reached (starts s id meant) (Gives (tells s' bytes)) old new
+    meant ≡ Ok b → Reached (loads_root b.root) (Gives l) old new → begins s id b.encoding b.prepare l ≡ tells s' bytes → Reached (starts s id meant) (Gives (tells s' bytes)) old new
 began_then s s' id meant b l bytes old new meets reached is =
     subst (λ m. Reached (starts s id m) (Gives (tells s' bytes)) old new) (sym meets)
     (subst (λ o. Reached (starts s id (Ok b)) (Gives o) old new) is
-    (goes_then (loads_root b.root) (Gives l) old new (λ x. Gives (begins s id b.encoding x)) reached))
+    (goes_then (loads_root b.root) (Gives l) old new (λ x. Gives (begins s id b.encoding b.prepare x)) reached))
 
 pub began_refused : (s : State) (id : Id) (meant : Result Beginning Reason) (b : Beginning) (old new : Option (List Entry)) (faults faults' : ℕ) (e : SessionError) →
     meant ≡ Ok b → Refused e (loads_root b.root) old new faults faults' → Refused e (starts s id meant) old new faults faults'
 began_refused s id meant b old new faults faults' e meets h =
     subst (λ m. Refused e (starts s id m) old new faults faults') (sym meets)
-    (refused_then (loads_root b.root) old new faults faults' (λ x. Gives (begins s id b.encoding x)) e h)
+    (refused_then (loads_root b.root) old new faults faults' (λ x. Gives (begins s id b.encoding b.prepare x)) e h)
 
 -- memory was wanted once the files were loaded
 pub began_wants : (s : State) (id : Id) (meant : Result Beginning Reason) (b : Beginning) (l : Loading) (old new : Option (List Entry)) →
     meant ≡ Ok b → Reached (loads_root b.root) (Gives l) old new → GaveUp (starts s id meant) old new
 began_wants s id meant b l old new meets reached =
     subst (λ m. GaveUp (starts s id m) old new) (sym meets)
-    (gave_up (goes_then (loads_root b.root) (Gives l) old new (λ x. Gives (begins s id b.encoding x)) reached))
+    (gave_up (goes_then (loads_root b.root) (Gives l) old new (λ x. Gives (begins s id b.encoding b.prepare x)) reached))
 
 -- ---- the same, as the calls have it: an empty list of logs, a response, and nothing remembered at first
 
@@ -311,20 +311,20 @@ closes_tells s s1 s' meant path bytes before after prior0 prior old new meets se
 abbrev pub begun : State → Texts → Encoding → State
 begun s docs encoding = record { options = s.options; texts = docs; encoding = encoding; phase = Running }
 
-begins_at_told : (s : State) (id : Id) (encoding : Encoding) (docs : Texts) (logs shown response bytes : List ℕ) (before after : ByPath) (prior : Prior) (d : Data) →
-    IsPrior s.texts prior docs → ShowsAll s before → ShowsAll (begun s docs encoding) after → d ≡ initialize_result encoding → response ≡ Replies.response id d → shown ≡ logs →
-    bytes ≡ (response ++ shown) ++ tidings [] encoding before after prior docs → begins s id encoding (loaded_with docs logs) ≡ tells (begun s docs encoding) bytes
-begins_at_told s id encoding docs logs shown response bytes before after prior d is was are same_data same_response same wrote =
+begins_at_told : (s : State) (id : Id) (encoding : Encoding) (prepare : Bool) (docs : Texts) (logs shown response bytes : List ℕ) (before after : ByPath) (prior : Prior) (d : Data) →
+    IsPrior s.texts prior docs → ShowsAll s before → ShowsAll (begun s docs encoding) after → d ≡ initialize_result encoding prepare → response ≡ Replies.response id d → shown ≡ logs →
+    bytes ≡ (response ++ shown) ++ tidings [] encoding before after prior docs → begins s id encoding prepare (loaded_with docs logs) ≡ tells (begun s docs encoding) bytes
+begins_at_told s id encoding prepare docs logs shown response bytes before after prior d is was are same_data same_response same wrote =
     ap (tells (begun s docs encoding))
-    (ap (λ (b : List ℕ). (Replies.response id (initialize_result encoding) ++ logs) ++ b) (sym (news_told s (begun s docs encoding) prior before after is was are))
+    (ap (λ (b : List ℕ). (Replies.response id (initialize_result encoding prepare) ++ logs) ++ b) (sym (news_told s (begun s docs encoding) prior before after is was are))
     ∙ sym (wrote ∙ ap (λ (r : List ℕ). (r ++ shown) ++ tidings [] encoding before after prior docs) (same_response ∙ ap (Replies.response id) same_data)
-    ∙ ap (λ (l : List ℕ). (Replies.response id (initialize_result encoding) ++ l) ++ tidings [] encoding before after prior docs) same))
+    ∙ ap (λ (l : List ℕ). (Replies.response id (initialize_result encoding prepare) ++ l) ++ tidings [] encoding before after prior docs) same))
 
-pub begins_tells : (s s' : State) (id : Id) (encoding : Encoding) (docs : Texts) (logs shown response bytes : List ℕ) (before after : ByPath) (prior : Prior) (d : Data) →
-    s' ≡ begun s docs encoding → IsPrior s.texts prior docs → ShowsAll s before → ShowsAll s' after → d ≡ initialize_result encoding → response ≡ Replies.response id d → shown ≡ logs →
-    bytes ≡ (response ++ shown) ++ tidings [] encoding before after prior docs → begins s id encoding (loaded_with docs logs) ≡ tells s' bytes
-begins_tells s s' id encoding docs logs shown response bytes before after prior d now is was are same_data same_response same wrote =
-    begins_at_told s id encoding docs logs shown response bytes before after prior d is was (subst (λ x. ShowsAll x after) now are) same_data same_response same wrote
+pub begins_tells : (s s' : State) (id : Id) (encoding : Encoding) (prepare : Bool) (docs : Texts) (logs shown response bytes : List ℕ) (before after : ByPath) (prior : Prior) (d : Data) →
+    s' ≡ begun s docs encoding → IsPrior s.texts prior docs → ShowsAll s before → ShowsAll s' after → d ≡ initialize_result encoding prepare → response ≡ Replies.response id d → shown ≡ logs →
+    bytes ≡ (response ++ shown) ++ tidings [] encoding before after prior docs → begins s id encoding prepare (loaded_with docs logs) ≡ tells s' bytes
+begins_tells s s' id encoding prepare docs logs shown response bytes before after prior d now is was are same_data same_response same wrote =
+    begins_at_told s id encoding prepare docs logs shown response bytes before after prior d is was (subst (λ x. ShowsAll x after) now are) same_data same_response same wrote
     ∙ ap (λ x. tells x bytes) (sym now)
 
 -- changes whose params are refused

@@ -7,6 +7,7 @@ use Rattle.unit_index.specs.Known.{Known}
 use Rattle.c_session.specs.Definition.{definition}
 use Rattle.c_session.specs.Hover.{hover}
 use Rattle.c_session.specs.References.{references}
+use Rattle.c_session.specs.Renamable.{renamable}
 use Rattle.c_session.specs.Symbols.{symbols}
 use Rattle.c_session.specs.declared.question.Question.{Question}
 use Rattle.c_session.specs.declared.question.Question.TheVariants as question
@@ -16,3 +17,4 @@ answer us texts encoding path (question.Hover pos) = hover us texts encoding pat
 answer us texts encoding path (question.Definition pos) = definition us texts encoding path pos
 answer us texts encoding path (question.References pos declarations) = references us texts encoding path pos declarations
 answer us texts encoding path question.Symbols = symbols us texts encoding path
+answer us texts encoding path (question.Renamable pos) = renamable us texts encoding path pos

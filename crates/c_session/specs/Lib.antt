@@ -20,7 +20,14 @@ pub mod Places
 pub mod Hover
 pub mod Definition
 pub mod References
+pub mod Renamable
+pub mod Renames
 pub mod Symbols
 pub mod Answered
 pub mod Kept
 pub mod Renewal
+pub mod Classed
+pub mod Outcomes
+pub mod Keeping
+pub mod Refused
+pub mod ReadBack

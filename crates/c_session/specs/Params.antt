@@ -1,6 +1,6 @@
 -- The params of messages (LSP 3.17): what their members are read as, or the first refusal that they show, where members are
 -- read in the order in which they stand here.
-use Rattle.std.specs.Prelude.{ℕ, ◌==◌, ℤ, List, [], ◌∷◌, codes, Option, Some, None, unwrap_or, option_and_then, Result, Ok, Err, if◌then◌else◌}
+use Rattle.std.specs.Prelude.{ℕ, ◌==◌, ℤ, Bool, false, List, [], ◌∷◌, codes, Option, Some, None, unwrap_or, option_and_then, Result, Ok, Err, if◌then◌else◌}
 use Rattle.std.specs.Option.{option_or}
 use Rattle.std.specs.Str.{bytes_eq}
 use Rattle.serde_json.specs.Data.{Data, null, boolean, number, string, array, object, no_members}
@@ -11,7 +11,7 @@ use Rattle.text_lines.specs.declared.encoding.Encoding.TheVariants.{Utf8, Utf16,
 use Rattle.text_lines.specs.declared.pos.Pos.{Pos}
 use Rattle.json_view.specs.Refusals.{Refusal, OutOfRange, and_then}
 use Rattle.json_view.specs.Kinds.{text_in, array_in}
-use Rattle.json_view.specs.Members.{object_in, text_of, i32_of, u32_of, object_of, array_of, start_and_end}
+use Rattle.json_view.specs.Members.{object_in, text_of, bool_of, i32_of, u32_of, object_of, array_of, start_and_end}
 use Rattle.c_session.specs.declared.params.FileChangeKind.{FileChangeKind}
 use Rattle.c_session.specs.declared.params.FileChangeKind.TheVariants.{Created, Changed, Deleted}
 
@@ -153,15 +153,30 @@ abbrev pub chosen : Result (List Data) Refusal → Encoding
 chosen (Ok offers) = unwrap_or (first_named offers) Utf16
 chosen (Err refusal) = Utf16
 
+-- whether the client can ask if a name may be renamed (LSP 3.17, RenameClientCapabilities)
+abbrev pub support_in : Data → Result Bool Refusal
+support_in d =
+    and_then (object_of (codes "capabilities") d) (λ capabilities.
+    and_then (object_of (codes "textDocument") capabilities) (λ document.
+    and_then (object_of (codes "rename") document) (λ rename.
+    bool_of (codes "prepareSupport") rename)))
+
+-- it can't, where nothing that can be read says so
+abbrev pub can_prepare : Result Bool Refusal → Bool
+can_prepare (Ok can) = can
+can_prepare (Err refusal) = false
+
 -- what a session begins with (LSP 3.17, InitializeParams)
 pub record Starting : Type 0 where
   -- the URI of the root, else of the first folder
   pub root : Option (List ℕ)
   pub encoding : Encoding
+  -- the client can ask whether a name may be renamed
+  pub prepare : Bool
 
 unfoldable pub starting_in : Option Data → Result Starting Refusal
 starting_in params =
     and_then (params_of params) (λ d.
     and_then (root_uri_in d) (λ root.
     and_then (folder_uris_in d) (λ folders.
-    Ok (record { root = option_or root (first_of folders); encoding = chosen (offers_in d) }))))
+    Ok (record { root = option_or root (first_of folders); encoding = chosen (offers_in d); prepare = can_prepare (support_in d) }))))

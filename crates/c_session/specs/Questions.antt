@@ -21,7 +21,8 @@ question_named method =
     else (if bytes_eq method (codes "textDocument/definition") then Some kind.Definition
     else (if bytes_eq method (codes "textDocument/references") then Some kind.References
     else (if bytes_eq method (codes "textDocument/documentSymbol") then Some kind.Symbols
-    else None)))
+    else (if bytes_eq method (codes "textDocument/prepareRename") then Some kind.Renamable
+    else None))))
 
 -- a position in a document (LSP 3.17, TextDocumentPositionParams)
 abbrev pub position_in : Option Data → Result Pos Refusal
@@ -42,6 +43,7 @@ question_in kind.References params =
     and_then (declarations_in params) (λ declarations.
     Ok (question.References pos declarations)))
 question_in kind.Symbols params = Ok question.Symbols
+question_in kind.Renamable params = and_then (position_in params) (λ pos. Ok (question.Renamable pos))
 
 -- a question about the file that a URI names
 pub record Asked : Type 0 where

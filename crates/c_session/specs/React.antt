@@ -14,7 +14,12 @@ use Rattle.c_session.specs.Message.{Message, NotJson, Batch, NotObject, Ignored,
 use Rattle.json_view.specs.declared.id.Id.{Id}
 use Rattle.c_session.specs.Params.{FileChange, opening_in, changing_in, closing_in, watching_in, starting_in}
 use Rattle.c_session.specs.Questions.{question_named, about_in}
+use Rattle.c_session.specs.Positions.{token_at}
 use Rattle.c_session.specs.Reasons.{Reason, reason_text, by_params, by_uri, by_texts, if_ok}
+use Rattle.c_session.specs.Renames.{Renaming, rename_method, renaming_in, outcome_at, edits_of}
+use Rattle.c_session.specs.Refused.{refusal_code, refusal_name}
+use Rattle.rename_core.specs.declared.confirming.Edits.{Edits}
+use Rattle.rename_core.specs.declared.error.RenameError.{RenameError}
 use Rattle.lsp_answers.specs.Replies.{response, error, log, initialize_result}
 use Rattle.c_session.specs.Shown.{conf_in, publications, database_logs}
 use Rattle.c_session.specs.State.{State, in_phase, with_texts}
@@ -127,10 +132,11 @@ watches s (Err r) = Gives (refuses s did_change_watched (reason_text r))
 
 -- ---- the beginning
 
--- what `initialize` states: the root and the encoding
+-- what `initialize` states: the root and the encoding, and whether the client can ask if a name may be renamed
 pub record Beginning : Type 0 where
   pub root : Option (List ℕ)
   pub encoding : Encoding
+  pub prepare : Bool
 
 -- the path of the root, where there is one
 abbrev pub root_by : Option (List ℕ) → Result (Option (List ℕ)) Reason
@@ -141,18 +147,18 @@ unfoldable pub beginning_by : Option Data → Result Beginning Reason
 beginning_by params =
     if_ok (by_params (starting_in params)) (λ starting.
     if_ok (root_by starting.root) (λ root.
-    Ok (record { root = root; encoding = starting.encoding })))
+    Ok (record { root = root; encoding = starting.encoding; prepare = starting.prepare })))
 
 -- the session begins with these texts
-abbrev pub begins : State → Id → Encoding → Loading → Outcome
-begins s id encoding l =
-    has_texts s (record { options = s.options; texts = l.texts; encoding = encoding; phase = Running }) (response id (initialize_result encoding)) l.logs []
+abbrev pub begins : State → Id → Encoding → Bool → Loading → Outcome
+begins s id encoding prepare l =
+    has_texts s (record { options = s.options; texts = l.texts; encoding = encoding; phase = Running }) (response id (initialize_result encoding prepare)) l.logs []
 
-abbrev pub begins_at : State → Id → Encoding → Option (List ℕ) → Asking Outcome
-begins_at s id encoding root = and_then (loads_root root) (λ l. Gives (begins s id encoding l))
+abbrev pub begins_at : State → Id → Encoding → Bool → Option (List ℕ) → Asking Outcome
+begins_at s id encoding prepare root = and_then (loads_root root) (λ l. Gives (begins s id encoding prepare l))
 
 abbrev pub starts : State → Id → Result Beginning Reason → Asking Outcome
-starts s id (Ok b) = begins_at s id b.encoding b.root
+starts s id (Ok b) = begins_at s id b.encoding b.prepare b.root
 starts s id (Err r) = Gives (rejects s (Some id) invalid_params (reason_text r))
 
 -- ---- questions
@@ -172,6 +178,19 @@ answers s id (Err r) = rejects s (Some id) invalid_params (reason_text r)
 abbrev pub asks_about : State → Id → Option QuestionKind → Option Data → Outcome
 asks_about s id None params = rejects s (Some id) method_not_found (codes "unknown method")
 asks_about s id (Some kind) params = answers s id (answered s (about_in kind params))
+
+-- ---- renames
+
+abbrev pub settles : State → Id → Result Edits RenameError → Outcome
+settles s id (Ok e) = tells s (response id (edits_of s.texts s.encoding e))
+settles s id (Err e) = rejects s (Some id) (refusal_code e) (refusal_name e)
+
+abbrev pub settled : State → Renaming → Result Edits RenameError
+settled s r = outcome_at s.texts (conf_in s) (token_at s.texts s.encoding r.path r.pos) r.new_name
+
+abbrev pub renames : State → Id → Result Renaming Reason → Outcome
+renames s id (Ok r) = settles s id (settled s r)
+renames s id (Err r) = rejects s (Some id) invalid_params (reason_text r)
 
 -- ---- messages
 
@@ -195,7 +214,8 @@ unfoldable pub running_request : State → Id → List ℕ → Option Data → O
 running_request s id method params =
     if bytes_eq method (codes "initialize") then rejects s (Some id) invalid_request (codes "already initialized")
     else (if bytes_eq method (codes "shutdown") then tells (in_phase Down s) (response id null)
-    else asks_about s id (question_named method) params)
+    else (if bytes_eq method rename_method then renames s id (renaming_in params)
+    else asks_about s id (question_named method) params))
 
 abbrev pub on_request : Phase → State → Id → List ℕ → Option Data → Asking Outcome
 on_request Fresh s id method params = fresh_request s id method params

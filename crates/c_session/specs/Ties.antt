@@ -7,3 +7,4 @@ pub mod Refused
 pub mod Seen
 pub mod SeenParams
 pub mod Sessions
+pub mod Renamings

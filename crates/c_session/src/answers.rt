@@ -15,6 +15,7 @@ use crate::analysis::Analysis;
 use crate::located::{all_symbols, mentions, range_in};
 use crate::positions::token_at;
 use crate::question::Question;
+use crate::renamable::renamable_at;
 use doc_texts::Docs;
 use lsp_answers::{JsonText, Located, hover, locations};
 use serde_json::Value;
@@ -23,7 +24,7 @@ use text_lines::{Encoding, Pos};
 use unit_index::{Speaker, definition, hover_text, references, speaking};
 use uri_paths::Path;
 
-fn null_text(alloc: Global) -> Result<JsonText, AllocError>
+pub(crate) fn null_text(alloc: Global) -> Result<JsonText, AllocError>
     ensures { IfOk result (λ t. t ≡ compact_text null) }
 {
     JsonText::of(alloc, &Value::Null)
@@ -135,7 +136,7 @@ fn symbols_of(
 }
 
 /// The answer to a question about the file at a path, as the text of its value: of a hover null or what the first unit that mentions the token
-/// says; of a definition null or an array of places; of references and symbols an array, in order of path, then place. A path without a text
+/// says; of a definition null or an array of places; of whether a name may be renamed null or its range and spelling; of references and symbols an array, in order of path, then place. A path without a text
 /// denotes nothing. No unit is worked out. The cost is a look-up a unit, and for each place that is answered a look-up of its file and the
 /// length of its line; a text that no unit reads is lexed where a position in it is asked for. It fails for want of memory alone.
 pub fn answer(
@@ -155,5 +156,6 @@ pub fn answer(
             references_to(kept, docs, encoding, path, pos, declarations)
         }
         Question::Symbols => symbols_of(kept, docs, encoding, path),
+        Question::Renamable(pos) => renamable_at(kept, docs, encoding, path, pos),
     }
 }

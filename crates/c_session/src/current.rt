@@ -1,9 +1,11 @@
 // What the server keeps between two contents, and its reaction to a message.
 ghost use Rattle.std.specs.Prelude.{◌≡◌, ◌≢◌, ◌+◌, ◌++◌, ◌<◌, ◌^◌, ℕ, List, [], length, None, Some, Ok, IfOk, IfErr, OnOk, option_map, map, codes};
 ghost use Rattle.serde_json.specs.View.{view};
+ghost use Rattle.doc_texts.specs.Short.{AllShort};
+ghost use Rattle.doc_texts.specs.Texts.{texts_under};
 ghost use Rattle.c_session.specs.Asking.{Gives};
 ghost use Rattle.c_session.specs.Counts.{counts_of};
-ghost use Rattle.c_session.specs.Handled.{Reached, IsWork};
+ghost use Rattle.c_session.specs.Handled.{Reached, IsWork, running_work};
 ghost use Rattle.c_session.specs.Ties.Interrupted.{Refused};
 ghost use Rattle.c_session.specs.React.{tells, edits, opened_by, changed_by, closed_by, closes, watches, starts, beginning_by, begins, did_open, did_change, running_notification, fresh_request, on_request, on_notification, on_other, on_message, rejects, invalid_params};
 ghost use Rattle.c_session.specs.Params.{watching_in};
@@ -21,7 +23,7 @@ ghost use Rattle.plain_mean.specs.Confs.{IsUsable};
 ghost use Rattle.lsp_answers.specs.Replies.{log, error};
 ghost use Rattle.c_session.specs.Ties.SeenParams.{seen_file_change};
 ghost use Rattle.c_session.specs.Ties.Seen.{seen};
-ghost use Rattle.c_session.specs.Ties.Sessions.{current_state, loading, outcome_of, IsKept, WereKept, Renews, Works};
+ghost use Rattle.c_session.specs.Ties.Sessions.{current_state, loading, outcome_of, IsKept, WereKept, Renews, Works, WorksBeside};
 ghost use Rattle.c_session.specs.Shown.{conf_in};
 ghost use Rattle.c_session.specs.State.{fresh};
 ghost use Rattle.c_session.specs.declared.phase.Phase.TheVariants.{Fresh};
@@ -116,6 +118,13 @@ impl Current {
             phase: Phase::Fresh,
             kept: Analysis::new(alloc),
         }
+    }
+
+    /// The texts are dropped, as behind an error, where nothing is told of them.
+    pub fn forget(&mut self)
+        ensures { self.new.docs ≡ texts_under None }
+    {
+        self.docs = Docs::new(self.alloc, None);
     }
 
     /// The log message for a notification that is refused.
@@ -245,6 +254,7 @@ impl Current {
         ensures kept { OnOk result (IsKept self.new) }
         ensures steps { OnOk result (steps.new ≡ steps.old + length (units self.old.docs (conf_in (current_state self.old)))) }
         ensures same { OnOk result (current_state self.new ≡ current_state self.old) }
+        ensures docs { self.new.docs ≡ self.old.docs }
     {
         let conf = self.conf_now()?;
         self.kept = analysed(self.alloc, &self.docs, &conf, steps)?;
@@ -435,22 +445,24 @@ impl Current {
     }
 
     /// The session begins with these texts: it answers `initialize`, and publishes what they show.
+    #[tactic(auto, using(crate::proofs::Floats::initialize_has_none))]
     fn begin<L: Ledger>(
         &mut self,
         id: &Id,
         encoding: Encoding,
+        prepare: bool,
         loaded: Loaded,
         steps: &mut Steps<L>,
     ) -> Result<Vec<u8>, AllocError>
         requires kept { IsKept self.old }
         requires fresh { self.old.phase ≡ Fresh }
-        ensures told { IfOk result (λ v. begins (current_state self.old) id.now encoding (loading loaded.docs loaded.logs.items) ≡ tells (current_state self.new) v.items) }
+        ensures told { IfOk result (λ v. begins (current_state self.old) id.now encoding prepare (loading loaded.docs loaded.logs.items) ≡ tells (current_state self.new) v.items) }
         ensures kept { OnOk result (IsKept self.new) }
         ensures steps { OnOk result (Works (current_state self.old) (current_state self.new) steps.old steps.new) }
     {
         let Loaded { docs, logs } = loaded;
         let prior = prior_of(self.alloc, &self.docs, &docs)?;
-        let answer = initialize_result(self.alloc, encoding)?;
+        let answer = initialize_result(self.alloc, encoding, prepare)?;
         let bytes = response(self.alloc, id, answer)?;
         self.docs = docs;
         self.encoding = encoding;
@@ -487,12 +499,16 @@ impl Current {
                 }
             }
         };
-        let Beginning { root, encoding } = beginning;
+        let Beginning {
+            root,
+            encoding,
+            prepare,
+        } = beginning;
         let loaded = match load_root(self.alloc, root, store) {
             Ok(loaded) => loaded,
             Err(error) => return Err(error),
         };
-        match self.begin(id, encoding, loaded, steps) {
+        match self.begin(id, encoding, prepare, loaded, steps) {
             Ok(bytes) => Ok(bytes),
             Err(_) => Err(SessionError::NoMemory),
         }
@@ -536,15 +552,16 @@ impl Current {
     ) -> Result<Vec<u8>, SessionError>
         requires store { D.faults store.old + 1 < 2 ^ 64 }
         requires kept { IsKept self.old }
+        requires short { AllShort self.old.docs }
         ensures handled { IfOk result (λ v. Reached (on_request self.old.phase (current_state self.old) id.now method.now (option_map (λ v. view v.now) params.entry)) (Gives (tells (current_state self.new) v.items)) (D.answers store.old) (D.answers store.new)) }
         ensures kept { OnOk result (IsKept self.new) }
-        ensures steps { OnOk result (Works (current_state self.old) (current_state self.new) steps.old steps.new) }
+        ensures steps { OnOk result (WorksBeside (running_work self.old.phase (current_state self.old) method.now (option_map (λ v. view v.now) params.entry)) (current_state self.old) (current_state self.new) steps.old steps.new) }
         ensures counted { OnOk result (D.faults store.new ≡ D.faults store.old) }
         ensures refused { IfErr result (λ e. Refused e (on_request self.old.phase (current_state self.old) id.now method.now (option_map (λ v. view v.now) params.entry)) (D.answers store.old) (D.answers store.new) (D.faults store.old) (D.faults store.new)) }
     {
         match self.phase {
             Phase::Fresh => self.on_fresh_request(id, method, params, store, steps),
-            Phase::Running => match self.on_running_request(id, method, params) {
+            Phase::Running => match self.on_running_request(id, method, params, steps) {
                 Ok(bytes) => Ok(bytes),
                 Err(_) => Err(SessionError::NoMemory),
             },
@@ -656,9 +673,10 @@ impl Current {
     ) -> Result<Reply, SessionError>
         requires store { D.faults store.old + 1 < 2 ^ 64 }
         requires kept { IsKept self.old }
+        requires short { AllShort self.old.docs }
         ensures handled { IfOk result (λ reply. Reached (on_message (current_state self.old) (seen message.now)) (Gives (outcome_of self.new reply)) (D.answers store.old) (D.answers store.new)) }
         ensures kept { OnOk result (IsKept self.new) }
-        ensures steps { OnOk result (IsWork (current_state self.old) (current_state self.new) steps.old steps.new) }
+        ensures steps { OnOk result (IsWork (seen message.now) (current_state self.old) (current_state self.new) steps.old steps.new) }
         ensures counted { OnOk result (D.faults store.new ≡ D.faults store.old) }
         ensures refused { IfErr result (λ e. Refused e (on_message (current_state self.old) (seen message.now)) (D.answers store.old) (D.answers store.new) (D.faults store.old) (D.faults store.new)) }
     {

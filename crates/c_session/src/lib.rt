@@ -3,11 +3,13 @@
 
 mod analysis;
 mod answers;
+mod classed;
 mod counts;
 mod cross;
 mod current;
 mod diagnostics;
 mod documents;
+mod editing;
 mod error;
 mod files;
 mod held;
@@ -23,10 +25,16 @@ mod question;
 mod questions;
 mod reasons;
 mod refusals;
+mod refused;
+mod renamable;
+mod rename_laws;
+mod renames;
+mod renaming;
 mod renewal;
 mod session;
 mod showing;
 mod starting;
+mod text_kinds;
 mod unrenewed;
 mod watching;
 mod words;
@@ -41,4 +49,8 @@ pub use laws::{
 };
 pub use phase::Phase;
 pub use question::Question;
+pub use rename_laws::{
+    edits_are_as_asked, edits_are_read_back, edits_stand_apart, names_are_short,
+    plans_are_as_prepared, renames_keep_bindings,
+};
 pub use session::Session;

@@ -8,10 +8,12 @@ ghost use Rattle.serde_json.specs.View.{view};
 ghost use Rattle.json_view.specs.Members.{object_in, array_of};
 ghost use Rattle.json_view.specs.Refusals.{NoMemory, seen, and_then};
 ghost use Rattle.c_session.specs.Params.{given, each_in, params_of, document_in, opening_in, closing_in, change_range, change_in, changing_in, kind_in, file_change_in, watching_in};
-ghost use Rattle.c_session.specs.Params.{root_uri_in, folder_uri_in, folder_uris_in, first_of, encoding_named, first_named, offers_in, chosen, starting_in};
+ghost use Rattle.c_session.specs.Params.{root_uri_in, folder_uri_in, folder_uris_in, first_of, encoding_named, first_named, offers_in, chosen, support_in, can_prepare, starting_in};
 ghost use Rattle.c_session.specs.Ties.SeenParams.{seen_opening, seen_changing, seen_file_change, seen_starting};
 
-use json_view::{ViewError, get_array, get_i32, get_object, get_range, get_str, get_text, get_u32};
+use json_view::{
+    ViewError, get_array, get_bool, get_i32, get_object, get_range, get_str, get_text, get_u32,
+};
 use serde_json::Value;
 use std::alloc::{AllocError, Global};
 use text_lines::{Change, ChangeText, Encoding, Pos};
@@ -54,6 +56,8 @@ pub struct Starting<'a> {
     pub root: Option<&'a str>,
     /// The code units in which positions are counted.
     pub encoding: Encoding,
+    /// Whether the client can ask if a name may be renamed.
+    pub prepare: bool,
 }
 
 /// A member that may be left out, or be null in place of that.
@@ -325,6 +329,25 @@ fn encoding_in(params: &Value) -> Encoding
     }
 }
 
+fn support_in(params: &Value) -> Result<bool, ViewError>
+    ensures { seen (λ b. b) result ≡ support_in (view params.now) }
+{
+    let capabilities = get_object(params, "capabilities")?;
+    let document = get_object(capabilities, "textDocument")?;
+    let rename = get_object(document, "rename")?;
+    get_bool(rename, "prepareSupport")
+}
+
+/// Whether the client can ask if a name may be renamed. What isn't as stated in its capabilities counts as absent.
+fn prepare_in(params: &Value) -> bool
+    ensures { result ≡ can_prepare (support_in (view params.now)) }
+{
+    match support_in(params) {
+        Ok(can) => can,
+        Err(_) => false,
+    }
+}
+
 /// What the params of an `initialize` say. All of `workspaceFolders` is read, also where `rootUri` is given.
 #[tactic(auto, unfolding(crate::specs::Params::starting_in))]
 pub fn starting_in<'a>(params: Option<&'a Value>) -> Result<Starting<'a>, ViewError>
@@ -335,6 +358,7 @@ pub fn starting_in<'a>(params: Option<&'a Value>) -> Result<Starting<'a>, ViewEr
         return Ok(Starting {
             root: None,
             encoding: Encoding::Utf16,
+            prepare: false,
         });
     };
     let root = root_uri_in(params)?;
@@ -342,5 +366,6 @@ pub fn starting_in<'a>(params: Option<&'a Value>) -> Result<Starting<'a>, ViewEr
     Ok(Starting {
         root: root.or(folder),
         encoding: encoding_in(params),
+        prepare: prepare_in(params),
     })
 }

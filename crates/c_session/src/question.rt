@@ -12,4 +12,6 @@ pub enum Question {
     References(Pos, bool),
     /// What the file declares at file scope.
     Symbols,
+    /// Whether what is at a position may get another name, with its range and spelling.
+    Renamable(Pos),
 }

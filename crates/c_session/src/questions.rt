@@ -23,6 +23,7 @@ pub enum QuestionKind {
     Definition,
     References,
     Symbols,
+    Renamable,
 }
 
 /// A question about the file that a URI names. The URI is lent by the params.
@@ -56,11 +57,14 @@ pub(crate) fn question_named(method: &str) -> Option<QuestionKind>
     if method == "textDocument/documentSymbol" {
         return Some(QuestionKind::Symbols);
     }
+    if method == "textDocument/prepareRename" {
+        return Some(QuestionKind::Renamable);
+    }
     None
 }
 
 #[tactic(auto, unfolding(json_view::specs::Members::pos_of))]
-fn position_in(params: Option<&Value>) -> Result<Pos, ViewError>
+pub(crate) fn position_in(params: Option<&Value>) -> Result<Pos, ViewError>
     ensures { seen (λ pos. pos) result ≡ spec.position_in (option_map (λ v. view v.now) params.entry) }
 {
     let found = params_in(params)?;
@@ -105,6 +109,10 @@ fn question_in(kind: QuestionKind, params: Option<&Value>) -> Result<Question, V
             Ok(Question::References(pos, declarations))
         }
         QuestionKind::Symbols => Ok(Question::Symbols),
+        QuestionKind::Renamable => {
+            let pos = position_in(params)?;
+            Ok(Question::Renamable(pos))
+        }
     }
 }
 

@@ -14,6 +14,8 @@ use crate::counts::Counts;
 use crate::current::{Current, Reply};
 use crate::error::SessionError;
 use crate::message::{message_of, read_content};
+use crate::rename_laws::contents_keep_limits;
+use doc_texts::texts_stay_short;
 use io_edges::Store;
 use project_conf::Options;
 use std::alloc::{AllocError, Global};
@@ -34,6 +36,7 @@ impl Model for Session {
     ghost use Rattle.std.specs.Prelude.{◌≡◌, true};
     ghost use Rattle.c_session.specs.Ties.Sessions.{SessionView, current_state, IsKept};
     ghost use Rattle.std.specs.Coded.{codes};
+    ghost use Rattle.doc_texts.specs.Short.{AllShort};
     ghost use Rattle.doc_texts.specs.Texts.{texts_code};
 
     ghost Value = { SessionView };
@@ -42,7 +45,7 @@ impl Model for Session {
 
     ghost view = { λ s. record { state = current_state s.current; handled = s.handled; whole = s.whole } };
 
-    ghost invariant = { λ s. s.whole ≡ true → IsKept s.current };
+    ghost invariant = { λ s. (s.whole ≡ true → IsKept s.current) × AllShort s.current.docs };
 }
 
 // What the texts come to is worked out where it isn't kept, as behind a call that failed.
@@ -55,6 +58,7 @@ fn ready<L: Ledger>(
     ensures kept { OnOk result (IsKept current.new) }
     ensures steps { OnOk result (whole ≡ true → steps.new ≡ steps.old) }
     ensures same { OnOk result (current_state current.new ≡ current_state current.old) }
+    ensures docs { current.new.docs ≡ current.old.docs }
 {
     if whole {
         return Ok(());
@@ -71,6 +75,7 @@ impl Session {
         ensures handled { handled_by result ≡ 0 }
         ensures whole { is_whole result ≡ true }
     {
+        texts_stay_short();
         Session {
             current: Current::new(alloc, options),
             handled: 0,
@@ -88,10 +93,11 @@ impl Session {
     /// Handles one content: what the plain server does with it, asking the store for what that wants. Each answer that
     /// the store gives was wanted then. A content that is refused leaves the state. As long as each call gave a reply
     /// (`is_whole`), each unit of the texts that the content left is worked out once, which is one step each, that wasn't a unit before,
-    /// is read in another way, or asked something of files that has another answer now, and no other unit. Beside these units, a content
+    /// is read in another way, or asked something of files that has another answer now, and for a rename each that would ask something that has
+    /// another answer with its edits made, and no other unit. Beside these units, a content
     /// that opens, changes or closes a document or tells of files costs the texts' paths, what all units asked and read and their faults,
-    /// and the database's text. After an error (`StoreFault`, `NoMemory`) the session isn't used again: its state isn't told then, and a
-    /// call that came nonetheless might work out more units.
+    /// and the database's text. After an error (`StoreFault`, `NoMemory`) the session isn't used again: its state isn't told then, its texts may be
+    /// dropped, and a call that came nonetheless might work out more units.
     pub fn handle<D: Store, L: Ledger>(
         &mut self,
         content: &[u8],
@@ -105,10 +111,12 @@ impl Session {
         ensures kept { IfOk result (λ reply. IsRefusal (message content.now) reply.bytes → state_of self.new ≡ state_of self.old) }
         ensures count { OnOk result (handled_by self.new ≡ handled_by self.old + 1) }
         ensures whole { OnOk result (is_whole self.new ≡ true) }
-        ensures steps { OnOk result (is_whole self.old ≡ true → IsWork (state_of self.old) (state_of self.new) steps.old steps.new) }
+        ensures steps { OnOk result (is_whole self.old ≡ true → IsWork (message content.now) (state_of self.old) (state_of self.new) steps.old steps.new) }
         ensures counted { OnOk result (D.faults store.new ≡ D.faults store.old) }
         ensures refused { IfErr result (λ e. Refused e (asks (state_of self.old) content.now) (D.answers store.old) (D.answers store.new) (D.faults store.old) (D.faults store.new)) }
     {
+        texts_stay_short();
+        contents_keep_limits();
         let value = match read_content(self.current.alloc, content) {
             Ok(value) => value,
             Err(_) => return Err(SessionError::NoMemory),
@@ -129,7 +137,10 @@ impl Session {
                 self.whole = true;
                 Ok(reply)
             }
-            Err(error) => Err(error),
+            Err(error) => {
+                self.current.forget();
+                Err(error)
+            }
         }
     }
 

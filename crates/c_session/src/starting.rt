@@ -23,11 +23,12 @@ use std::alloc::Global;
 use text_lines::Encoding;
 use uri_paths::Path;
 
-/// What `initialize` states: the root, and the units in which positions count.
+/// What `initialize` states: the root, the units in which positions count, and whether the client can ask if a name may be renamed.
 #[derive(Drop)]
 pub(crate) struct Beginning {
     pub root: Option<Path>,
     pub encoding: Encoding,
+    pub prepare: bool,
 }
 
 /// The texts of a root, and what was logged where they were loaded.
@@ -63,6 +64,7 @@ pub(crate) fn beginning_in(alloc: Global, params: Option<&Value>) -> Result<Begi
         Ok(root) => Ok(Beginning {
             root,
             encoding: starting.encoding,
+            prepare: starting.prepare,
         }),
         Err(refusal) => Err(refusal),
     }

@@ -18,7 +18,7 @@ abbrev pub seen_file_change : FileChange → spec.FileChange
 seen_file_change x = record { uri = x.uri.now; kind = x.kind }
 
 abbrev pub seen_starting : Starting → spec.Starting
-seen_starting x = record { root = option_map (λ uri. uri.now) x.root; encoding = x.encoding }
+seen_starting x = record { root = option_map (λ uri. uri.now) x.root; encoding = x.encoding; prepare = x.prepare }
 
 abbrev pub seen_asked : Asked → asking.Asked
 seen_asked x = record { uri = x.uri.now; question = x.question }

@@ -4,7 +4,7 @@ use Rattle.doc_texts.specs.Texts.{Texts}
 use Rattle.doc_texts.specs.Prior.{Prior}
 use Rattle.plain_mean.specs.Renewed.{renewed}
 use Rattle.project_conf.specs.declared.conf.Conf.{Conf}
-use Rattle.c_session.specs.Handled.{IsWork, outcome}
+use Rattle.c_session.specs.Handled.{outcome}
 use Rattle.c_session.specs.Loading.{Loading}
 use Rattle.c_session.specs.React.{Outcome, Beginning}
 use Rattle.c_session.specs.State.{State}
@@ -44,10 +44,18 @@ abbrev pub Renews : Prior → Texts → Analysis → State → ℕ → ℕ → T
 Renews prior now kept s old new =
     (t : Texts) (conf : Conf) → IsPrior t prior now → IsAnalysis t conf kept → new ≡ old + length (renewed t conf s.texts (conf_in s))
 
+-- The units of the texts that a message left were worked out that had to be.
+abbrev pub IsRenewal : State → State → ℕ → ℕ → Type 0
+IsRenewal s s' old new = new ≡ old + length (renewed s.texts (conf_in s) s'.texts (conf_in s'))
+
 -- A message left texts and options, and no unit was worked out, or those were that had to be.
 pub data Works (s s' : State) (old new : ℕ) : Type 0 where
   Stood : s'.texts ≡ s.texts → s'.options ≡ s.options → new ≡ old → Works s s' old new
-  Worked : IsWork s s' old new → Works s s' old new
+  Worked : IsRenewal s s' old new → Works s s' old new
+
+-- So many more were worked out beside.
+abbrev pub WorksBeside : ℕ → State → State → ℕ → ℕ → Type 0
+WorksBeside more s s' old new = (between : ℕ) × (Works s s' old between) × (new ≡ between + more)
 
 -- ---- a session
 
@@ -71,4 +79,4 @@ outcome_of current reply = outcome (current_state current) reply.bytes reply.end
 
 -- what `initialize` states
 abbrev pub seen_beginning : code.Beginning → Beginning
-seen_beginning b = record { root = b.root; encoding = b.encoding }
+seen_beginning b = record { root = b.root; encoding = b.encoding; prepare = b.prepare }
