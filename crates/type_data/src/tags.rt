@@ -4,6 +4,7 @@ use crate::names::TagId;
 use indexmap::IndexMap;
 use std::marker::Model;
 
+mod alike;
 mod entries;
 
 /// Tags with what is known of each, in the order in which they were put in. Contracts see the list; each id is there once.
