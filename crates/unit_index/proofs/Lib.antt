@@ -10,7 +10,9 @@ pub mod MatchLemmas
 pub mod MemberLemmas
 pub mod NeedLemmas
 pub mod OrderLemmas
+pub mod PlacingLemmas
 pub mod SharedLemmas
+pub mod SightLemmas
 pub mod SymbolLemmas
 pub mod UnderLemmas
 pub mod WalkLemmas

@@ -1,6 +1,7 @@
 pub mod Chains
 pub mod Closing
 pub mod Cross
+pub mod Crossing
 pub mod Definition
 pub mod Exported
 pub mod Files

@@ -7,7 +7,13 @@ use std::marker::Model;
 use tok_data::ShownFault;
 use uri_paths::Path;
 
+mod crossings;
 mod faults;
+mod placing;
+mod sights;
+
+pub use placing::faults_placed;
+pub use sights::same_sight;
 
 /// What a unit shows to the others, lent with its path.
 #[derive(Drop)]

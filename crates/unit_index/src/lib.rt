@@ -4,6 +4,7 @@
 mod across;
 mod answers;
 mod chains;
+mod crossing;
 mod exported;
 mod files;
 mod groups;
@@ -22,8 +23,9 @@ mod under;
 mod unit;
 mod walks;
 
-pub use across::{CrossFault, Index, UnitExports};
+pub use across::{CrossFault, Index, UnitExports, faults_placed, same_sight};
 pub use answers::{Speaker, definition, references, speaking};
+pub use crossing::{Crossing, Crossings, Wrong};
 pub use hover::hover_text;
 pub use outline::{symbol_number, symbols};
 pub use under::{are_apart, token_under};

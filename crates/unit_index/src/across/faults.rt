@@ -24,20 +24,20 @@ use type_print::print;
 use uri_paths::Path;
 
 impl<'a> UnitExports<'a> {
-    fn path(&self) -> &'a Path
+    pub(super) fn path(&self) -> &'a Path
         ensures { result.now ≡ self.now.path }
     {
         self.path
     }
 
-    fn exports(&self) -> &'a Exports
+    pub(super) fn exports(&self) -> &'a Exports
         ensures { result.now ≡ self.now.exports }
     {
         self.exports
     }
 }
 
-fn unit_in<'a>(units: &'a [UnitExports<'a>], place: u64) -> Option<&'a UnitExports<'a>>
+pub(super) fn unit_in<'a>(units: &'a [UnitExports<'a>], place: u64) -> Option<&'a UnitExports<'a>>
     ensures unit { option_map (λ u. u.now) result ≡ slice_get units.now place }
     ensures small { IfSome result (λ _. place < 2 ^ 63) }
 {
@@ -63,7 +63,7 @@ fn firsts<'a>(
     }
 }
 
-fn is_at(path: &Path, other: &Path) -> bool
+pub(super) fn is_at(path: &Path, other: &Path) -> bool
     ensures { result ≡ bytes_eq path.now other.now }
 {
     path.as_str() == other.as_str()
@@ -82,7 +82,7 @@ fn type_text(alloc: Global, ty: &CType, tags: &Tags) -> Result<String, AllocErro
     Ok(text)
 }
 
-fn type_message(
+pub(super) fn type_message(
     alloc: Global,
     first: &Exporter<'_>,
     tags: &Tags,
@@ -103,7 +103,11 @@ fn type_message(
     Ok(message)
 }
 
-fn definition_message(alloc: Global, first: &Path, export: &Export) -> Result<Name, AllocError>
+pub(super) fn definition_message(
+    alloc: Global,
+    first: &Path,
+    export: &Export,
+) -> Result<Name, AllocError>
     ensures { IfOk result (λ m. m ≡ spec.definition_text first.now export.now) }
 {
     let mut text = String::from_str(alloc, export.name.as_str())?;
@@ -229,19 +233,19 @@ impl<'a> Index<'a> {
         })
     }
 
-    fn units(&self) -> &'a [UnitExports<'a>]
+    pub(super) fn units(&self) -> &'a [UnitExports<'a>]
         ensures { result.now ≡ self.now }
     {
         self.units
     }
 
-    fn first_declared(&self, name: &Name) -> Option<Exporter<'a>>
+    pub(super) fn first_declared(&self, name: &Name) -> Option<Exporter<'a>>
         ensures { option_map from_of result ≡ names.first doing.Declares self.now name.now }
     {
         kept_at(&self.declared, name)
     }
 
-    fn first_defined(&self, name: &Name) -> Option<Exporter<'a>>
+    pub(super) fn first_defined(&self, name: &Name) -> Option<Exporter<'a>>
         ensures { option_map from_of result ≡ names.first doing.Defines self.now name.now }
     {
         kept_at(&self.defined, name)
