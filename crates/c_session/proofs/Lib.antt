@@ -14,6 +14,7 @@ pub mod Reasoning
 pub mod Remembered
 pub mod Responding
 pub mod Responses
+pub mod Seeing
 pub mod Telling
 pub mod Unlike
 pub mod Usable

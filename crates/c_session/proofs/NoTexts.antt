@@ -17,7 +17,7 @@ use Rattle.plain_mean.specs.declared.types.Shown.{Shown}
 use Rattle.project_conf.specs.Entries.{unit_conf}
 use Rattle.project_conf.specs.declared.conf.Conf.{Conf}
 use Rattle.c_session.specs.Kept.{AreGrounds, HasLexed, IsAnalysis}
-use Rattle.c_session.specs.Units.{known, known_unit}
+use Rattle.c_session.specs.Units.{crossed, known, known_unit}
 use Rattle.c_session.specs.declared.analysis.Analysis.{Analysis}
 use Rattle.c_session.proofs.Nothing.{nothing_of}
 
@@ -44,9 +44,13 @@ none_known : (conf : Conf) → units (texts_under None) conf ≡ [] → known (t
 unfolding known
 none_known conf none = ap (map (known_unit (texts_under None) conf)) none
 
+none_crossed : crossed [] ≡ []
+unfolding crossed
+none_crossed = refl
+
 pub nothing : ((t : Texts) (q : List ℕ) → list_any (bytes_eq q) (paths_of t) ≡ is_some (text_at t q)) → (conf : Conf) (kept : Analysis) → ((path : List ℕ) → shown_in kept.shown path ≡ []) →
-    kept.units.items ≡ [] → kept.grounds.items ≡ [] → HasLexed (texts_under None) kept → IsAnalysis (texts_under None) conf kept
-nothing members conf kept none empty no_grounds lexed =
+    kept.units.items ≡ [] → kept.grounds.items ≡ [] → kept.across.items ≡ [] → HasLexed (texts_under None) kept → IsAnalysis (texts_under None) conf kept
+nothing members conf kept none empty no_grounds no_warning lexed =
     let units_none = no_units conf (empty_paths (paths_of (texts_under None)) (λ q. members (texts_under None) q ∙ ap is_some (no_text q))) in
     record {
       shown = record {
@@ -56,6 +60,7 @@ nothing members conf kept none empty no_grounds lexed =
       units = empty ∙ sym (none_known conf units_none);
       grounds = subst (λ us. AreGrounds (texts_under None) conf us kept.grounds.items) (sym units_none) (subst (AreGrounds (texts_under None) conf []) (sym no_grounds) tt);
       lexed = lexed;
+      across = no_warning ∙ sym none_crossed ∙ ap crossed (sym (none_known conf units_none));
     }
 
 -- ---- where there were no texts

@@ -75,6 +75,11 @@ module _ (held : List ℕ → Option HeldUnit) (prior : Prior) (now : Texts) (co
             (ap (λ ps. length (filter (due_at held prior now conf) ps)) first ∙ counts (due_at held prior now conf path) path (filter (due_at held prior now conf) behind)) p.count;
       }
 
+  -- what waits for the path in turn is as it was
+  pub passes_here : (waiting : List ℕ → Option HeldUnit) (rest behind : List (List ℕ)) (path : List ℕ) (units : List Known) (grounds : List Grounds) (steps : ℕ) →
+      Passes waiting rest units grounds steps → rest ≡ path ∷ behind → waiting path ≡ held path
+  passes_here waiting rest behind path units grounds steps p first = p.alike path (ap (list_any (bytes_eq path)) first ∙ ap (λ b. b || list_any (bytes_eq path) behind) (same path))
+
   module _ (waiting : List ℕ → Option HeldUnit) (rest : List (List ℕ)) (units : List Known) (grounds : List Grounds) (steps : ℕ) (p : Passes waiting rest units grounds steps) (none : rest ≡ []) where
     pub all_made : units ≡ map (unit_at held prior now conf) paths
     all_made = sym (append-nil units) ∙ ap (λ ps. units ++ map (unit_at held prior now conf) ps) (sym none) ∙ p.made

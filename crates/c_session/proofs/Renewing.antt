@@ -18,7 +18,7 @@ use Rattle.unit_index.specs.Known.{Known}
 use Rattle.c_session.specs.Kept.{AreGrounds, HasLexed, IsAnalysis}
 use Rattle.c_session.specs.Renewal.{OnNow, OnKept, RestOn, RestsOn, due_at, is_due, unit_at, unit_by}
 use Rattle.c_session.specs.Shown.{shown}
-use Rattle.c_session.specs.Units.{all_reads, cross_faults, known, known_as, known_unit, own_faults}
+use Rattle.c_session.specs.Units.{all_reads, cross_faults, crossed, known, known_as, known_unit, own_faults}
 use Rattle.c_session.specs.declared.analysis.Analysis.{Analysis}
 use Rattle.c_session.specs.declared.held.HeldUnit.{HeldUnit}
 use Rattle.c_session.proofs.Holding.{WasHeld, WasUnit}
@@ -97,8 +97,8 @@ rest_as held p p' t t' c c' paths gs priors texts confs rest =
 pub stands : (lexings now : Texts) (c : Conf) (a : Analysis) (us : List Known) (gs : List Grounds) → lexings ≡ now → a.units.items ≡ us → a.grounds.items ≡ gs → us ≡ known now c →
     AreGrounds now c (units now c) gs →
     ((path : List ℕ) → shown_in a.shown path ≡ shown_by lexings (own_faults us ++ cross_faults us) (all_reads us) path) →
-    ((path : List ℕ) → AreWithin (length (text_in lexings path)) (shown_in a.shown path)) → HasLexed lexings a → IsAnalysis now c a
-stands lexings now c a us gs same are_units are_grounds all rest right within lexed = record {
+    ((path : List ℕ) → AreWithin (length (text_in lexings path)) (shown_in a.shown path)) → HasLexed lexings a → a.across.items ≡ crossed us → IsAnalysis now c a
+stands lexings now c a us gs same are_units are_grounds all rest right within lexed across = record {
   shown = record {
     right = λ path. right path ∙ ap (λ t. shown_by t (own_faults us ++ cross_faults us) (all_reads us) path) same ∙ shown_now now c us path all;
     within = λ path. subst (λ t. AreWithin (length (text_in t path)) (shown_in a.shown path)) same (within path);
@@ -106,4 +106,5 @@ stands lexings now c a us gs same are_units are_grounds all rest right within le
   grounds = subst (AreGrounds now c (units now c)) (sym are_grounds) rest;
   units = are_units ∙ all;
   lexed = subst (λ t. HasLexed t a) same lexed;
+  across = across ∙ ap crossed all;
 }

@@ -12,7 +12,7 @@ use Rattle.plain_mean.specs.declared.lists.ShownLists.{ShownLists}
 use Rattle.plain_mean.specs.declared.types.Grounds.{Grounds}
 use Rattle.unit_index.specs.Known.{Known}
 use Rattle.c_session.specs.Shown.{shown}
-use Rattle.c_session.specs.Units.{known}
+use Rattle.c_session.specs.Units.{crossed, known}
 use Rattle.c_session.specs.declared.analysis.Analysis.{Analysis}
 
 abbrev pub units_in : Analysis → List Known
@@ -40,3 +40,4 @@ pub record IsAnalysis (texts : Texts) (conf : Conf) (kept : Analysis) : Type 0 w
   pub grounds : AreGrounds texts conf (units texts conf) kept.grounds.items
   pub units : units_in kept ≡ known texts conf
   pub lexed : HasLexed texts kept
+  pub across : kept.across.items ≡ crossed (known texts conf)

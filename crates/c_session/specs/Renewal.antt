@@ -1,5 +1,5 @@
 -- What becomes of a unit that was kept: it stays as it is where its grounds hold, and else it is worked out again.
-use Rattle.std.specs.Prelude.{◌≡◌, ℕ, Bool, true, false, List, [], ◌∷◌, bytes_eq, Option, Some, None, if◌then◌else◌}
+use Rattle.std.specs.Prelude.{◌≡◌, ◌&&◌, ℕ, Bool, true, false, List, [], ◌∷◌, bytes_eq, Option, Some, None, if◌then◌else◌}
 use Rattle.std.specs.BTreeMap.{get}
 use Rattle.std.specs.Cmp.Lexicographic.{slice_cmp}
 use Rattle.std.specs.List.{list_any}
@@ -10,7 +10,8 @@ use Rattle.project_conf.specs.declared.conf.Conf.{Conf}
 use Rattle.plain_mean.specs.Renewed.{IsGrounds, are_gone}
 use Rattle.plain_mean.specs.declared.types.Grounds.{Grounds}
 use Rattle.unit_index.specs.Known.{Known}
-use Rattle.c_session.specs.Units.{known_unit}
+use Rattle.unit_index.specs.Crossing.{sight}
+use Rattle.c_session.specs.Units.{exported, known_unit}
 use Rattle.c_session.specs.declared.held.HeldUnit.{HeldUnit}
 use Rattle.c_session.specs.declared.held.Waiting.{Waiting}
 
@@ -33,6 +34,13 @@ held_of (u ∷ us) (g ∷ gs) path held = held_of us gs path (if bytes_eq path u
 abbrev pub AreApart : List (List ℕ) → Type 0
 AreApart [] = Unit {0}
 AreApart (p ∷ ps) = (list_any (bytes_eq p) ps ≡ false) × AreApart ps
+
+-- the units stand at these paths
+abbrev pub stand_at : List Known → List (List ℕ) → Bool
+stand_at [] [] = true
+stand_at [] (p ∷ ps) = false
+stand_at (u ∷ us) [] = false
+stand_at (u ∷ us) (p ∷ ps) = bytes_eq u.path p && stand_at us ps
 
 -- ---- what stands now
 
@@ -64,3 +72,16 @@ module _ (held : List ℕ → Option HeldUnit) (prior : Prior) (now : Texts) (co
   RestOn [] (g ∷ gs) = ⊥
   RestOn (p ∷ ps) [] = ⊥
   RestOn (p ∷ ps) (g ∷ gs) = RestsOn (held p) prior now conf p g × RestOn ps gs
+
+-- ---- what the others see of it
+
+-- they see of a unit what they saw
+abbrev pub IsSeenAs : Option HeldUnit → Known → Type 0
+IsSeenAs None u = ⊥
+IsSeenAs (Some held) u = sight (exported u) ≡ sight (exported held.unit)
+
+abbrev pub AreSeenAs : (List ℕ → Option HeldUnit) → List (List ℕ) → List Known → Type 0
+AreSeenAs held [] [] = Unit {0}
+AreSeenAs held [] (u ∷ us) = ⊥
+AreSeenAs held (p ∷ ps) [] = ⊥
+AreSeenAs held (p ∷ ps) (u ∷ us) = IsSeenAs (held p) u × AreSeenAs held ps us

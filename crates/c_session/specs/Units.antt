@@ -7,6 +7,8 @@ use Rattle.plain_mean.specs.Shown.{units}
 use Rattle.plain_mean.specs.declared.types.UnitMeaning.{UnitMeaning}
 use Rattle.tok_data.specs.declared.faults.ShownFault.{ShownFault}
 use Rattle.unit_index.specs.Cross.{cross}
+use Rattle.unit_index.specs.Crossing.{Sight, all_crossings, sight}
+use Rattle.unit_index.specs.declared.crossing.Crossing.{Crossing}
 use Rattle.unit_index.specs.Exported.{Shown as Exported}
 use Rattle.unit_index.specs.Known.{Known}
 use Rattle.unit_index.specs.Matching.{matched}
@@ -35,3 +37,13 @@ exported u = record { path = u.path; exports = u.meaning.exports }
 -- the warnings across these units (ISO C11 6.2.7p2, 6.9p5)
 unfoldable pub cross_faults : List Known → List ShownFault
 cross_faults us = map (λ c. c.fault) (cross matched (map exported us))
+
+-- ---- what is kept of them
+
+-- what these units see of one another
+abbrev pub sights : List Known → List Sight
+sights us = map (λ u. sight (exported u)) us
+
+-- the warnings across these units, of each, without their tokens
+unfoldable pub crossed : List Known → List (List Crossing)
+crossed us = all_crossings matched (map sight (map exported us))

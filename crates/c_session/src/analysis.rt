@@ -1,5 +1,5 @@
 // What all units of the texts come to, and what is kept of them, so that a question works out nothing and a message only the units that it touches.
-ghost use Rattle.std.specs.Prelude.{◌≡◌, ◌+◌, ◌++◌, ℕ, List, None, length, IfOk, OnOk};
+ghost use Rattle.std.specs.Prelude.{◌≡◌, ◌+◌, ◌++◌, ◌&&◌, ℕ, List, None, Some, bytes_eq, length, IfOk, IfSome, OnOk, if◌then◌else◌};
 ghost use Rattle.doc_texts.specs.Texts.{Texts, texts_under};
 ghost use Rattle.plain_mean.specs.Confs.{IsUsable};
 ghost use Rattle.plain_mean.specs.Given.{text_in};
@@ -10,11 +10,12 @@ ghost use Rattle.plain_mean.specs.Shown.{shown_by, units};
 ghost use Rattle.plain_mean.specs.Within.{AreWithin};
 ghost use Rattle.project_conf.specs.declared.conf.Conf.{Conf as Read};
 ghost use Rattle.c_session.specs.Kept.{HasLexed, IsAnalysis};
-ghost use Rattle.c_session.specs.Renewal.{held_at, held_of};
+ghost use Rattle.c_session.specs.Renewal.{held_at, held_of, stand_at};
 ghost use Rattle.c_session.specs.Ties.News.{IsPrior};
-ghost use Rattle.c_session.specs.Units.{all_reads, cross_faults, own_faults};
+ghost use Rattle.c_session.specs.Units.{all_reads, crossed, cross_faults, own_faults};
 
-use crate::held::{Standing, Waiting};
+use crate::cross::crossings_now;
+use crate::held::{Standing, Waiting, both};
 use crate::news::prior_of;
 use crate::renewal::units_now;
 use crate::showing::shown_of;
@@ -26,7 +27,8 @@ use project_conf::Conf;
 use std::alloc::{AllocError, Global};
 use std::sync::ledger::Ledger;
 use steps::Steps;
-use unit_index::IndexedUnit;
+use unit_index::{Crossings, IndexedUnit};
+use uri_paths::Path;
 
 /// What all units of some texts come to: what each file shows, what each unit means, with an index, and on what that rests, and what lexing gave of the
 /// texts that the units read.
@@ -38,6 +40,8 @@ pub struct Analysis {
     pub(crate) units: Vec<IndexedUnit>,
     pub(crate) grounds: Vec<Grounds>,
     pub(crate) lexings: KeptLexings,
+    /// The warnings across units, of each, without their tokens.
+    pub(crate) across: Vec<Crossings>,
 }
 
 impl Analysis {
@@ -52,6 +56,7 @@ impl Analysis {
             units: Vec::new(alloc),
             grounds: Vec::new(alloc),
             lexings: KeptLexings::new(alloc),
+            across: Vec::new(alloc),
         }
     }
 }
@@ -69,12 +74,14 @@ struct Parted {
     shown: ShownLists,
     waiting: Waiting,
     lexings: KeptLexings,
+    across: Vec<Crossings>,
 }
 
 fn part(kept: Analysis) -> Result<Parted, AllocError>
     ensures shown { IfOk result (λ p. p.shown ≡ kept.shown) }
     ensures waiting { IfOk result (λ p. (q : List ℕ) → held_at p.waiting q ≡ held_of kept.units.items kept.grounds.items q None) }
     ensures lexings { IfOk result (λ p. p.lexings ≡ kept.lexings) }
+    ensures across { IfOk result (λ p. p.across ≡ kept.across) }
 {
     let Analysis {
         alloc,
@@ -82,43 +89,87 @@ fn part(kept: Analysis) -> Result<Parted, AllocError>
         units,
         grounds,
         lexings,
+        across,
     } = kept;
     let waiting = Waiting::of(alloc, units, grounds)?;
     Ok(Parted {
         shown,
         waiting,
         lexings,
+        across,
     })
+}
+
+fn is_at(unit: &IndexedUnit, path: &Path) -> bool
+    ensures { result ≡ bytes_eq unit.now.path path.now }
+{
+    unit.path().as_str() == path.as_str()
+}
+
+// The units stand at these paths.
+fn stand_at(units: &[IndexedUnit], paths: &[Path]) -> bool
+    ensures { result ≡ stand_at units.now paths.now }
+{
+    let mut rest = units;
+    let mut others = paths;
+    'units: while let Some((unit, behind)) = rest.split_first() {
+        rest = behind;
+        let Some((path, behind)) = others.split_first() else {
+            return false;
+        };
+        others = behind;
+        if !is_at(unit, path) {
+            return false;
+        }
+    }
+    others.is_empty()
+}
+
+// What is kept of the warnings, where the units are the same and are seen as before.
+fn across_where(same: bool, seen: bool, across: Vec<Crossings>) -> Option<Vec<Crossings>>
+    ensures { result ≡ (if same && seen then Some across else None) }
+{
+    if both(same, seen) { Some(across) } else { None }
 }
 
 // What these units come to, which are all units of the texts.
 fn standing_as(
     alloc: Global,
     standing: Standing,
+    kept: Option<Vec<Crossings>>,
     lexings: Lexings<'_>,
 ) -> Result<Analysis, AllocError>
-    ensures shown { IfOk result (λ a. (path : List ℕ) → shown_in a.shown path ≡ shown_by lexings.entry (own_faults standing.units.items ++ cross_faults standing.units.items) (all_reads standing.units.items) path) }
+    ensures across { IfOk result (λ a. IfSome kept (λ k. k.items ≡ crossed standing.units.items) → a.across.items ≡ crossed standing.units.items) }
+    ensures shown { IfOk result (λ a. IfSome kept (λ k. k.items ≡ crossed standing.units.items) → (path : List ℕ) → shown_in a.shown path ≡ shown_by lexings.entry (own_faults standing.units.items ++ cross_faults standing.units.items) (all_reads standing.units.items) path) }
     ensures within { IfOk result (λ a. (path : List ℕ) → AreWithin (length (text_in lexings.entry path)) (shown_in a.shown path)) }
     ensures units { IfOk result (λ a. a.units.items ≡ standing.units.items) }
     ensures grounds { IfOk result (λ a. a.grounds.items ≡ standing.grounds.items) }
     ensures lexed { IfOk result (λ a. HasLexed lexings.entry a) }
 {
     let mut lexings = lexings;
-    let shown = shown_of(alloc, &mut lexings, standing.units.as_slice())?;
-    let Standing { units, grounds } = standing;
+    let made = standing.units.as_slice();
+    let across = crossings_now(alloc, kept, made)?;
+    let shown = shown_of(alloc, &mut lexings, made, across.as_slice())?;
+    let Standing {
+        units,
+        grounds,
+        seen_as_before: _,
+    } = standing;
     Ok(Analysis {
         alloc,
         shown,
         units,
         grounds,
         lexings: lexings.into_kept(),
+        across,
     })
 }
 
 /// Works out what the texts come to now, by what those before came to: each unit that wasn't one before, has another configuration, or asked something of
 /// files that has another answer now, once, which is one step each. The definitions of the words are identifiers and have together at most
 /// 131,072 bytes of names and texts, those of an entry of the database 2^25. Beside these units it costs the texts' paths, the database's
-/// entries, the questions of all units, their faults, the paths that they read and the names that they show to one another. It fails for want of memory, and after 2^64-1
+/// entries, the questions of all units, their faults, the paths that they read and, where what units see of one another isn't what it was, the names that they show
+/// to one another. It fails for want of memory, and after 2^64-1
 /// rounds of questions, whose answers no memory holds.
 pub(crate) fn renewed<L: Ledger>(
     alloc: Global,
@@ -139,10 +190,13 @@ pub(crate) fn renewed<L: Ledger>(
     grounds_hold();
     let reading = Reading::of(alloc, conf)?;
     let paths = units(alloc, docs, &reading)?;
+    let all = paths.as_slice();
+    let same = stand_at(kept.units.as_slice(), all);
     let Parted {
         shown,
         mut waiting,
         lexings,
+        across,
     } = part(kept)?;
     let (mut changes, mut lexings) = Changes::of(alloc, docs, prior, lexings)?;
     let standing = units_now(
@@ -151,10 +205,11 @@ pub(crate) fn renewed<L: Ledger>(
         &mut changes,
         &mut lexings,
         &reading,
-        paths.as_slice(),
+        all,
         steps,
     )?;
-    let analysis = standing_as(alloc, standing, lexings)?;
+    let stays = across_where(same, standing.seen_as_before, across);
+    let analysis = standing_as(alloc, standing, stays, lexings)?;
     Ok(Renewal {
         analysis,
         before: shown,

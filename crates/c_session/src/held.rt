@@ -1,5 +1,5 @@
 // Units that were kept, by path, until it is known which of them stay.
-ghost use Rattle.std.specs.Prelude.{◌≡◌, ◌++◌, ◌∷◌, [], false, ℕ, List, Some, None, bytes_eq, IfOk, OnOk, if◌then◌else◌};
+ghost use Rattle.std.specs.Prelude.{◌≡◌, ◌++◌, ◌∷◌, ◌&&◌, [], true, false, ℕ, List, Some, None, bytes_eq, IfOk, OnOk, if◌then◌else◌};
 ghost use Rattle.c_session.specs.Renewal.{held_as, held_at, held_of};
 
 use plain_mean::Grounds;
@@ -13,6 +13,13 @@ use uri_paths::Path;
 pub(crate) struct HeldUnit {
     pub unit: IndexedUnit,
     pub grounds: Grounds,
+}
+
+/// What a unit means now, and whether the other units see of it what they saw.
+#[derive(Drop)]
+pub(crate) struct RenewedUnit {
+    pub held: HeldUnit,
+    pub seen_as_before: bool,
 }
 
 /// Units that were kept and aren't taken yet, by path.
@@ -60,11 +67,19 @@ impl Waiting {
     }
 }
 
+pub(crate) fn both(a: bool, b: bool) -> bool
+    ensures { result ≡ (a && b) }
+{
+    a && b
+}
+
 /// Units, and on what each rests, one behind the other.
 #[derive(Drop)]
 pub(crate) struct Standing {
     pub units: Vec<IndexedUnit>,
     pub grounds: Vec<Grounds>,
+    /// The other units see of each what they saw.
+    pub seen_as_before: bool,
 }
 
 impl Standing {
@@ -72,20 +87,28 @@ impl Standing {
     pub fn new(alloc: Global) -> Standing
         ensures units { result.units.items ≡ [] }
         ensures grounds { result.grounds.items ≡ [] }
+        ensures seen { result.seen_as_before ≡ true }
     {
         Standing {
             units: Vec::new(alloc),
             grounds: Vec::new(alloc),
+            seen_as_before: true,
         }
     }
 
-    pub fn push(&mut self, held: HeldUnit) -> Result<(), AllocError>
-        ensures units { OnOk result (self.new.units.items ≡ self.old.units.items ++ held.unit ∷ []) }
-        ensures grounds { OnOk result (self.new.grounds.items ≡ self.old.grounds.items ++ held.grounds ∷ []) }
+    pub fn push(&mut self, renewed: RenewedUnit) -> Result<(), AllocError>
+        ensures units { OnOk result (self.new.units.items ≡ self.old.units.items ++ renewed.held.unit ∷ []) }
+        ensures grounds { OnOk result (self.new.grounds.items ≡ self.old.grounds.items ++ renewed.held.grounds ∷ []) }
+        ensures seen { OnOk result (self.new.seen_as_before ≡ (self.old.seen_as_before && renewed.seen_as_before)) }
     {
+        let RenewedUnit {
+            held,
+            seen_as_before,
+        } = renewed;
         let HeldUnit { unit, grounds } = held;
         self.units.push(unit)?;
         self.grounds.push(grounds)?;
+        self.seen_as_before = both(self.seen_as_before, seen_as_before);
         Ok(())
     }
 }

@@ -1,16 +1,17 @@
 // Which of the units that were kept stay, and which are worked out again.
-ghost use Rattle.std.specs.Prelude.{◌≡◌, ◌+◌, false, ℕ, List, length, map, bytes_eq, IfOk, OnOk, if◌then◌else◌};
+ghost use Rattle.std.specs.Prelude.{◌≡◌, ◌+◌, true, false, ℕ, List, length, map, bytes_eq, IfOk, OnOk, if◌then◌else◌};
 ghost use Rattle.std.specs.List.{filter};
 ghost use Rattle.plain_mean.specs.Renewed.{IsGrounds};
-ghost use Rattle.c_session.specs.Renewal.{AreApart, RestOn, RestsOn, due_at, held_at, is_due, unit_at, unit_by};
-ghost use Rattle.c_session.specs.Units.{known_as, known_unit};
+ghost use Rattle.c_session.specs.Renewal.{AreApart, AreSeenAs, IsSeenAs, RestOn, RestsOn, due_at, held_at, is_due, unit_at, unit_by};
+ghost use Rattle.c_session.specs.Units.{exported, known_as, known_unit};
+ghost use Rattle.unit_index.specs.Crossing.{sight};
 
-use crate::held::{HeldUnit, Standing, Waiting};
+use crate::held::{HeldUnit, RenewedUnit, Standing, Waiting};
 use plain_mean::{Changes, Lexings, Meant, Reading, UnitMeaning, mean};
 use std::alloc::{AllocError, Global};
 use std::sync::ledger::Ledger;
 use steps::Steps;
-use unit_index::IndexedUnit;
+use unit_index::{IndexedUnit, same_sight};
 use uri_paths::Path;
 
 fn held_as(alloc: Global, path: &Path, meant: Meant) -> Result<HeldUnit, AllocError>
@@ -42,6 +43,25 @@ fn worked<L: Ledger>(
     Ok(held)
 }
 
+fn same_path(a: &IndexedUnit, b: &IndexedUnit) -> bool
+    ensures { result ≡ bytes_eq a.now.path b.now.path }
+{
+    a.path().as_str() == b.path().as_str()
+}
+
+// The other units see of a unit what they saw of it.
+fn is_seen_as(before: &IndexedUnit, after: &IndexedUnit) -> bool
+    ensures { result ≡ true → sight (exported after.now) ≡ sight (exported before.now) }
+{
+    let at = same_path(after, before);
+    if at {
+        let later = after.meaning();
+        let earlier = before.meaning();
+        return same_sight(&later.exports, &earlier.exports);
+    }
+    false
+}
+
 // A unit that was kept: it stays, or is worked out again where its grounds are gone.
 fn kept_or_worked<L: Ledger>(
     alloc: Global,
@@ -51,10 +71,11 @@ fn kept_or_worked<L: Ledger>(
     reading: &Reading<'_>,
     path: &Path,
     steps: &mut Steps<L>,
-) -> Result<HeldUnit, AllocError>
+) -> Result<RenewedUnit, AllocError>
     requires { lexings.old ≡ changes.old.now }
-    ensures unit { IfOk result (λ h. h.unit ≡ unit_by (Some held) changes.old.prior changes.old.now reading.now path.now) }
-    ensures grounds { IfOk result (λ h. RestsOn (Some held) changes.old.prior changes.old.now reading.now path.now h.grounds) }
+    ensures unit { IfOk result (λ r. r.held.unit ≡ unit_by (Some held) changes.old.prior changes.old.now reading.now path.now) }
+    ensures grounds { IfOk result (λ r. RestsOn (Some held) changes.old.prior changes.old.now reading.now path.now r.held.grounds) }
+    ensures seen { IfOk result (λ r. r.seen_as_before ≡ true → IsSeenAs (Some held) r.held.unit) }
     ensures changes { changes.new ≡ changes.old }
     ensures lexings { lexings.new ≡ lexings.old }
     ensures steps { OnOk result (steps.new ≡ steps.old + (if is_due (Some held) changes.old.prior changes.old.now reading.now path.now then 1 else 0)) }
@@ -62,9 +83,16 @@ fn kept_or_worked<L: Ledger>(
     let gone = changes.are_gone(lexings, reading, path, &held.grounds)?;
     if gone {
         let again = worked(alloc, lexings, reading, path, steps)?;
-        return Ok(again);
+        let seen_as_before = is_seen_as(&held.unit, &again.unit);
+        return Ok(RenewedUnit {
+            held: again,
+            seen_as_before,
+        });
     }
-    Ok(held)
+    Ok(RenewedUnit {
+        held,
+        seen_as_before: true,
+    })
 }
 
 // What a unit means now.
@@ -76,10 +104,11 @@ fn unit_now<L: Ledger>(
     reading: &Reading<'_>,
     path: &Path,
     steps: &mut Steps<L>,
-) -> Result<HeldUnit, AllocError>
+) -> Result<RenewedUnit, AllocError>
     requires { lexings.old ≡ changes.old.now }
-    ensures unit { IfOk result (λ h. h.unit ≡ unit_by (held_at waiting.old path.now) changes.old.prior changes.old.now reading.now path.now) }
-    ensures grounds { IfOk result (λ h. RestsOn (held_at waiting.old path.now) changes.old.prior changes.old.now reading.now path.now h.grounds) }
+    ensures unit { IfOk result (λ r. r.held.unit ≡ unit_by (held_at waiting.old path.now) changes.old.prior changes.old.now reading.now path.now) }
+    ensures grounds { IfOk result (λ r. RestsOn (held_at waiting.old path.now) changes.old.prior changes.old.now reading.now path.now r.held.grounds) }
+    ensures seen { IfOk result (λ r. r.seen_as_before ≡ true → IsSeenAs (held_at waiting.old path.now) r.held.unit) }
     ensures others { (q : List ℕ) → bytes_eq q path.now ≡ false → held_at waiting.new q ≡ held_at waiting.old q }
     ensures changes { changes.new ≡ changes.old }
     ensures lexings { lexings.new ≡ lexings.old }
@@ -93,7 +122,10 @@ fn unit_now<L: Ledger>(
         }
         None => {
             let first = worked(alloc, lexings, reading, path, steps)?;
-            Ok(first)
+            Ok(RenewedUnit {
+                held: first,
+                seen_as_before: false,
+            })
         }
     }
 }
@@ -113,6 +145,7 @@ pub(crate) fn units_now<L: Ledger>(
     requires apart { AreApart paths.now }
     ensures units { IfOk result (λ s. s.units.items ≡ map (unit_at (held_at waiting.old) changes.old.prior changes.old.now reading.now) paths.now) }
     ensures grounds { IfOk result (λ s. RestOn (held_at waiting.old) changes.old.prior changes.old.now reading.now paths.now s.grounds.items) }
+    ensures seen { IfOk result (λ s. s.seen_as_before ≡ true → AreSeenAs (held_at waiting.old) paths.now s.units.items) }
     ensures lexings { lexings.new ≡ lexings.old }
     ensures steps { OnOk result (steps.new ≡ steps.old + length (filter (due_at (held_at waiting.old) changes.old.prior changes.old.now reading.now) paths.now)) }
 {
@@ -120,8 +153,8 @@ pub(crate) fn units_now<L: Ledger>(
     let mut rest = paths;
     'paths: while let Some((path, behind)) = rest.split_first() {
         rest = behind;
-        let held = unit_now(alloc, waiting, changes, lexings, reading, path, steps)?;
-        standing.push(held)?;
+        let renewed = unit_now(alloc, waiting, changes, lexings, reading, path, steps)?;
+        standing.push(renewed)?;
     }
     Ok(standing)
 }
