@@ -16,10 +16,10 @@ use Rattle.c_session.specs.Params.{FileChange, watching_in}
 use Rattle.c_session.specs.declared.params.FileChangeKind.{FileChangeKind}
 use Rattle.c_session.specs.Questions.{question_named, about_in}
 use Rattle.c_session.specs.declared.questions.QuestionKind.{QuestionKind}
-use Rattle.c_session.specs.React.{Outcome, tells, is_quiet, has_texts, invalid_request, method_not_found, invalid_params, server_not_initialized, rejects, refuses, did_open, did_change, did_close, Edited, opened_by, changed_by, closed_by, edits, closes, watches, Beginning, beginning_by, begins, starts, is_running, exit_status, answers, answered as said, asks_about, renames, settled, settles, fresh_request, running_request, on_request, running_notification, on_notification, on_message, asks, Reaction, Replies, Wants, reaction, react}
+use Rattle.c_session.specs.React.{Outcome, tells, is_quiet, has_texts, invalid_request, method_not_found, server_not_initialized, rejects, refuses, did_open, did_change, did_close, Edited, opened_by, changed_by, closed_by, edits, closes, watches, Beginning, beginning_by, begins, starts, is_running, exit_status, answers, answered as said, asks_about, renames, settled, settles, fresh_request, running_request, on_request, running_notification, on_notification, on_message, asks, Reaction, Replies, Wants, reaction, react}
 use Rattle.c_session.specs.Reasons.{Reason, reason_text, by_params}
 use Rattle.c_session.specs.Renames.{Renaming, edits_of, rename_method, renaming_in}
-use Rattle.c_session.specs.Refused.{refusal_code, refusal_name}
+use Rattle.c_session.specs.Refused.{invalid_params, refusal_code, refusal_name}
 use Rattle.rename_core.specs.declared.confirming.Edits.{Edits}
 use Rattle.rename_core.specs.declared.error.RenameError.{RenameError}
 use Rattle.lsp_answers.specs.Replies.{response, error, log, initialize_result}

@@ -17,7 +17,7 @@ use Rattle.c_session.specs.Questions.{question_named, about_in}
 use Rattle.c_session.specs.Positions.{token_at}
 use Rattle.c_session.specs.Reasons.{Reason, reason_text, by_params, by_uri, by_texts, if_ok}
 use Rattle.c_session.specs.Renames.{Renaming, rename_method, renaming_in, outcome_at, edits_of}
-use Rattle.c_session.specs.Refused.{refusal_code, refusal_name}
+use Rattle.c_session.specs.Refused.{invalid_params, refusal_code, refusal_name}
 use Rattle.rename_core.specs.declared.confirming.Edits.{Edits}
 use Rattle.rename_core.specs.declared.error.RenameError.{RenameError}
 use Rattle.lsp_answers.specs.Replies.{response, error, log, initialize_result}
@@ -61,9 +61,6 @@ invalid_request = negsuc 32599
 
 abbrev pub method_not_found : ℤ
 method_not_found = negsuc 32600
-
-abbrev pub invalid_params : ℤ
-invalid_params = negsuc 32601
 
 abbrev pub server_not_initialized : ℤ
 server_not_initialized = negsuc 32001
@@ -181,6 +178,7 @@ asks_about s id (Some kind) params = answers s id (answered s (about_in kind par
 
 -- ---- renames
 
+-- (no outcome of a rename is want of memory)
 abbrev pub settles : State → Id → Result Edits RenameError → Outcome
 settles s id (Ok e) = tells s (response id (edits_of s.texts s.encoding e))
 settles s id (Err e) = rejects s (Some id) (refusal_code e) (refusal_name e)
