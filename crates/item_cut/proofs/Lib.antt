@@ -1,3 +1,4 @@
 mod Fronts
+mod Longer
 mod Looking
 mod Turns

@@ -59,6 +59,15 @@ impl Progress {
         requires { self.now.depth < 2000000 }
         ensures { result ≡ steps.after self.now text.now }
     {
+        // (no mark is as long as most words are)
+        if text.len() > 2 {
+            return Progress {
+                depth: self.depth,
+                closed: false,
+                assigned: self.assigned,
+                body: self.body,
+            };
+        }
         let depth = depth_after(self.depth, text);
         let closed = is_close_paren(text);
         let assigned = self.assigned || (is_equals(text) && self.depth == 0);
