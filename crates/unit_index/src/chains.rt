@@ -121,7 +121,7 @@ pub(crate) fn chain_tokens(
     ensures next { IfOk result (λ r. r.1.items ≡ spec.nexts spec.by_token 0 occs.now) }
 {
     let mut first = no_tokens(alloc);
-    let mut next = Vec::new(alloc);
+    let mut next = Vec::with_capacity(alloc, occs.len())?;
     let mut rest = occs;
     'occs: while let Some((occ, before)) = rest.split_last() {
         next.push(first_at(&first, &occ.tok))?;
@@ -141,7 +141,7 @@ pub(crate) fn chain_anchors(
     ensures next { IfOk result (λ r. r.1.items ≡ spec.nexts spec.by_anchor 0 occs.now) }
 {
     let mut first = no_anchors(alloc);
-    let mut next = Vec::new(alloc);
+    let mut next = Vec::with_capacity(alloc, occs.len())?;
     let mut rest = occs;
     'occs: while let Some((occ, before)) = rest.split_last() {
         next.push(first_of(&first, &occ.anchor))?;

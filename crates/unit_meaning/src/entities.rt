@@ -50,7 +50,7 @@ impl ByAnchor {
     fn into_entities(self, alloc: Global) -> Result<Vec<Entity>, AllocError>
         ensures { IfOk result (λ out. out.items ≡ values_of self) }
     {
-        let mut out = Vec::new(alloc);
+        let mut out = Vec::with_capacity(alloc, self.map.len())?;
         'entities: for entity in self.map.into_values() {
             out.push(entity)?;
         }

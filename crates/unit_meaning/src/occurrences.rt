@@ -87,7 +87,7 @@ pub(crate) fn of_unit(
 ) -> Result<Vec<Occ>, AllocError>
     ensures { IfOk result (λ out. out.items ≡ spec.of_unit sources.now occs.now) }
 {
-    let mut out = Vec::new(alloc);
+    let mut out = Vec::with_capacity(alloc, occs.len())?;
     let mut rest = occs;
     'occs: while let Some((occ, behind)) = rest.split_first() {
         rest = behind;

@@ -5,7 +5,7 @@ use Rattle.unit_index.proofs.ChainLemmas.{links_begin, links_turn, links_end}
 use Rattle.unit_index.proofs.chains.chain_anchors.Goals as goal
 
 pub occs-init : goal.occs-init
-occs-init c = links_begin by_anchor is_of _ _ _ c.no_anchors-first.ensures c.new-next.ensures.items
+occs-init c = links_begin by_anchor is_of _ _ _ c.no_anchors-first.ensures c.in_ok-next.ensures.items
 
 pub occs-preserved : goal.occs-preserved
 occs-preserved c =

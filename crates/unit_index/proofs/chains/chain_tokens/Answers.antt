@@ -5,7 +5,7 @@ use Rattle.unit_index.proofs.ChainLemmas.{links_begin, links_turn, links_end}
 use Rattle.unit_index.proofs.chains.chain_tokens.Goals as goal
 
 pub occs-init : goal.occs-init
-occs-init c = links_begin by_token is_at _ _ _ c.no_tokens-first.ensures c.new-next.ensures.items
+occs-init c = links_begin by_token is_at _ _ _ c.no_tokens-first.ensures c.in_ok-next.ensures.items
 
 pub occs-preserved : goal.occs-preserved
 occs-preserved c =
