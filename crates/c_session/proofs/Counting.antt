@@ -33,4 +33,4 @@ pub counts_are : (c : Current) (paths : List (List ℕ)) (count total : ℕ) →
 counts_are c paths count total kept all counted summed =
     ap (λ (n : ℕ). record { units = n; faults = total }) counted
     ∙ ap (λ (n : ℕ). record { units = length (units c.docs (conf_in (current_state c))); faults = n })
-    (summed ∙ ap (sum_by (each_shown c.kept.shown)) all ∙ same_sum (each_shown c.kept.shown) (λ path. length (shows (current_state c) path)) (λ path. ap length (kept.shown.right path)) (paths_of c.docs))
+    (summed ∙ ap (sum_by (each_shown c.kept.shown)) all ∙ same_sum (each_shown c.kept.shown) (λ path. length (shows (current_state c) path)) (λ path. ap length (kept.0.shown.right path)) (paths_of c.docs))

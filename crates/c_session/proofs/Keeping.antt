@@ -30,7 +30,7 @@ use Rattle.c_session.specs.State.{State, with_texts}
 use Rattle.c_session.specs.Ties.News.{IsPrior, KeepsPrior}
 use Rattle.c_session.specs.Ties.Refused.{Answers, Leaves, IsKeptBy, IsWorked, edited}
 use Rattle.c_session.specs.Ties.Seen.{seen}
-use Rattle.c_session.specs.Ties.Sessions.{IsKept, IsRenewal, WereKept, Renews, Works, WorksBeside, Stood, Worked, current_state}
+use Rattle.c_session.specs.Ties.Sessions.{IsKept, IsRenewal, WereKept, WasRead, Renews, Works, WorksBeside, Stood, Worked, current_state}
 use Rattle.c_session.specs.declared.analysis.Analysis.{Analysis}
 use Rattle.c_session.specs.declared.current.Current.{Current}
 use Rattle.c_session.specs.declared.message.Message as code
@@ -40,6 +40,7 @@ use Rattle.c_session.specs.declared.phase.Phase.TheVariants.{Fresh}
 use Rattle.c_session.specs.declared.questions.QuestionKind.{QuestionKind}
 use Rattle.c_session.specs.declared.reasons.Refusal.{Refusal}
 use Rattle.c_session.proofs.Priors.{IsEdit}
+use Rattle.c_session.proofs.Readings.{was_read}
 use Rattle.c_session.proofs.Telling.{with_docs, nothing_remembered}
 
 -- ---- the texts before
@@ -184,17 +185,20 @@ works_as s s1 s' old new same is = subst (λ x. Works s x old new) (sym same) (W
 
 pub edit_keeps : (c : Current) (t : Texts) (r : Result (List ℕ) Refusal) (meant : Result Edited Reason) (prior : Prior) →
     IfOk r (λ path. meant ≡ Ok (edited t path) → IsEdit path c.docs t × IsPrior c.docs prior t) → Answers (edited t) r meant → IsKept c → IsKeptBy r prior (with_docs t c)
-edit_keeps c t (Ok path) meant prior edit answers kept = record { before = c.docs; read = conf_in (current_state c); since = (edit answers).1; were = kept }
+edit_keeps c t (Ok path) meant prior edit answers kept = (
+  record { before = c.docs; read = conf_in (current_state c); since = (edit answers).1; were = kept.0 },
+  was_read c.words c.docs t prior c.read (edit answers).1 (edit answers).0.others.root kept.1,
+)
 edit_keeps c t (Err r) meant prior edit answers kept = tt
 
-pub edit_kept : (r : Result (List ℕ) Refusal) (path : List ℕ) (prior : Prior) (c : Current) → r ≡ Ok path → IsKeptBy r prior c → WereKept prior c.docs c.kept
+pub edit_kept : (r : Result (List ℕ) Refusal) (path : List ℕ) (prior : Prior) (c : Current) → r ≡ Ok path → IsKeptBy r prior c → WereKept prior c.docs c.kept × WasRead c.words prior c.docs c.read
 edit_kept r path prior c is kept = subst (λ x. IsKeptBy x prior c) is kept
 
 pub edit_works : (c : Current) (s' : State) (t : Texts) (r : Result (List ℕ) Refusal) (meant : Result Edited Reason) (prior : Prior) (old new : ℕ) → s' ≡ with_texts t (current_state c) →
     IfOk r (λ path. meant ≡ Ok (edited t path) → IsEdit path c.docs t × IsPrior c.docs prior t) → Answers (edited t) r meant → Leaves r c.docs t → IsKept c → IsWorked r prior (with_docs t c) old new →
     Works (current_state c) s' old new
 edit_works c s' t (Ok path) meant prior old new settings edit answers leaves kept are =
-    works_as (current_state c) (with_texts t (current_state c)) s' old new settings (are c.docs (conf_in (current_state c)) (edit answers).1 kept)
+    works_as (current_state c) (with_texts t (current_state c)) s' old new settings (are c.docs (conf_in (current_state c)) (edit answers).1 kept.0)
 edit_works c s' t (Err r) meant prior old new settings edit answers leaves kept are = left_works (current_state c) s' t old new settings leaves are
 
 -- ---- a content

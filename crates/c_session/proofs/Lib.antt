@@ -10,6 +10,7 @@ pub mod PathSets
 pub mod Priors
 pub mod Publications
 pub mod Publishing
+pub mod Readings
 pub mod Reasoning
 pub mod Remembered
 pub mod Responding

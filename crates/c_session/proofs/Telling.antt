@@ -133,11 +133,11 @@ edit_told s s' t method r meant prior bytes before after same was edit answers l
 
 -- what stands behind the reply
 pub shows_behind : (r : Result (List ℕ) Refusal) (old new : Current) → IsBehind r old new → IfOk r (λ _. ShowsAll (current_state new) (shown_in new.kept.shown))
-shows_behind (Ok path) old new kept = kept.shown.right
+shows_behind (Ok path) old new kept = kept.0.shown.right
 shows_behind (Err e) old new same = tt
 
 abbrev pub with_docs : Texts → Current → Current
-with_docs t c = record { alloc = c.alloc; words = c.words; docs = t; encoding = c.encoding; phase = c.phase; kept = c.kept }
+with_docs t c = record { alloc = c.alloc; words = c.words; docs = t; encoding = c.encoding; phase = c.phase; kept = c.kept; read = c.read }
 
 pub kept_behind : (r : Result (List ℕ) Refusal) (c : Current) (t : Texts) (new : Current) → IsBehind r (with_docs t c) new → Leaves r c.docs t → IsKept c → IsKept new
 kept_behind (Ok path) c t new kept leaves was = kept

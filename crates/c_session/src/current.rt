@@ -24,7 +24,7 @@ ghost use Rattle.plain_mean.specs.Confs.{IsUsable};
 ghost use Rattle.lsp_answers.specs.Replies.{log, error};
 ghost use Rattle.c_session.specs.Ties.SeenParams.{seen_file_change};
 ghost use Rattle.c_session.specs.Ties.Seen.{seen};
-ghost use Rattle.c_session.specs.Ties.Sessions.{current_state, loading, outcome_of, IsKept, WereKept, Renews, Works, WorksBeside};
+ghost use Rattle.c_session.specs.Ties.Sessions.{current_state, loading, outcome_of, IsKept, WereKept, WasRead, Renews, Works, WorksBeside};
 ghost use Rattle.c_session.specs.Shown.{conf_in};
 ghost use Rattle.c_session.specs.State.{fresh};
 ghost use Rattle.c_session.specs.declared.phase.Phase.TheVariants.{Fresh};
@@ -36,7 +36,7 @@ use crate::documents::{change_document, close_document, open_document};
 use crate::error::SessionError;
 use crate::loading::read_back;
 use crate::message::Message;
-use crate::news::{Change, prior_of, push_tidings};
+use crate::news::{Change, other_database, prior_of, push_tidings};
 use crate::params::{FileChange, watching_in};
 use crate::phase::Phase;
 use crate::reasons::Refusal;
@@ -94,6 +94,8 @@ pub(crate) struct Current {
     phase: Phase,
     /// What the texts come to: what the files show, and what questions are answered from.
     kept: Analysis,
+    /// How the units were read when that was worked out, where it is known.
+    read: Option<Conf>,
 }
 
 /// A log message: why a notification of a method is refused.
@@ -118,6 +120,7 @@ impl Current {
             encoding: Encoding::Utf16,
             phase: Phase::Fresh,
             kept: Analysis::new(alloc),
+            read: None,
         }
     }
 
@@ -233,20 +236,37 @@ impl Current {
         Ok(conf)
     }
 
-    /// What the texts come to now, by what was kept. It costs what `renewed` does, and the database's text.
+    /// How the units are read now: as they were, or read anew where the database has another text than before.
+    fn read_now(&self, read: Option<Conf>, prior: &PriorTexts) -> Result<Conf, AllocError>
+        requires { WasRead self.now.words prior.now self.now.docs read }
+        ensures conf { IfOk result (λ conf. conf ≡ conf_in (current_state self.now)) }
+        ensures usable { IfOk result (λ conf. IsUsable conf) }
+    {
+        if other_database(self.alloc, &self.docs, prior)? {
+            return self.conf_now();
+        }
+        match read {
+            Some(conf) => Ok(conf),
+            None => self.conf_now(),
+        }
+    }
+
+    /// What the texts come to now, by what was kept, where the units are read so. It costs what `renewed` does.
     fn renew<L: Ledger>(
         &self,
         kept: Analysis,
+        conf: &Conf,
         prior: &PriorTexts,
         steps: &mut Steps<L>,
     ) -> Result<Renewal, AllocError>
-        requires { WereKept prior.now self.now.docs kept }
+        requires kept { WereKept prior.now self.now.docs kept }
+        requires usable { IsUsable conf.now }
+        requires conf { conf.now ≡ conf_in (current_state self.now) }
         ensures before { IfOk result (λ r. r.before ≡ kept.shown) }
         ensures analysis { IfOk result (λ r. IsAnalysis self.now.docs (conf_in (current_state self.now)) r.analysis) }
         ensures steps { OnOk result (Renews prior.now self.now.docs kept (current_state self.now) steps.old steps.new) }
     {
-        let conf = self.conf_now()?;
-        let renewal = renewed(self.alloc, kept, &self.docs, &conf, prior, steps)?;
+        let renewal = renewed(self.alloc, kept, &self.docs, conf, prior, steps)?;
         Ok(renewal)
     }
 
@@ -259,6 +279,7 @@ impl Current {
     {
         let conf = self.conf_now()?;
         self.kept = analysed(self.alloc, &self.docs, &conf, steps)?;
+        self.read = None;
         Ok(())
     }
 
@@ -304,13 +325,16 @@ impl Current {
         steps: &mut Steps<L>,
     ) -> Result<Vec<u8>, AllocError>
         requires kept { WereKept prior.now self.old.docs self.old.kept }
+        requires read { WasRead self.old.words prior.now self.old.docs self.old.read }
         ensures wrote { IfOk result (λ v. v.items ≡ (response.items ++ logs.now) ++ tidings (touched_by (option_map (λ p. p.now) touched.entry)) self.old.encoding (shown_in self.old.kept.shown) (shown_in self.new.kept.shown) prior.now self.old.docs) }
         ensures kept { OnOk result (IsKept self.new) }
         ensures steps { OnOk result (Renews prior.now self.old.docs self.old.kept (current_state self.old) steps.old steps.new) }
         ensures same { OnOk result (current_state self.new ≡ current_state self.old) }
     {
         let kept = mem::replace(&mut self.kept, Analysis::new(self.alloc));
-        let renewal = self.renew(kept, prior, steps)?;
+        let read = mem::replace(&mut self.read, None);
+        let conf = self.read_now(read, prior)?;
+        let renewal = self.renew(kept, &conf, prior, steps)?;
         let change = Change {
             before: &renewal.before,
             after: &renewal.analysis.shown,
@@ -323,6 +347,7 @@ impl Current {
             before: _,
         } = renewal;
         self.kept = analysis;
+        self.read = Some(conf);
         Ok(out)
     }
 
@@ -364,6 +389,7 @@ impl Current {
     ) -> Result<Vec<u8>, SessionError>
         requires store { D.faults store.old + 1 < 2 ^ 64 }
         requires kept { WereKept prior.old self.old.docs self.old.kept }
+        requires read { WasRead self.old.words prior.old self.old.docs self.old.read }
         ensures handled { IfOk result (λ v. HasPublished (read_back (loading self.old.docs []) path.now) (current_state self.old) (current_state self.new) v.items (shown_in self.old.kept.shown) (shown_in self.new.kept.shown) prior.old (D.answers store.old) (D.answers store.new)) }
         ensures kept { OnOk result (IsKept self.new) }
         ensures steps { OnOk result (Renews prior.old self.old.docs self.old.kept (current_state self.new) steps.old steps.new) }
@@ -468,6 +494,7 @@ impl Current {
         self.docs = docs;
         self.encoding = encoding;
         self.phase = Phase::Running;
+        self.read = None;
         match self.finish(bytes, logs.as_slice(), &prior, None, steps) {
             Ok(bytes) => Ok(bytes),
             Err(_) => Err(AllocError),

@@ -172,7 +172,11 @@ fn push_news(
 }
 
 /// Whether the database has another text than the one that is kept for it.
-fn other_database(alloc: Global, docs: &Docs, prior: &PriorTexts) -> Result<bool, AllocError>
+pub(crate) fn other_database(
+    alloc: Global,
+    docs: &Docs,
+    prior: &PriorTexts,
+) -> Result<bool, AllocError>
     ensures { IfOk result (λ differs. differs ≡ other_database prior.now docs.now) }
 {
     match database_path(alloc, docs.root())? {

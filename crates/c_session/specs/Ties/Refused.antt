@@ -14,7 +14,7 @@ use Rattle.c_session.specs.React.{Edited}
 use Rattle.c_session.specs.Reasons.{Reason, ByParams, ByUri, ByTexts, reason_text}
 use Rattle.lsp_answers.specs.Replies.{log}
 use Rattle.c_session.specs.Ties.News.{ByPath, tidings}
-use Rattle.c_session.specs.Ties.Sessions.{current_state, IsKept, WereKept, Renews}
+use Rattle.c_session.specs.Ties.Sessions.{current_state, IsKept, WereKept, WasRead, Renews}
 use Rattle.c_session.specs.declared.current.Current.{Current}
 use Rattle.c_session.specs.declared.reasons.Refusal.{Refusal}
 use Rattle.c_session.specs.declared.reasons.Refusal.TheVariants.{Params, Uri, Texts as ByDocs, NoMemory}
@@ -76,7 +76,7 @@ IsBehind (Err r) old new = new ≡ old
 
 -- what is kept is of texts before the edit, where it was one
 abbrev pub IsKeptBy : Result (List ℕ) Refusal → Prior → Current → Type 0
-IsKeptBy (Ok path) prior c = WereKept prior c.docs c.kept
+IsKeptBy (Ok path) prior c = WereKept prior c.docs c.kept × WasRead c.words prior c.docs c.read
 IsKeptBy (Err r) prior c = Unit {0}
 
 -- the counter of steps behind the reply to an edit that left these texts

@@ -1,9 +1,11 @@
 -- The state that a session keeps.
-use Rattle.std.specs.Prelude.{◌≡◌, ◌+◌, ℕ, Bool, List, length}
+use Rattle.std.specs.Prelude.{◌≡◌, ◌+◌, ℕ, Bool, List, length, Option, None, Some}
 use Rattle.doc_texts.specs.Texts.{Texts}
 use Rattle.doc_texts.specs.Prior.{Prior}
 use Rattle.plain_mean.specs.Renewed.{renewed}
 use Rattle.project_conf.specs.declared.conf.Conf.{Conf}
+use Rattle.project_conf.specs.declared.options.Options.{Options}
+use Rattle.plain_mean.specs.Confs.{conf_of, IsUsable}
 use Rattle.c_session.specs.Handled.{outcome}
 use Rattle.c_session.specs.Loading.{Loading}
 use Rattle.c_session.specs.React.{Outcome, Beginning}
@@ -26,9 +28,14 @@ pub record SessionView : Type 0 where
 abbrev pub current_state : Current → State
 current_state c = record { options = c.words; texts = c.docs; encoding = c.encoding; phase = c.phase }
 
+-- what is kept of how units are read is that
+abbrev pub IsRead : Conf → Option Conf → Type 0
+IsRead conf None = Unit {0}
+IsRead conf (Some kept) = (kept ≡ conf) × IsUsable kept
+
 -- what is kept is what the texts come to
 abbrev pub IsKept : Current → Type 0
-IsKept c = IsAnalysis c.docs (conf_in (current_state c)) c.kept
+IsKept c = IsAnalysis c.docs (conf_in (current_state c)) c.kept × IsRead (conf_in (current_state c)) c.read
 
 -- What is kept is what some texts came to, of which these are the prior texts.
 pub record WereKept (prior : Prior) (now : Texts) (kept : Analysis) : Type 0 where
@@ -36,6 +43,18 @@ pub record WereKept (prior : Prior) (now : Texts) (kept : Analysis) : Type 0 whe
   pub read : Conf
   pub since : IsPrior before prior now
   pub were : IsAnalysis before read kept
+
+-- The units of some texts under the same root were read so, of which these are the prior texts.
+pub record ReadBefore (options : Options) (prior : Prior) (now : Texts) (conf : Conf) : Type 0 where
+  pub before : Texts
+  pub since : IsPrior before prior now
+  pub root : now.root ≡ before.root
+  pub was : conf ≡ conf_of options before
+  pub usable : IsUsable conf
+
+abbrev pub WasRead : Options → Prior → Texts → Option Conf → Type 0
+WasRead options prior now None = Unit {0}
+WasRead options prior now (Some conf) = ReadBefore options prior now conf
 
 -- ---- the counter of steps
 

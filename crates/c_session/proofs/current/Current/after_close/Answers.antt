@@ -2,6 +2,7 @@ use Rattle.plain_mean.specs.Lists.{shown_in}
 use Rattle.c_session.specs.Ties.Sessions.{current_state}
 use Rattle.c_session.proofs.Telling.{closed_tells, with_docs}
 use Rattle.c_session.proofs.Keeping.{kept_further, renews_further}
+use Rattle.c_session.proofs.Readings.{read_further}
 use Rattle.c_session.proofs.current.Current.after_close.Goals as goal
 
 pub returns-in-Ok-finish-clause-handled : goal.returns-in-Ok-finish-clause-handled
@@ -14,4 +15,7 @@ returns-in-Ok-finish-clause-steps g c = renews_further c.args.prior.now c.read_b
     (current_state (with_docs c.read_back.new.docs c.args.self.now)) (current_state c.finish.new.self) _ _ c.in-Ok-finish.ensures.same c.in-Ok.ensures.prior c.in-Ok-finish.ensures.steps
 
 pub finish-requires : goal.finish-requires
-finish-requires g c = record { kept = kept_further c.args.prior.now c.read_back.new.prior c.args.self.now.docs c.read_back.new.docs c.args.self.now.kept c.in-Ok.ensures.prior c.requires.kept }
+finish-requires g c = record {
+  kept = kept_further c.args.prior.now c.read_back.new.prior c.args.self.now.docs c.read_back.new.docs c.args.self.now.kept c.in-Ok.ensures.prior c.requires.kept;
+  read = read_further c.args.self.now.words c.args.prior.now c.read_back.new.prior c.args.self.now.docs c.read_back.new.docs c.args.self.now.read c.in-Ok.ensures.prior c.requires.read;
+}

@@ -9,7 +9,7 @@ use Rattle.c_session.proofs.current.Current.on_change.Goals as goal
 
 pub returns-clause-told : goal.returns-clause-told
 returns-clause-told g c = edit_told (current_state c.args.self.now) (current_state c.reply_to_edit.new.self) c.change_document-edited.new.docs did_change c.change_document-edited.result _ c.change_document-edited.new.prior
-    c.in_ok-bytes.bytes.items (shown_in c.args.self.now.kept.shown) (shown_in c.reply_to_edit.new.self.kept.shown) c.in_ok-bytes.ensures.same c.requires.shown.right
+    c.in_ok-bytes.bytes.items (shown_in c.args.self.now.kept.shown) (shown_in c.reply_to_edit.new.self.kept.shown) c.in_ok-bytes.ensures.same c.requires.0.shown.right
     (changing_prior c.args.self.now.docs c.change_document-edited.new.docs c.args.self.now.encoding (option_map (λ v. view v.now) c.args.params) c.change_document-edited.result c.new-prior.result c.change_document-edited.new.prior c.new-prior.ensures c.change_document-edited.ensures.prior)
     c.change_document-edited.ensures.meant c.change_document-edited.ensures.kept c.in_ok-bytes.ensures.reply
     (shows_behind c.change_document-edited.result (with_docs c.change_document-edited.new.docs c.args.self.now) c.reply_to_edit.new.self c.in_ok-bytes.ensures.behind)

@@ -9,7 +9,7 @@ use Rattle.c_session.proofs.current.Current.on_open.Goals as goal
 
 pub returns-clause-told : goal.returns-clause-told
 returns-clause-told g c = edit_told (current_state c.args.self.now) (current_state c.reply_to_edit.new.self) c.open_document-edited.new.docs did_open c.open_document-edited.result _ c.open_document-edited.new.prior
-    c.in_ok-bytes.bytes.items (shown_in c.args.self.now.kept.shown) (shown_in c.reply_to_edit.new.self.kept.shown) c.in_ok-bytes.ensures.same c.requires.shown.right
+    c.in_ok-bytes.bytes.items (shown_in c.args.self.now.kept.shown) (shown_in c.reply_to_edit.new.self.kept.shown) c.in_ok-bytes.ensures.same c.requires.0.shown.right
     (opening_prior c.args.self.now.docs c.open_document-edited.new.docs (option_map (λ v. view v.now) c.args.params) c.open_document-edited.result c.new-prior.result c.open_document-edited.new.prior c.new-prior.ensures c.open_document-edited.ensures.prior)
     c.open_document-edited.ensures.meant c.open_document-edited.ensures.kept c.in_ok-bytes.ensures.reply
     (shows_behind c.open_document-edited.result (with_docs c.open_document-edited.new.docs c.args.self.now) c.reply_to_edit.new.self c.in_ok-bytes.ensures.behind)

@@ -7,4 +7,4 @@ use Rattle.c_session.proofs.current.Current.on_question.Goals as goal
 
 pub returns-in_ok-bytes-in-Ok : goal.returns-in_ok-bytes-in-Ok
 returns-in_ok-bytes-in-Ok c = question_told (current_state c.args.self.now) c.args.id.now (about_in c.args.kind (option_map (λ v. view v.now) c.args.params)) c.in-Ok.about _ c.in_ok-text-in-Ok.text
-    c.in_ok-bytes-in-Ok.bytes.items c.in-Ok.ensures c.requires.units c.in_ok-text-in-Ok.ensures c.in_ok-bytes-in-Ok.ensures
+    c.in_ok-bytes-in-Ok.bytes.items c.in-Ok.ensures c.requires.0.units c.in_ok-text-in-Ok.ensures c.in_ok-bytes-in-Ok.ensures

@@ -8,7 +8,7 @@ use Rattle.c_session.proofs.current.Current.settle.Goals as goal
 pub renamed-requires : goal.renamed-requires
 renamed-requires g c = record {
   usable = c.in_ok-conf.ensures.usable;
-  kept = subst (λ x. IsAnalysis c.args.self.now.docs x c.args.self.now.kept) (sym c.in_ok-conf.ensures.conf) c.requires.kept;
+  kept = subst (λ x. IsAnalysis c.args.self.now.docs x c.args.self.now.kept) (sym c.in_ok-conf.ensures.conf) c.requires.kept.0;
   texts = λ path. c.texts_stay_short.ensures.shown c.args.self.now.docs c.requires.short path;
 }
 
