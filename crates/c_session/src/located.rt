@@ -4,6 +4,7 @@ ghost use Rattle.c_tokens.specs.Lexed as lexing;
 ghost use Rattle.plain_mean.specs.Given.{text_in};
 ghost use Rattle.plain_mean.specs.Lexing.{IsLexed};
 ghost use Rattle.plain_mean.specs.Shown.{place_of};
+ghost use Rattle.text_lines.specs.Positions.{line_starts, pos_at};
 ghost use Rattle.c_session.specs.Kept.{HasLexed};
 ghost use Rattle.c_session.specs.Places as spec;
 ghost use Rattle.c_session.specs.Ties.AtHand.{IsOpened, IsAtHand};
@@ -16,10 +17,13 @@ use plain_mean::LexedText;
 use scope_tables::Symbol;
 use shared_text::Name;
 use std::alloc::{AllocError, Global};
-use text_lines::{Encoding, Pos, Walk};
+use text_lines::{Encoding, LineTable, Pos, Walk};
 use tok_data::{FileId, TokId};
 use unit_index::symbol_number;
 use uri_paths::{Path, uri_of};
+
+// A byte is near the front of its line where no more than so many bytes stand between.
+const NEAR: u32 = 256;
 
 /// The URI that names a file: that of the client where it is open.
 #[tactic(auto, unfolding(crate::specs::Places::uri_for))]
@@ -86,7 +90,8 @@ pub(crate) fn range_in(
     Ok(range_of(text_in(docs, path), &lexed, encoding, at))
 }
 
-// A file in which tokens are placed: how the client names it, what lexing gave of its text, and a walk over it.
+// A file in which tokens are placed: how the client names it, what lexing gave of its text, and a walk over it, for what stands far from the
+// front of a line.
 #[derive(Drop)]
 pub(crate) struct Opened<'a> {
     path: Path,
@@ -175,17 +180,50 @@ fn turned_to<'a>(
     }
 }
 
+// Where a byte stands, told from the front of its line where that is near, else by the walk, so that all bytes of a long line cost one pass.
+fn pos_of(
+    walk: &mut Walk<'_>,
+    text: &str,
+    lines: &LineTable,
+    encoding: Encoding,
+    offset: u32,
+) -> Pos
+    requires walk { walk.old.text ≡ text.now }
+    requires encoding { walk.old.encoding ≡ encoding }
+    requires lines { lines.now ≡ line_starts text.now }
+    requires short { length text.now ≤ 4290772992 }
+    requires within { offset ≤ length text.now }
+    ensures pos { result ≡ pos_at text.now offset walk.old.encoding }
+    ensures same { walk.new ≡ walk.old }
+{
+    let line = lines.line(offset);
+    let front = lines.offset(text, Pos { line, character: 0 }, encoding);
+    if offset.saturating_sub(front) <= NEAR {
+        return lines.pos(text, offset, encoding);
+    }
+    walk.pos(offset)
+}
+
 // Where the token with this number begins and ends.
 #[tactic(auto, unfolding(crate::specs::Places::range_in))]
-fn walked_to(walk: &mut Walk<'_>, text: &str, lexed: &LexedText, at: u32) -> (Pos, Pos)
+fn walked_to(
+    walk: &mut Walk<'_>,
+    text: &str,
+    lexed: &LexedText,
+    encoding: Encoding,
+    at: u32,
+) -> (Pos, Pos)
     requires lexed { IsLexed text.now lexed.now }
+    requires short { length text.now ≤ 4290772992 }
     requires walk { walk.old.text ≡ text.now }
+    requires encoding { walk.old.encoding ≡ encoding }
     ensures range { result ≡ spec.range_in text.now walk.old.encoding at }
     ensures same { walk.new ≡ walk.old }
 {
     let (start, end) = place_of(text, lexed, at);
-    let first = walk.pos(start);
-    let last = walk.pos(end);
+    let places = lexed.places.as_places();
+    let first = pos_of(walk, text, &places.lines, encoding, start);
+    let last = pos_of(walk, text, &places.lines, encoding, end);
     (first, last)
 }
 
@@ -203,7 +241,7 @@ fn in_file(
     ensures same { file.new ≡ file.old }
 {
     let uri = file.uri.share()?;
-    let (start, end) = walked_to(&mut file.walk, file.text, &file.lexed, at);
+    let (start, end) = walked_to(&mut file.walk, file.text, &file.lexed, encoding, at);
     Ok(Located {
         uri,
         start,
@@ -252,7 +290,8 @@ fn mention(
     located(docs, encoding, hand, 0, name, tok)
 }
 
-/// The places of some tokens, in their order. Tokens of one text that come one behind the other, by place, cost one walk over it.
+/// The places of some tokens, in their order. Each costs a search among the lines of its text, and a walk over 256 bytes at most; those that
+/// stand further from the fronts of their lines cost one walk over their text, where they come one behind the other, by place.
 pub(crate) fn mentions(
     kept: &Analysis,
     docs: &Docs,

@@ -1,5 +1,5 @@
 -- The text in which tokens are placed, and what is at hand of it.
-use Rattle.std.specs.Prelude.{◌≡◌, ℕ, List, Option, None, Some}
+use Rattle.std.specs.Prelude.{◌≡◌, ◌≤◌, ℕ, List, length, Option, None, Some}
 use Rattle.doc_texts.specs.Texts.{Texts}
 use Rattle.plain_mean.specs.Given.{text_in}
 use Rattle.plain_mean.specs.Lexing.{IsLexed}
@@ -14,6 +14,7 @@ pub record IsOpened (texts : Texts) (counting : Encoding) (at : List ℕ) (file 
   pub path : file.path ≡ at
   pub uri : file.uri ≡ uri_for texts at
   pub text : file.text.now ≡ text_in texts at
+  pub short : length file.text.now ≤ 4290772992
   pub lexed : IsLexed (text_in texts at) file.lexed
   pub walked : file.walk.text ≡ text_in texts at
   pub encoding : file.walk.encoding ≡ counting
