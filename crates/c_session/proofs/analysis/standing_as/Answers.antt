@@ -1,4 +1,4 @@
-use Rattle.std.proofs.Common.{◌≡◌, ◌++◌, ℕ, List, IfSome, sym, subst, ◌∙◌}
+use Rattle.std.proofs.Common.{◌≡◌, ◌++◌, ℕ, List, IfSome, subst, ◌∙◌}
 use Rattle.doc_texts.specs.Texts.{Texts}
 use Rattle.plain_mean.specs.Lexing.{HasLexed}
 use Rattle.plain_mean.specs.Lists.{shown_in}
