@@ -30,8 +30,8 @@ use steps::Steps;
 use unit_index::{Crossings, IndexedUnit};
 use uri_paths::Path;
 
-/// What all units of some texts come to: what each file shows, what each unit means, with an index, and on what that rests, and what lexing gave of the
-/// texts that the units read.
+/// What all units of some texts come to: what each file shows, what each unit means, with an index, and on what that rests, what lexing gave of the
+/// texts that the units read, and the warnings across units.
 #[derive(Drop)]
 pub struct Analysis {
     pub(crate) alloc: Global,
@@ -40,7 +40,7 @@ pub struct Analysis {
     pub(crate) units: Vec<IndexedUnit>,
     pub(crate) grounds: Vec<Grounds>,
     pub(crate) lexings: KeptLexings,
-    /// The warnings across units, of each, without their tokens.
+    /// The warnings across units, those of each unit without their tokens.
     pub(crate) across: Vec<Crossings>,
 }
 

@@ -101,7 +101,7 @@ pub(crate) struct Opened<'a> {
     walk: Walk<'a>,
 }
 
-// The text at hand, by its name, with its file, where it is one's. Tokens come in order, so each file is walked over once.
+// The text at hand, by its name, with its file, where it is one's. Tokens come in order, so each file is opened once.
 #[derive(Drop)]
 pub(crate) struct AtHand<'a> {
     name: FileId,
@@ -290,7 +290,7 @@ fn mention(
     located(docs, encoding, hand, 0, name, tok)
 }
 
-/// The places of some tokens, in their order. Each costs a search among the lines of its text, and a walk over 256 bytes at most; those that
+/// The places of some tokens, in their order. Each end costs two searches among the lines of its text, and a walk over 256 bytes at most; those that
 /// stand further from the fronts of their lines cost one walk over their text, where they come one behind the other, by place.
 pub(crate) fn mentions(
     kept: &Analysis,

@@ -96,7 +96,8 @@ impl Session {
     /// is read in another way, or asked something of files that has another answer now, and for a rename each that would ask something that has
     /// another answer with its edits made, and no other unit. Beside these units, a content
     /// that opens, changes or closes a document or tells of files costs the texts' paths, what all units asked and read and their faults,
-    /// the database's entries and its text where that is another than before and, where what units see of one another isn't what it was, the names that they show to one another. After an error (`StoreFault`, `NoMemory`) the session isn't used again: its state isn't told then, its texts may be
+    /// the database's entries, its text where that is another than before and, where what units see of one another isn't what it was, the names that they show to one another with the types that these
+    /// lead to; a rename costs the database's text too. After an error (`StoreFault`, `NoMemory`) the session isn't used again: its state isn't told then, its texts may be
     /// dropped, and a call that came nonetheless might work out more units.
     pub fn handle<D: Store, L: Ledger>(
         &mut self,

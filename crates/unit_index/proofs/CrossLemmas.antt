@@ -46,13 +46,6 @@ of_unit_first does q u path exports same_path same_exports =
     ap (λ p. first_some (one does p exports.tags q) exports.names) same_path ∙ ap (λ (e : Exports). first_some (one does u.path e.tags q) e.names) same_exports
 
 -- the same by places
-pub gathers_at : {A B : Type 0} (f : A → List B) (out now all : List B) (x : A) (xs : List A) (n : ℕ)
-    → Some x ≡ slice_get xs n → now ≡ out ++ f x → out ++ flat_map f (drop n xs) ≡ all → now ++ flat_map f (drop (n + 1) xs) ≡ all
-gathers_at f out now all x xs n here is was = gathers f out now all x (drop n xs) (drop (n + 1) xs) (rest_here xs n x here) is was
-
-pub gathered_at : {A B : Type 0} (f : A → List B) (out all : List B) (xs : List A) (n : ℕ) → None ≡ slice_get xs n → out ++ flat_map f (drop n xs) ≡ all → out ≡ all
-gathered_at f out all xs n none was = gathered_all f out all (drop n xs) (rest_none xs n none) was
-
 pub find_here : {A : Type 0} (p : A → Bool) (x : A) (all : Option A) (xs : List A) (n : ℕ) → Some x ≡ slice_get xs n → true ≡ p x → find p (drop n xs) ≡ all → Some x ≡ all
 find_here p x all xs n here hit was =
     ap (λ b. if b then Some x else find p (drop (n + 1) xs)) hit ∙ sym (ap (find p) (rest_here xs n x here)) ∙ was

@@ -4,7 +4,6 @@ use Rattle.std.specs.Cmp.Lexicographic.{pointwise}
 use Rattle.std.specs.Prelude.{nat_eq, ◌&&◌}
 use Rattle.std.specs.List.{flat_map, slice_get}
 use Rattle.std.proofs.lemmas.Grind.{flat_map-append}
-use Rattle.std.proofs.lemmas.List.{map-append}
 use Rattle.tok_data.specs.declared.sources.TokId.{TokId}
 use Rattle.scope_tables.specs.declared.units.Export.{Export}
 use Rattle.unit_index.specs.declared.across.CrossFault.{CrossFault}
@@ -18,7 +17,6 @@ use Rattle.unit_index.specs.Firsts.{first_some, given, or_else}
 use Rattle.unit_index.specs.Handles.{Tagging}
 use Rattle.unit_index.specs.Matching.{Test}
 use Rattle.unit_index.proofs.FirstLemmas.{empty, rest_here, rest_none}
-use Rattle.tok_data.specs.declared.faults.ShownFault.{ShownFault}
 use Rattle.unit_index.specs.Crossing.{Seen, Sight, all_crossings, all_placed, on_token, token_of, crossing, crossings, defined, definition_told, differs, does_seen, first_seen, on_name, on_names, one_seen, origin, placed, seen, seen_in, sight, twice, typed, types_told}
 
 -- ---- who is first
@@ -120,10 +118,9 @@ pub sights_mapped : (test : Test) (us : List Shown) → all_crossings test (map 
 sights_mapped test us = map_twice (crossings test (map sight us)) sight us
 
 -- warnings that are those of the units, on the tokens of these
-pub placed_is : (test : Test) (us : List Shown) (css : List (List Crossing)) → css ≡ all_crossings test (map sight us) → map (λ c. c.fault) (all_placed us css) ≡ map (λ c. c.fault) (cross test us)
+pub placed_is : (test : Test) (us : List Shown) (css : List (List Crossing)) → css ≡ all_crossings test (map sight us) → all_placed us css ≡ cross test us
 placed_is test us css are =
-    ap (map (λ c. c.fault))
-    (ap (all_placed us) (are ∙ sights_mapped test us) ∙ all_in_turn (λ u. crossings test (map sight us) (sight u)) us ∙ sym (placed_all test us))
+    ap (all_placed us) (are ∙ sights_mapped test us) ∙ all_in_turn (λ u. crossings test (map sight us) (sight u)) us ∙ sym (placed_all test us)
 
 -- ---- loops
 
@@ -150,38 +147,24 @@ units_turn f xs n x y out now all here same is was =
 pub units_end : {A B : Type 0} (f : A → B) (xs : List A) (n : ℕ) (out all : List B) → None ≡ slice_get xs n → out ++ map f (drop n xs) ≡ all → out ≡ all
 units_end f xs n out all none was = sym (append-nil out) ∙ sym (ap (λ rest. out ++ map f rest) (rest_none xs n none)) ∙ was
 
-abbrev pub faults : List CrossFault → List ShownFault
-faults fs = map (λ c. c.fault) fs
-
-pub placing_turn : (us : List Shown) (css : List (List Crossing)) (n : ℕ) (u : Shown) (cs : List Crossing) (out now all : List ShownFault) →
-    Some u ≡ slice_get us n → Some cs ≡ slice_get css n → now ≡ out ++ faults (flat_map (placed u) cs) → out ++ faults (all_placed (drop n us) (drop n css)) ≡ all →
-    now ++ faults (all_placed (drop (n + 1) us) (drop (n + 1) css)) ≡ all
+pub placing_turn : (us : List Shown) (css : List (List Crossing)) (n : ℕ) (u : Shown) (cs : List Crossing) (out now all : List CrossFault) →
+    Some u ≡ slice_get us n → Some cs ≡ slice_get css n → now ≡ out ++ flat_map (placed u) cs → out ++ all_placed (drop n us) (drop n css) ≡ all →
+    now ++ all_placed (drop (n + 1) us) (drop (n + 1) css) ≡ all
 placing_turn us css n u cs out now all here there is was =
-    ap (λ l. l ++ faults (all_placed (drop (n + 1) us) (drop (n + 1) css))) is
-    ∙ append_assoc out (faults (flat_map (placed u) cs)) (faults (all_placed (drop (n + 1) us) (drop (n + 1) css)))
-    ∙ ap (λ l. out ++ l) (sym (map-append (λ c. c.fault) (flat_map (placed u) cs) (all_placed (drop (n + 1) us) (drop (n + 1) css))))
-    ∙ sym (λ i. out ++ faults (all_placed (rest_here us n u here i) (rest_here css n cs there i))) ∙ was
+    ap (λ l. l ++ all_placed (drop (n + 1) us) (drop (n + 1) css)) is
+    ∙ append_assoc out (flat_map (placed u) cs) (all_placed (drop (n + 1) us) (drop (n + 1) css))
+    ∙ sym (λ i. out ++ all_placed (rest_here us n u here i) (rest_here css n cs there i)) ∙ was
 
 none_placed : (us : List Shown) (css : List (List Crossing)) → css ≡ [] → all_placed us css ≡ []
 none_placed [] css none = refl
 none_placed (u ∷ us) css none = ap (all_placed (u ∷ us)) none
 
-pub placing_end : (us : List Shown) (css : List (List Crossing)) (n : ℕ) (out all : List ShownFault) → None ≡ slice_get us n → out ++ faults (all_placed (drop n us) (drop n css)) ≡ all → out ≡ all
-placing_end us css n out all none was = sym (append-nil out) ∙ sym (ap (λ rest. out ++ faults (all_placed rest (drop n css))) (rest_none us n none)) ∙ was
+pub placing_end : (us : List Shown) (css : List (List Crossing)) (n : ℕ) (out all : List CrossFault) → None ≡ slice_get us n → out ++ all_placed (drop n us) (drop n css) ≡ all → out ≡ all
+placing_end us css n out all none was = sym (append-nil out) ∙ sym (ap (λ rest. out ++ all_placed rest (drop n css)) (rest_none us n none)) ∙ was
 
-pub placing_ends : (us : List Shown) (css : List (List Crossing)) (n : ℕ) (out all : List ShownFault) → None ≡ slice_get css n → out ++ faults (all_placed (drop n us) (drop n css)) ≡ all → out ≡ all
+pub placing_ends : (us : List Shown) (css : List (List Crossing)) (n : ℕ) (out all : List CrossFault) → None ≡ slice_get css n → out ++ all_placed (drop n us) (drop n css) ≡ all → out ≡ all
 placing_ends us css n out all none was =
-    sym (append-nil out) ∙ sym (ap (λ l. out ++ faults l) (none_placed (drop n us) (drop n css) (rest_none css n none))) ∙ was
-
-pub pieces_turn : (u : Shown) (out now all : List ShownFault) (c : Crossing) (rest behind : List Crossing) →
-    rest ≡ c ∷ behind → now ≡ out ++ faults (placed u c) → out ++ faults (flat_map (placed u) rest) ≡ all → now ++ faults (flat_map (placed u) behind) ≡ all
-pieces_turn u out now all c rest behind here is was =
-    ap (λ l. l ++ faults (flat_map (placed u) behind)) is ∙ append_assoc out (faults (placed u c)) (faults (flat_map (placed u) behind))
-    ∙ ap (λ l. out ++ l) (sym (map-append (λ x. x.fault) (placed u c) (flat_map (placed u) behind)))
-    ∙ sym (ap (λ xs. out ++ faults (flat_map (placed u) xs)) here) ∙ was
-
-pub pieces_end : (u : Shown) (out all : List ShownFault) (rest : List Crossing) → length rest ≡ 0 → out ++ faults (flat_map (placed u) rest) ≡ all → out ≡ all
-pieces_end u out all rest none was = sym (append-nil out) ∙ sym (ap (λ xs. out ++ faults (flat_map (placed u) xs)) (empty rest none)) ∙ was
+    sym (append-nil out) ∙ sym (ap (λ l. out ++ l) (none_placed (drop n us) (drop n css) (rest_none css n none))) ∙ was
 
 -- what is put behind for a name, by the first units that declare and define it
 pub name_more : (test : Test) (us : List Shown) (path : List ℕ) (tags : Tagging) (n : ℕ) (e : Export) (d f : Option From) (out made now : List Crossing) →

@@ -3,7 +3,7 @@ ghost use Rattle.std.specs.Prelude.{◌≡◌, ◌<◌, ◌^◌, ◌++◌, ◌�
 ghost use Rattle.unit_index.specs.Crossing as spec;
 ghost use Rattle.unit_index.specs.Crossing.{origin, seen, sight};
 ghost use Rattle.unit_index.specs.Exported.{from_of};
-ghost use Rattle.unit_index.specs.Matching.{IsTest, Test, matched};
+ghost use Rattle.unit_index.specs.Matching.{IsExact, IsTest, Test, matched};
 
 use super::faults::{definition_message, is_at, type_message, unit_in};
 use super::{Index, UnitExports};
@@ -24,8 +24,8 @@ pub(super) fn name_at<'a>(unit: &UnitExports<'a>, nth: u64) -> Option<&'a Export
     name_in(unit.exports().names.as_slice(), nth)
 }
 
-/// The nth of some names.
-pub(super) fn name_in(names: &[Export], nth: u64) -> Option<&Export>
+// The nth of some names.
+fn name_in(names: &[Export], nth: u64) -> Option<&Export>
     ensures name { option_map (λ e. e.now) result ≡ slice_get names.now nth }
     ensures small { IfSome result (λ _. nth < 2 ^ 63) }
 {
@@ -163,10 +163,12 @@ impl<'a> Index<'a> {
         }
     }
 
-    /// The warnings of each unit without their tokens, in the order of the units: those that `cross_faults` gives, by the numbers of the
-    /// names that they are on. They stand on what the units see of one another alone. The cost is that of `cross_faults`.
+    /// The warnings of each unit without their tokens, in the order of the units, by the numbers of the names that they are on. They stand on
+    /// what the units see of one another alone. The cost is linear in the number of names, and for each name of a later unit in the types
+    /// that it leads to. It fails for want of memory alone.
     pub fn crossings(&self, alloc: Global) -> Result<Vec<Crossings>, AllocError>
-        ensures { IfOk result (λ all. all.items ≡ spec.all_crossings matched (map sight self.now)) }
+        ensures meant { IfOk result (λ all. (test : Test) → IsExact test → all.items ≡ spec.all_crossings test (map sight self.now)) }
+        ensures value { IfOk result (λ all. all.items ≡ spec.all_crossings matched (map sight self.now)) }
     {
         let all = self.all_crossings(alloc)?;
         Ok(all)

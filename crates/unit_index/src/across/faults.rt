@@ -8,9 +8,10 @@ ghost use Rattle.unit_index.specs.declared.exported.Does.TheVariants as doing;
 ghost use Rattle.unit_index.specs.Cross as spec;
 ghost use Rattle.unit_index.specs.Exported as names;
 ghost use Rattle.unit_index.specs.Exported.{at, from_of};
-ghost use Rattle.unit_index.specs.Matching.{IsExact, IsTest, Match, Test, matched};
+ghost use Rattle.unit_index.specs.Matching.{IsExact, Match, Test, matched};
 ghost use Rattle.type_print.specs.Printed;
 
+use super::placing::all_placed;
 use super::{CrossFault, Index, UnitExports};
 use crate::exported::{Does, Exporter, kept_at, no_names, note_unit};
 use crate::matching::matches;
@@ -18,7 +19,6 @@ use scope_tables::{Export, Exports};
 use shared_text::Name;
 use std::alloc::{AllocError, Global};
 use std::collections::HashMap;
-use tok_data::{ShownFault, TokId};
 use type_data::{CType, Qual, Tags};
 use type_print::print;
 use uri_paths::Path;
@@ -118,96 +118,6 @@ pub(super) fn definition_message(
     Ok(message)
 }
 
-fn push(
-    faults: &mut Vec<CrossFault>,
-    path: &Path,
-    rule: u16,
-    tok: &TokId,
-    text: Name,
-) -> Result<(), AllocError>
-    ensures { OnOk result (faults.new.items ≡ faults.old.items ++ spec.fault path.now rule tok.now text ∷ []) }
-{
-    let unit = path.share()?;
-    let tok = tok.copy()?;
-    let fault = ShownFault { tok, rule, text };
-    faults.push(CrossFault { unit, fault })?;
-    Ok(())
-}
-
-fn add_differing(
-    alloc: Global,
-    faults: &mut Vec<CrossFault>,
-    first: &Exporter<'_>,
-    path: &Path,
-    tags: &Tags,
-    export: &Export,
-) -> Result<(), AllocError>
-    ensures { OnOk result ((test : Test) → IsTest test → faults.new.items ≡ faults.old.items ++ spec.differing test (from_of first.now) path.now tags.now export.now) }
-{
-    if matches(alloc, first.tags, tags, &first.export.ty, &export.ty)? {
-        return Ok(());
-    }
-    let text = type_message(alloc, first, tags, export)?;
-    push(faults, path, 801, &export.first, text)?;
-    Ok(())
-}
-
-fn add_by_type(
-    alloc: Global,
-    faults: &mut Vec<CrossFault>,
-    first: Option<Exporter<'_>>,
-    path: &Path,
-    tags: &Tags,
-    export: &Export,
-) -> Result<(), AllocError>
-    ensures { OnOk result ((test : Test) → IsTest test → faults.new.items ≡ faults.old.items ++ spec.by_type test (option_map from_of first.entry) path.now tags.now export.now) }
-{
-    let Some(first) = first else {
-        return Ok(());
-    };
-    if is_at(first.path, path) {
-        return Ok(());
-    }
-    add_differing(alloc, faults, &first, path, tags, export)?;
-    Ok(())
-}
-
-fn add_defined(
-    alloc: Global,
-    faults: &mut Vec<CrossFault>,
-    first: &Path,
-    path: &Path,
-    export: &Export,
-) -> Result<(), AllocError>
-    ensures { OnOk result (faults.new.items ≡ faults.old.items ++ spec.defined_too first.now path.now export.now export.now.defined) }
-{
-    let Some(tok) = &export.defined else {
-        return Ok(());
-    };
-    let text = definition_message(alloc, first, export)?;
-    push(faults, path, 802, tok, text)?;
-    Ok(())
-}
-
-fn add_by_definition(
-    alloc: Global,
-    faults: &mut Vec<CrossFault>,
-    first: Option<Exporter<'_>>,
-    path: &Path,
-    export: &Export,
-) -> Result<(), AllocError>
-    ensures { OnOk result (faults.new.items ≡ faults.old.items ++ spec.by_definition (option_map from_of first.entry) path.now export.now) }
-{
-    let Some(first) = first else {
-        return Ok(());
-    };
-    if is_at(first.path, path) {
-        return Ok(());
-    }
-    add_defined(alloc, faults, first.path, path, export)?;
-    Ok(())
-}
-
 // The tags of a unit, or others where there is none.
 fn tags_or<'a>(unit: Option<&UnitExports<'a>>, none: &'a Tags) -> &'a Tags
     ensures { result.now ≡ option_map_or (λ u. u.exports.tags) (option_map (λ u. u.now) unit.entry) none.now }
@@ -251,53 +161,6 @@ impl<'a> Index<'a> {
         kept_at(&self.defined, name)
     }
 
-    fn add_of_name(
-        &self,
-        alloc: Global,
-        faults: &mut Vec<CrossFault>,
-        unit: &UnitExports<'_>,
-        export: &Export,
-    ) -> Result<(), AllocError>
-        ensures { OnOk result ((test : Test) → IsTest test → faults.new.items ≡ faults.old.items ++ spec.of_name test self.now unit.now export.now) }
-    {
-        let tags = &unit.exports().tags;
-        let declared = self.first_declared(&export.name);
-        add_by_type(alloc, faults, declared, unit.path(), tags, export)?;
-        let defined = self.first_defined(&export.name);
-        add_by_definition(alloc, faults, defined, unit.path(), export)?;
-        Ok(())
-    }
-
-    fn add_of_unit(
-        &self,
-        alloc: Global,
-        faults: &mut Vec<CrossFault>,
-        unit: &UnitExports<'_>,
-    ) -> Result<(), AllocError>
-        ensures { OnOk result ((test : Test) → IsTest test → faults.new.items ≡ faults.old.items ++ spec.of_unit test self.now unit.now) }
-    {
-        let mut rest = unit.exports().names.as_slice();
-        'names: while let Some((export, behind)) = rest.split_first() {
-            self.add_of_name(alloc, faults, unit, export)?;
-            rest = behind;
-        }
-        Ok(())
-    }
-
-    fn all_faults(&self, alloc: Global) -> Result<Vec<CrossFault>, AllocError>
-        ensures { IfOk result (λ faults. (test : Test) → IsTest test → faults.items ≡ spec.cross test self.now) }
-    {
-        let mut faults = Vec::new(alloc);
-        let mut place = 0;
-        'units: loop {
-            let Some(unit) = unit_in(self.units(), place) else {
-                return Ok(faults);
-            };
-            self.add_of_unit(alloc, &mut faults, unit)?;
-            place += 1;
-        }
-    }
-
     /// The warnings across units, in the order of the units, and in a unit in that of its names: 801 on the first token of a name whose
     /// type isn't compatible with that in the first unit that declares it (6.2.7p2), the qualifiers of the name itself aside; 802 on the
     /// token that defines a name which an earlier unit defines too (6.9p5). Its cost is linear in the number of names, and for each name
@@ -306,7 +169,8 @@ impl<'a> Index<'a> {
         ensures meant { IfOk result (λ faults. (test : Test) → IsExact test → faults.items ≡ spec.cross test self.now) }
         ensures value { IfOk result (λ faults. faults.items ≡ spec.cross matched self.now) }
     {
-        let faults = self.all_faults(alloc)?;
+        let all = self.crossings(alloc)?;
+        let faults = all_placed(alloc, self.units(), all.as_slice())?;
         Ok(faults)
     }
 

@@ -6,9 +6,9 @@ ghost use Rattle.unit_index.specs.Crossing as spec;
 ghost use Rattle.unit_index.specs.Crossing.{sight};
 ghost use Rattle.unit_index.specs.Matching.{Test};
 
-use super::UnitExports;
 use super::crossings::name_at;
 use super::faults::unit_in;
+use super::{CrossFault, UnitExports};
 use crate::crossing::{Crossing, Crossings, Wrong};
 use scope_tables::Export;
 use std::alloc::{AllocError, Global};
@@ -43,11 +43,11 @@ fn token_at<'a>(unit: &UnitExports<'a>, crossing: &Crossing) -> Option<&'a TokId
 }
 
 fn add_placed(
-    out: &mut Vec<ShownFault>,
+    out: &mut Vec<CrossFault>,
     unit: &UnitExports<'_>,
     crossing: &Crossing,
 ) -> Result<(), AllocError>
-    ensures { OnOk result (out.new.items ≡ out.old.items ++ map (λ c. c.fault) (spec.placed unit.now crossing.now)) }
+    ensures { OnOk result (out.new.items ≡ out.old.items ++ spec.placed unit.now crossing.now) }
 {
     let Some(tok) = token_at(unit, crossing) else {
         return Ok(());
@@ -55,16 +55,18 @@ fn add_placed(
     let tok = tok.copy()?;
     let text = crossing.text.share()?;
     let rule = rule_of(crossing.wrong);
-    out.push(ShownFault { tok, rule, text })?;
+    let unit = unit.path().share()?;
+    let fault = ShownFault { tok, rule, text };
+    out.push(CrossFault { unit, fault })?;
     Ok(())
 }
 
 fn add_all_placed(
-    out: &mut Vec<ShownFault>,
+    out: &mut Vec<CrossFault>,
     unit: &UnitExports<'_>,
     crossings: &[Crossing],
 ) -> Result<(), AllocError>
-    ensures { OnOk result (out.new.items ≡ out.old.items ++ map (λ c. c.fault) (flat_map (spec.placed unit.now) crossings.now)) }
+    ensures { OnOk result (out.new.items ≡ out.old.items ++ flat_map (spec.placed unit.now) crossings.now) }
 {
     let mut rest = crossings;
     'crossings: while let Some((crossing, behind)) = rest.split_first() {
@@ -83,12 +85,13 @@ fn crossings_in(crossings: &[Crossings], place: u64) -> Option<&[Crossing]>
     }
 }
 
-fn all_placed<'a>(
+/// The warnings of some units on the tokens that their names have, in the order of the units.
+pub(super) fn all_placed<'a>(
     alloc: Global,
     units: &'a [UnitExports<'a>],
     crossings: &[Crossings],
-) -> Result<Vec<ShownFault>, AllocError>
-    ensures { IfOk result (λ v. v.items ≡ map (λ c. c.fault) (spec.all_placed units.now crossings.now)) }
+) -> Result<Vec<CrossFault>, AllocError>
+    ensures { IfOk result (λ v. v.items ≡ spec.all_placed units.now crossings.now) }
 {
     let mut out = Vec::new(alloc);
     let mut place = 0;
@@ -104,6 +107,18 @@ fn all_placed<'a>(
     }
 }
 
+// The faults without their units.
+fn faults_of(alloc: Global, placed: Vec<CrossFault>) -> Result<Vec<ShownFault>, AllocError>
+    ensures { IfOk result (λ v. v.items ≡ map (λ c. c.fault) placed.items) }
+{
+    let mut out = Vec::with_capacity(alloc, placed.len())?;
+    'placed: for one in placed {
+        let CrossFault { unit: _, fault } = one;
+        out.push(fault)?;
+    }
+    Ok(out)
+}
+
 /// The faults of `cross_faults`, from what `crossings` gave of units that saw the same of one another as these: each on the token that its
 /// name has in these units. It costs the units and the warnings. It fails for want of memory alone.
 pub fn faults_placed<'a>(
@@ -114,5 +129,6 @@ pub fn faults_placed<'a>(
     ensures { IfOk result (λ v. (test : Test) → crossings.now ≡ spec.all_crossings test (map sight units.now) → v.items ≡ map (λ c. c.fault) (cross test units.now)) }
 {
     let placed = all_placed(alloc, units, crossings)?;
-    Ok(placed)
+    let faults = faults_of(alloc, placed)?;
+    Ok(faults)
 }
