@@ -1,9 +1,11 @@
 // What is made of a unit as it is read, and what is counted and noted on the way.
-ghost use Rattle.std.specs.Prelude.{◌≡◌, ◌++◌, IfOk, OnOk, length};
+ghost use Rattle.std.specs.Prelude.{◌≡◌, ◌++◌, ◌∷◌, [], IfOk, OnOk, length};
 ghost use Rattle.std.specs.FinMap as map;
 ghost use Rattle.pp_cond.specs.Defined as names;
 ghost use Rattle.include_units.specs.Made as spec;
-ghost use Rattle.include_units.specs.Units.{at_first, told};
+ghost use Rattle.include_units.specs.Definitions.{command};
+ghost use Rattle.include_units.specs.Units.{at_first, front, told};
+ghost use Rattle.include_units.specs.Texts.{token};
 
 use crate::faults::Faults;
 use crate::grown::Grown;
@@ -110,18 +112,52 @@ pub(crate) fn fault(
     Ok(PpFault { rule, tok, text })
 }
 
+// How `<command>` is entered: as if by the front of the unit's own text.
+fn command_entered(alloc: Global, path: &Path) -> Result<Entered, AllocError>
+    ensures { IfOk result (λ e. e ≡ record { file = command; by = token path.now front }) }
+{
+    let by = TokId {
+        file: FileId::from_name(Name::from_str(alloc, path.as_str())?),
+        at: u32::MAX,
+    };
+    let file = FileId::from_name(Name::from_str(alloc, "<command>")?);
+    Ok(Entered { file, by })
+}
+
+// The texts that were entered before the first one.
+fn first_entered(alloc: Global, path: &Path) -> Result<Grown<Entered>, AllocError>
+    ensures { IfOk result (λ list. list ≡ (record { file = command; by = token path.now front }) ∷ []) }
+{
+    let entered = command_entered(alloc, path)?;
+    let mut list = Grown::new(alloc);
+    list.push(entered)?;
+    Ok(list)
+}
+
+// The texts that are read at least.
+fn first_reads(alloc: Global, path: &Path) -> Result<KnownPaths, AllocError>
+    ensures { IfOk result (λ list. list ≡ path.now ∷ []) }
+{
+    let own = path.share()?;
+    let mut list = KnownPaths::new(alloc);
+    list.push(own)?;
+    Ok(list)
+}
+
 impl Made {
     // What stands before the first text.
     pub(crate) fn at_first(alloc: Global, path: &Path) -> Result<Made, AllocError>
         ensures { IfOk result (λ m. m ≡ at_first path.now) }
     {
-        let mut made = Made {
+        let entered = first_entered(alloc, path)?;
+        let reads = first_reads(alloc, path)?;
+        Ok(Made {
             table: MacroTable::new(alloc),
             tokens: Grown::new(alloc),
             faults: Faults::new(alloc),
-            reads: KnownPaths::new(alloc),
+            reads,
             spelled: Grown::new(alloc),
-            entered: Grown::new(alloc),
+            entered,
             macros: Grown::new(alloc),
             left: 4_000_000,
             inclusion: 16_777_216,
@@ -129,13 +165,7 @@ impl Made {
             once: KnownNames::new(alloc),
             libraries: KnownNames::new(alloc),
             full: false,
-        };
-        let file = FileId::from_name(Name::from_str(alloc, path.as_str())?);
-        let by = TokId { file, at: u32::MAX };
-        let file = FileId::from_name(Name::from_str(alloc, "<command>")?);
-        made.entered.push(Entered { file, by })?;
-        made.reads.push(path.share()?)?;
-        Ok(made)
+        })
     }
 
     pub(crate) fn told(self) -> UnitTokens
