@@ -56,11 +56,11 @@ abbrev pub answer : Option Fault → Entity → Result Entity CheckError
 answer (Some f) e = Err (Broken f)
 answer None e = Ok e
 
-abbrev pub declared_with : Option Entity → Option Entity → DeclParts → Linkage → List (TagId × TagInfo) → Result Entity CheckError
-declared_with before prior d l tags = answer (fault before prior d l tags) (entity before prior d l)
+abbrev pub declared_with : Option Entity → Option Entity → Option Entity → DeclParts → Linkage → List (TagId × TagInfo) → Result Entity CheckError
+declared_with before visible prior d l tags = answer (fault before prior d l tags) (entity before visible prior d l)
 
 -- `before` is what the name denotes in the same scope, `visible` what it denotes here, `prior` the entity with linkage that
 -- a declaration in force gives it
 abbrev pub declared : List Scope → DeclParts → List (TagId × TagInfo) → Result Entity CheckError
 declared scopes d tags =
-    declared_with (here Ordinary d.name scopes) (linked d.name scopes) d (linkage_of d (found Ordinary d.name scopes)) tags
+    declared_with (here Ordinary d.name scopes) (found Ordinary d.name scopes) (linked d.name scopes) d (linkage_of d (found Ordinary d.name scopes)) tags

@@ -13,7 +13,7 @@ use Rattle.type_data.specs.Types.{Ty}
 use Rattle.type_rel.specs.Composite.{composite}
 use Rattle.decl_rules.specs.declared.parts.DeclParts.{DeclParts}
 use Rattle.scope_tables.specs.Scopes.{is_linked}
-use Rattle.decl_rules.specs.Redeclared.{is_typedef_name}
+use Rattle.decl_rules.specs.Redeclared.{agrees, is_typedef_name}
 use Rattle.decl_rules.specs.Sorts.{is_typedef, is_register, is_extern, is_static, is_file, is_parameter, is_function_type}
 
 -- a name of a faulty type counts as an object, and with a body as a function
@@ -35,10 +35,11 @@ abbrev pub life_of : EntityKind → DeclParts → Life
 life_of kind.Object d = life_of_object d
 life_of k d = life.Without
 
--- 6.2.7p4: with a prior declaration of the same scope the type is the composite one
+-- 6.2.7p4: with a prior declaration that is visible, in this scope or in one round it, the type is the composite one. Where one of an
+-- outer scope isn't compatible, no rule is broken, and the type stands.
 abbrev pub joined : Option Entity → DeclParts → Linkage → Ty
 joined None d l = d.ty
-joined (Some e) d l = if is_linked e.linkage && is_linked l then composite e.ty d.ty else d.ty
+joined (Some e) d l = if is_linked e.linkage && (is_linked l && agrees e d) then composite e.ty d.ty else d.ty
 
 -- what no other declaration made known is told by its first token
 abbrev pub own_anchor : DeclParts → Anchor
@@ -58,11 +59,12 @@ anchor_of here linked d linkage.External = anchor.External d.name
 anchor_of here linked d linkage.Internal = anchor_as linked d
 anchor_of here linked d linkage.None = if is_typedef d.storage then anchor_as (same_typedef here) d else own_anchor d
 
-abbrev pub entity : Option Entity → Option Entity → DeclParts → Linkage → Entity
-entity here linked d l = record {
+-- `here` is what the name denotes in the same scope, `visible` what it denotes, `linked` the entity with linkage in force
+abbrev pub entity : Option Entity → Option Entity → Option Entity → DeclParts → Linkage → Entity
+entity here visible linked d l = record {
   name = d.name;
   kind = kind_of d;
-  ty = joined here d l;
+  ty = joined visible d l;
   qual = d.qual;
   linkage = l;
   life = life_of (kind_of d) d;

@@ -23,11 +23,12 @@ retyped e d =
     if is_bad e.ty || (same_type e.ty d.ty && same_qual e.qual d.qual) then None
     else Some (of_name 404 d (d.ty ∷ e.ty ∷ []))
 
--- p4: declarations of one object or function have compatible types
+abbrev pub agrees : Entity → DeclParts → Bool
+agrees e d = is_bad e.ty || (compatible e.ty d.ty && same_qual e.qual d.qual)
+
+-- p4: declarations of one object or function in a scope have compatible types
 abbrev pub differing : Entity → DeclParts → Option Fault
-differing e d =
-    if is_bad e.ty || (compatible e.ty d.ty && same_qual e.qual d.qual) then None
-    else Some (of_name 403 d (d.ty ∷ e.ty ∷ []))
+differing e d = if agrees e d then None else Some (of_name 403 d (d.ty ∷ e.ty ∷ []))
 
 -- p3: what has no linkage is declared once in a scope
 abbrev pub against : Entity → DeclParts → Linkage → Option Fault

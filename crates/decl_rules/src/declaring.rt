@@ -96,12 +96,13 @@ fn fault(
 fn declared_with(
     alloc: Global,
     before: Option<&Entity>,
+    visible: Option<&Entity>,
     prior: Option<&Entity>,
     decl: &DeclParts,
     linkage: Linkage,
     tags: &Tags,
 ) -> Result<Entity, CheckError>
-    ensures { result ≢ Err NoMemory → result ≡ spec.declared_with (option_map (λ e. e.now) before.entry) (option_map (λ e. e.now) prior.entry) decl.now linkage tags.now }
+    ensures { result ≢ Err NoMemory → result ≡ spec.declared_with (option_map (λ e. e.now) before.entry) (option_map (λ e. e.now) visible.entry) (option_map (λ e. e.now) prior.entry) decl.now linkage tags.now }
 {
     let Ok(fault) = fault(alloc, before, prior, decl, linkage, tags) else {
         return Err(CheckError::NoMemory);
@@ -109,7 +110,7 @@ fn declared_with(
     if let Some(fault) = fault {
         return Err(CheckError::Broken(fault));
     }
-    let Ok(entity) = entity(alloc, before, prior, decl, linkage) else {
+    let Ok(entity) = entity(alloc, before, visible, prior, decl, linkage) else {
         return Err(CheckError::NoMemory);
     };
     Ok(entity)
@@ -120,8 +121,9 @@ fn declared_with(
 ///
 /// `Broken` has the fault with the lowest number of those that hold: of a declarator 402 to 404, 406, 416, 417, 421, 423, 424,
 /// 430, 431 and 435, of a parameter 402, 406, 416, 417, 422 and 432. Each stands on `at`; where a rule's fault belongs on a
-/// specifier, the caller puts it there. What has the type Bad has no fault, and denotes an entity with that type. `NoMemory`
-/// comes where memory is refused. Nothing is declared: what the scope has stays.
+/// specifier, the caller puts it there. What has the type Bad has no fault, and denotes an entity with that type. What has linkage
+/// has the composite type with what the name denotes there, in this scope or in one round it, where that has linkage too and a compatible type.
+/// `NoMemory` comes where memory is refused. Nothing is declared: what the scope has stays, and an outer declaration keeps its type.
 pub fn declare_one(
     alloc: Global,
     scopes: &Scopes,
@@ -131,8 +133,9 @@ pub fn declare_one(
     ensures { result ≢ Err NoMemory → result ≡ spec.declared scopes.now decl.now tags.now }
 {
     let name = decl.name.as_str();
-    let linkage = linkage_of(decl, scopes.find(&Space::Ordinary, name));
+    let visible = scopes.find(&Space::Ordinary, name);
+    let linkage = linkage_of(decl, visible);
     let before = scopes.find_here(&Space::Ordinary, name);
     let prior = scopes.find_linked(name);
-    declared_with(alloc, before, prior, decl, linkage, tags)
+    declared_with(alloc, before, visible, prior, decl, linkage, tags)
 }

@@ -4,7 +4,7 @@ ghost use Rattle.decl_rules.specs.Entities as spec;
 
 use crate::linkage::is_linked;
 use crate::parts::DeclParts;
-use crate::redeclaring::is_typedef_name;
+use crate::redeclaring::{agrees, is_typedef_name};
 use crate::sorts::{
     is_extern, is_file, is_function_type, is_parameter, is_register, is_static, is_typedef,
 };
@@ -48,17 +48,18 @@ fn life_of(kind: &EntityKind, decl: &DeclParts) -> Life
     }
 }
 
+// With the declaration that is visible.
 fn joined(
     alloc: Global,
-    before: Option<&Entity>,
+    visible: Option<&Entity>,
     decl: &DeclParts,
     linkage: Linkage,
 ) -> Result<CType, AllocError>
-    ensures { IfOk result (λ t. t ≡ spec.joined (option_map (λ e. e.now) before.entry) decl.now linkage) }
+    ensures { IfOk result (λ t. t ≡ spec.joined (option_map (λ e. e.now) visible.entry) decl.now linkage) }
 {
-    match before {
+    match visible {
         Some(entity) => {
-            if entity.has_linkage() && is_linked(linkage) {
+            if entity.has_linkage() && (is_linked(linkage) && agrees(entity, decl)) {
                 return composite(alloc, &entity.ty, &decl.ty);
             }
             decl.ty.share()
@@ -126,14 +127,15 @@ fn anchor_of(
 pub(crate) fn entity(
     alloc: Global,
     before: Option<&Entity>,
+    visible: Option<&Entity>,
     prior: Option<&Entity>,
     decl: &DeclParts,
     linkage: Linkage,
 ) -> Result<Entity, AllocError>
-    ensures { IfOk result (λ e. e ≡ spec.entity (option_map (λ e. e.now) before.entry) (option_map (λ e. e.now) prior.entry) decl.now linkage) }
+    ensures { IfOk result (λ e. e ≡ spec.entity (option_map (λ e. e.now) before.entry) (option_map (λ e. e.now) visible.entry) (option_map (λ e. e.now) prior.entry) decl.now linkage) }
 {
     let name = decl.name.share()?;
-    let ty = joined(alloc, before, decl, linkage)?;
+    let ty = joined(alloc, visible, decl, linkage)?;
     let anchor = anchor_of(before, prior, decl, linkage)?;
     let kind = kind_of(decl);
     let life = life_of(&kind, decl);

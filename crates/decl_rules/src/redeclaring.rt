@@ -40,10 +40,17 @@ fn retyped(alloc: Global, entity: &Entity, decl: &DeclParts) -> Result<Option<Fa
     Ok(Some(fault))
 }
 
+/// Whether a declaration may be one of the same object or function.
+pub(crate) fn agrees(entity: &Entity, decl: &DeclParts) -> bool
+    ensures { result ≡ spec.agrees entity.now decl.now }
+{
+    is_bad(&entity.ty) || (compatible(&entity.ty, &decl.ty) && entity.qual == decl.qual)
+}
+
 fn differing(alloc: Global, entity: &Entity, decl: &DeclParts) -> Result<Option<Fault>, AllocError>
     ensures { IfOk result (λ f. f ≡ spec.differing entity.now decl.now) }
 {
-    if is_bad(&entity.ty) || (compatible(&entity.ty, &decl.ty) && entity.qual == decl.qual) {
+    if agrees(entity, decl) {
         return Ok(None);
     }
     let types = both_types(alloc, decl, entity)?;
