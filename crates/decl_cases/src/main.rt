@@ -5,9 +5,10 @@
 mod notation;
 mod words;
 
-use decl_rules::declare_one;
+use decl_rules::{DeclParts, declare_one};
 use notation::shown_type;
 use scope_tables::{Anchor, Entity, EntityKind, Life, Linkage, Scopes};
+use shared_text::Name;
 use std::alloc::{AllocError, Global};
 use std::io;
 use std::io::Read;
@@ -90,7 +91,42 @@ fn shown_fault(alloc: Global, fault: &Fault) -> Result<String, AllocError> {
     Ok(out)
 }
 
-// What a declarator gives; what it declares is declared.
+// Declares what has a name in a scope that was entered.
+fn enter(scopes: &mut Scopes, name: &Name, entity: Entity) -> Result<(), AllocError> {
+    if 0 < scopes.depth() && !name.as_str().is_empty() {
+        let name = name.share()?;
+        scopes.declare(Space::Ordinary, name, entity)?;
+    }
+    Ok(())
+}
+
+// What an entity is, which is declared.
+fn shown_entered(
+    alloc: Global,
+    scopes: &mut Scopes,
+    name: &Name,
+    entity: Entity,
+) -> Result<String, AllocError> {
+    let shown = shown_entity(alloc, &entity)?;
+    enter(scopes, name, entity)?;
+    Ok(shown)
+}
+
+// What these parts of a declarator give; what they declare is declared.
+fn given(
+    alloc: Global,
+    scopes: &mut Scopes,
+    tags: &Tags,
+    decl: &DeclParts,
+) -> Result<String, AllocError> {
+    match declare_one(alloc, scopes, decl, tags) {
+        Ok(entity) => shown_entered(alloc, scopes, &decl.name, entity),
+        Err(CheckError::Broken(fault)) => shown_fault(alloc, &fault),
+        Err(CheckError::NoMemory) => String::from_str(alloc, "no memory"),
+    }
+}
+
+// What a line's declarator gives.
 fn declared(
     alloc: Global,
     scopes: &mut Scopes,
@@ -101,18 +137,7 @@ fn declared(
     let Some(decl) = parts_of(alloc, number, line)? else {
         return String::from_str(alloc, "no declarator");
     };
-    match declare_one(alloc, scopes, &decl, tags) {
-        Ok(entity) => {
-            let shown = shown_entity(alloc, &entity)?;
-            if 0 < scopes.depth() && !decl.name.as_str().is_empty() {
-                let name = decl.name.share()?;
-                scopes.declare(Space::Ordinary, name, entity)?;
-            }
-            Ok(shown)
-        }
-        Err(CheckError::Broken(fault)) => shown_fault(alloc, &fault),
-        Err(CheckError::NoMemory) => String::from_str(alloc, "no memory"),
-    }
+    given(alloc, scopes, tags, &decl)
 }
 
 // Enters or leaves a scope.
