@@ -1,5 +1,5 @@
 -- Primary expressions (ISO C11 6.5.1), generic selections aside.
-use Rattle.std.specs.Prelude.{ℕ, ◌+◌, List, [], ◌∷◌, length, Option, Some, None, Ok, ◌==◌, if◌then◌else◌}
+use Rattle.std.specs.Prelude.{Bool, ℕ, ◌+◌, ◌&&◌, List, [], ◌∷◌, length, Option, Some, None, Ok, ◌==◌, if◌then◌else◌}
 use Rattle.type_data.specs.declared.basics.Basic.{Basic}
 use Rattle.type_data.specs.declared.basics.Basic.TheVariants as basic
 use Rattle.type_data.specs.declared.judged.Constancy.{Constancy}
@@ -9,7 +9,8 @@ use Rattle.type_data.specs.declared.judged.Place.TheVariants as place
 use Rattle.type_data.specs.declared.qualifiers.Extent.TheVariants as extent
 use Rattle.type_data.specs.declared.values.Value.{Value}
 use Rattle.type_data.specs.declared.values.Value.TheVariants.{Known, Unknown}
-use Rattle.type_data.specs.Types.{Basic_type, Array_of}
+use Rattle.type_data.specs.Same.{same_qual}
+use Rattle.type_data.specs.Types.{Void_type, Basic_type, Array_of}
 use Rattle.type_rel.specs.Arithmetic.{basic_of}
 use Rattle.type_rel.specs.Kinds.{unqualified}
 use Rattle.type_rel.specs.Conversion.{value}
@@ -21,6 +22,7 @@ use Rattle.scope_tables.specs.declared.entities.EntityKind.{EntityKind}
 use Rattle.scope_tables.specs.declared.entities.EntityKind.TheVariants as kind
 use Rattle.scope_tables.specs.declared.entities.Life.{Life}
 use Rattle.scope_tables.specs.declared.entities.Life.TheVariants as life
+use Rattle.expr_rules.specs.Kinds.{is_void}
 use Rattle.expr_rules.specs.Operands.{Answer, broken}
 
 -- 6.7.1p6: the address of a register isn't taken
@@ -46,8 +48,14 @@ value_or_unknown None = Unknown
 abbrev pub not_declared : ℕ → List ℕ → Answer
 not_declared at name = broken at 501 (name ∷ []) []
 
+-- 6.3.2.1p1: what has the type void is no lvalue
+abbrev pub is_no_lvalue : Entity → Bool
+is_no_lvalue e = is_void e.ty && same_qual e.qual unqualified
+
 abbrev pub object : Entity → Answer
-object e = Ok (record { ty = e.ty; qual = e.qual; place = place_of e.life; constant = address_of e.life })
+object e =
+    if is_no_lvalue e then Ok (value Void_type No)
+    else Ok (record { ty = e.ty; qual = e.qual; place = place_of e.life; constant = address_of e.life })
 
 abbrev pub function : Entity → Answer
 function e = Ok (record { ty = e.ty; qual = unqualified; place = place.Function; constant = Addr })

@@ -4,6 +4,7 @@ ghost use Rattle.expr_rules.specs.Primary as spec;
 ghost use Rattle.type_data.specs.declared.judged.CheckError.TheVariants.{NoMemory};
 
 use crate::answers::{refuse, refuse_name};
+use crate::kinds::is_void;
 use c_literals::{Literal, StrValue};
 use scope_tables::{Entity, EntityKind, Life};
 use shared_text::Name;
@@ -50,9 +51,19 @@ fn not_declared(alloc: Global, at: u32, name: &Name) -> Result<Judged, CheckErro
     refuse_name(alloc, at, 501, name)
 }
 
+// What has the type void is no lvalue (ISO C11 6.3.2.1p1).
+fn is_no_lvalue(entity: &Entity) -> bool
+    ensures { result ≡ spec.is_no_lvalue entity.now }
+{
+    is_void(&entity.ty) && entity.qual == UNQUALIFIED
+}
+
 fn object(entity: &Entity) -> Result<Judged, CheckError>
     ensures { result ≢ Err NoMemory → result ≡ spec.object entity.now }
 {
+    if is_no_lvalue(entity) {
+        return Ok(value(CType::of(Node::Void), Constancy::No));
+    }
     let Ok(ty) = entity.ty.share() else {
         return Err(CheckError::NoMemory);
     };
