@@ -49,6 +49,7 @@ pub(crate) fn typed(alloc: Global, kinds: &Kinds<'_>, at: u32) -> Result<(TypeNa
         Err(stop) => return Err(stop),
     };
     let Kind::CloseParen = kind_at(kinds, closing) else {
+        drop(name);
         return Err(Stop::Syntax(closing));
     };
     Ok((name, closing))
@@ -71,6 +72,7 @@ fn size(alloc: Global, kinds: &Kinds<'_>, at: u32) -> Result<Front, Stop>
         return Ok(Front::Behind(Begun::Size(at, name, closing)));
     };
     let Kind::SizeOf = kind_at(kinds, at) else {
+        drop(name);
         return Err(Stop::Syntax(closing + 1));
     };
     Ok(Front::SizeOfLiteral(at, name, closing))
@@ -93,6 +95,7 @@ fn cast(alloc: Global, kinds: &Kinds<'_>, at: u32) -> Result<Front, Stop>
         return Ok(Front::Behind(Begun::Literal(at, name, closing)));
     }
     if !casts_at(kinds, at) {
+        drop(name);
         return Err(Stop::Syntax(at));
     }
     match Prefix::cast(alloc, at, name, closing) {

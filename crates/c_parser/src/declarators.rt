@@ -103,6 +103,7 @@ fn group(
         Err(stop) => return Err(stop),
     };
     let Kind::CloseParen = kind_at(kinds, closing) else {
+        drop(inner);
         return Err(Stop::Syntax(closing));
     };
     match Group::of(alloc, at, inner, closing) {
@@ -211,6 +212,7 @@ fn array(alloc: Global, kinds: &Kinds<'_>, at: u32) -> Result<(Deriving, u32), S
         Err(stop) => return Err(stop),
     };
     let Kind::CloseBracket = kind_at(kinds, closing) else {
+        drop(bound);
         return Err(Stop::Syntax(closing));
     };
     Ok((Deriving::array(at, bound, closing), closing + 1))
@@ -354,7 +356,10 @@ fn parameters(alloc: Global, kinds: &Kinds<'_>, at: u32) -> Result<(Parameters, 
     };
     let (more, end) = match more_parameters(alloc, kinds, behind, name) {
         Ok(found) => found,
-        Err(stop) => return Err(stop),
+        Err(stop) => {
+            drop(first);
+            return Err(stop);
+        }
     };
     let Kind::Comma = kind_at(kinds, end) else {
         return match Parameters::fixed(alloc, first, more) {
@@ -404,9 +409,11 @@ fn function(alloc: Global, kinds: &Kinds<'_>, at: u32) -> Result<(Deriving, u32)
         Err(stop) => return Err(stop),
     };
     let Kind::CloseParen = kind_at(kinds, closing) else {
+        drop(parameters);
         return Err(Stop::Syntax(closing));
     };
     if bars(kinds, at, closing) {
+        drop(parameters);
         return Err(Stop::Syntax(closing));
     }
     Ok((Deriving::function(at, parameters, closing), closing + 1))
@@ -471,6 +478,7 @@ pub(crate) fn derivings(
             Err(stop) => return Err(stop),
         };
         if lacks_name(&one, declares) {
+            drop(one);
             return Err(Stop::Syntax(amiss(kinds, end, next)));
         }
         let Ok(()) = push(&mut derivings, one) else {
@@ -517,6 +525,9 @@ pub(crate) fn declarator(
     };
     match derivings(alloc, kinds, next, name.is_some()) {
         Ok((derivings, end)) => Ok((Declarator::new(pointers, group, derivings), name, end)),
-        Err(stop) => Err(stop),
+        Err(stop) => {
+            drop(group);
+            Err(stop)
+        }
     }
 }

@@ -96,9 +96,13 @@ pub(crate) fn enumeration(
     };
     let (more, comma, closing) = match more_enumerators(alloc, kinds, behind) {
         Ok(found) => found,
-        Err(stop) => return Err(stop),
+        Err(stop) => {
+            drop(first);
+            return Err(stop);
+        }
     };
     let Kind::CloseBrace = kind_at(kinds, closing) else {
+        drop(first);
         return Err(Stop::Syntax(closing));
     };
     match Specifier::enumerators(alloc, at, tag, opening, first, more, comma, closing) {

@@ -84,6 +84,7 @@ fn paren(alloc: Global, kinds: &Kinds<'_>, at: u32) -> Result<(Expr, u32), Stop>
         Err(stop) => return Err(stop),
     };
     let Kind::CloseParen = kind_at(kinds, closing) else {
+        drop(inner);
         return Err(Stop::Syntax(closing));
     };
     match Expr::paren(alloc, at, inner, closing) {
@@ -127,6 +128,7 @@ fn index(alloc: Global, kinds: &Kinds<'_>, at: u32) -> Result<(Suffix, u32), Sto
         Err(stop) => return Err(stop),
     };
     let Kind::CloseBracket = kind_at(kinds, closing) else {
+        drop(inner);
         return Err(Stop::Syntax(closing));
     };
     match Suffix::index(alloc, at, inner, closing) {
@@ -154,9 +156,13 @@ fn call(alloc: Global, kinds: &Kinds<'_>, at: u32) -> Result<(Suffix, u32), Stop
     };
     let (more, closing) = match operands(alloc, kinds, EXPRESSION, behind) {
         Ok(found) => found,
-        Err(stop) => return Err(stop),
+        Err(stop) => {
+            drop(first);
+            return Err(stop);
+        }
     };
     let Kind::CloseParen = kind_at(kinds, closing) else {
+        drop(first);
         return Err(Stop::Syntax(closing));
     };
     match Suffix::call_with(alloc, at, first, more, closing) {
@@ -239,6 +245,7 @@ fn sized(
     ensures none { IfErr result (λ e. (t : Tree) → (end : ℕ) → Reads kinds.now 16 t keyword end → Stops kinds.now 16 end → IsWant e) }
 {
     if kind_at(kinds, closing + 1).is_suffix() {
+        drop(name);
         return Err(Stop::Syntax(closing + 1));
     }
     match Expr::of_type(alloc, keyword, keyword + 1, name, closing) {
@@ -264,7 +271,10 @@ fn compound(
 {
     let (list, end) = match braces(alloc, kinds, closing + 1) {
         Ok(found) => found,
-        Err(stop) => return Err(stop),
+        Err(stop) => {
+            drop(name);
+            return Err(stop);
+        }
     };
     match Expr::compound(alloc, opening, name, closing, list) {
         Ok(expr) => Ok((expr, end)),
@@ -315,7 +325,10 @@ fn postfix(alloc: Global, kinds: &Kinds<'_>, begun: Begun) -> Result<(Expr, u32)
     };
     let (more, end) = match suffixes(alloc, kinds, behind) {
         Ok(found) => found,
-        Err(stop) => return Err(stop),
+        Err(stop) => {
+            drop(first);
+            return Err(stop);
+        }
     };
     match joining::postfix(alloc, first, more) {
         Ok(expr) => Ok((expr, end)),
@@ -398,7 +411,10 @@ fn binary(
 {
     let (more, end) = match operands(alloc, kinds, n, behind) {
         Ok(found) => found,
-        Err(stop) => return Err(stop),
+        Err(stop) => {
+            drop(first);
+            return Err(stop);
+        }
     };
     match joining::binary(alloc, first, more) {
         Ok(expr) => Ok((expr, end)),
@@ -481,9 +497,14 @@ fn conditional(alloc: Global, kinds: &Kinds<'_>, at: u32) -> Result<(Expr, u32),
         };
         let (middle, colon) = match level(alloc, kinds, EXPRESSION, question + 1) {
             Ok(found) => found,
-            Err(stop) => return Err(stop),
+            Err(stop) => {
+                drop(test);
+                return Err(stop);
+            }
         };
         let Kind::Colon = kind_at(kinds, colon) else {
+            drop(middle);
+            drop(test);
             return Err(Stop::Syntax(colon));
         };
         let Ok(()) = push(&mut choices, Choice::new(test, question, middle, colon)) else {
@@ -517,6 +538,7 @@ fn assignment(alloc: Global, kinds: &Kinds<'_>, at: u32) -> Result<(Expr, u32), 
             }
         }
         if !value.is_unary() {
+            drop(value);
             return Err(Stop::Syntax(operator));
         }
         let Ok(()) = push(&mut places, (value, operator)) else {

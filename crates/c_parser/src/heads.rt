@@ -319,6 +319,9 @@ pub(crate) fn head<'a>(
             let head = Head::asserted(Specs::new(Vec::new(alloc)), Vec::new(alloc), assertion);
             Ok((head, behind, end))
         }
-        Err(_) => Err(Stop::NoMemory),
+        Err(_) => {
+            drop(assertion);
+            Err(Stop::NoMemory)
+        }
     }
 }

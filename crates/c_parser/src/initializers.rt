@@ -36,6 +36,7 @@ fn designator(alloc: Global, kinds: &Kinds<'_>, at: u32) -> Result<(Designator, 
         Err(stop) => return Err(stop),
     };
     let Kind::CloseBracket = kind_at(kinds, closing) else {
+        drop(index);
         return Err(Stop::Syntax(closing));
     };
     Ok((Designator::element(at, index, closing), closing + 1))
@@ -109,14 +110,21 @@ fn designated(alloc: Global, kinds: &Kinds<'_>, at: u32) -> Result<(Piece, u32),
     };
     let (more, equals) = match designators(alloc, kinds, behind) {
         Ok(found) => found,
-        Err(stop) => return Err(stop),
+        Err(stop) => {
+            drop(first);
+            return Err(stop);
+        }
     };
     let Kind::Equals = kind_at(kinds, equals) else {
+        drop(first);
         return Err(Stop::Syntax(equals));
     };
     match init(alloc, kinds, equals + 1) {
         Ok((init, end)) => Ok((Piece::designated(first, more, equals, init), end)),
-        Err(stop) => Err(stop),
+        Err(stop) => {
+            drop(first);
+            Err(stop)
+        }
     }
 }
 
@@ -188,9 +196,13 @@ pub(crate) fn braces(alloc: Global, kinds: &Kinds<'_>, at: u32) -> Result<(Brace
     };
     let (more, comma, closing) = match pieces(alloc, kinds, behind) {
         Ok(found) => found,
-        Err(stop) => return Err(stop),
+        Err(stop) => {
+            drop(first);
+            return Err(stop);
+        }
     };
     let Kind::CloseBrace = kind_at(kinds, closing) else {
+        drop(first);
         return Err(Stop::Syntax(closing));
     };
     Ok((Braces::new(at, first, more, comma, closing), closing + 1))

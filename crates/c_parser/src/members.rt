@@ -62,6 +62,7 @@ fn direct(alloc: Global, kinds: &Kinds<'_>, at: u32, plain: bool) -> Result<(Gro
         Err(stop) => return Err(stop),
     };
     let Kind::CloseParen = kind_at(kinds, closing) else {
+        drop(inner);
         return Err(Stop::Syntax(closing));
     };
     match Group::of(alloc, at, inner, closing) {
@@ -97,7 +98,10 @@ pub(crate) fn declared(
     };
     match derivings(alloc, kinds, next, true) {
         Ok((derivings, end)) => Ok((Declarator::new(pointers, group, derivings), name, end)),
-        Err(stop) => Err(stop),
+        Err(stop) => {
+            drop(group);
+            Err(stop)
+        }
     }
 }
 
@@ -119,19 +123,26 @@ pub(crate) fn assertion(alloc: Global, kinds: &Kinds<'_>, at: u32) -> Result<(As
         Err(stop) => return Err(stop),
     };
     let Kind::Comma = kind_at(kinds, comma) else {
+        drop(condition);
         return Err(Stop::Syntax(comma));
     };
     let (text, closing) = match pieces(alloc, kinds, comma + 1) {
         Ok(found) => found,
-        Err(stop) => return Err(stop),
+        Err(stop) => {
+            drop(condition);
+            return Err(stop);
+        }
     };
     if closing <= comma + 1 {
+        drop(condition);
         return Err(Stop::Syntax(closing));
     }
     let Kind::CloseParen = kind_at(kinds, closing) else {
+        drop(condition);
         return Err(Stop::Syntax(closing));
     };
     let Kind::Semicolon = kind_at(kinds, closing + 1) else {
+        drop(condition);
         return Err(Stop::Syntax(closing + 1));
     };
     Ok((
@@ -162,7 +173,10 @@ fn field(alloc: Global, kinds: &Kinds<'_>, at: u32, plain: bool) -> Result<(Fiel
     };
     match level(alloc, kinds, CONDITIONAL, place + 1) {
         Ok((width, end)) => Ok((Field::bits(declarator, place, width), end)),
-        Err(stop) => Err(stop),
+        Err(stop) => {
+            drop(declarator);
+            Err(stop)
+        }
     }
 }
 
@@ -228,9 +242,13 @@ fn fields(
     };
     let (more, end) = match more_fields(alloc, kinds, place) {
         Ok(found) => found,
-        Err(stop) => return Err(stop),
+        Err(stop) => {
+            drop(first);
+            return Err(stop);
+        }
     };
     let Kind::Semicolon = kind_at(kinds, end) else {
+        drop(first);
         return Err(Stop::Syntax(end));
     };
     Ok((first, more, end))

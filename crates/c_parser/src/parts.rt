@@ -85,6 +85,7 @@ pub fn declaration_at<'a>(
         Err(stop) => return Err(stop),
     };
     if !is_declaration(&head) {
+        drop(head);
         return Err(Stop::Syntax(at));
     }
     Ok((head, behind, end))

@@ -53,6 +53,7 @@ fn association(alloc: Global, kinds: &Kinds<'_>, at: u32) -> Result<(Association
         Err(stop) => return Err(stop),
     };
     let Kind::Colon = kind_at(kinds, colon) else {
+        drop(name);
         return Err(Stop::Syntax(colon));
     };
     match level(alloc, kinds, ASSIGNMENT, colon + 1) {
@@ -60,7 +61,10 @@ fn association(alloc: Global, kinds: &Kinds<'_>, at: u32) -> Result<(Association
             Ok(association) => Ok((association, end)),
             Err(_) => Err(Stop::NoMemory),
         },
-        Err(stop) => Err(stop),
+        Err(stop) => {
+            drop(name);
+            Err(stop)
+        }
     }
 }
 
@@ -113,13 +117,18 @@ pub(crate) fn generic(alloc: Global, kinds: &Kinds<'_>, at: u32) -> Result<(Expr
         Err(stop) => return Err(stop),
     };
     let Kind::Comma = kind_at(kinds, behind) else {
+        drop(control);
         return Err(Stop::Syntax(behind));
     };
     let (choices, closing) = match associations(alloc, kinds, behind) {
         Ok(found) => found,
-        Err(stop) => return Err(stop),
+        Err(stop) => {
+            drop(control);
+            return Err(stop);
+        }
     };
     let Kind::CloseParen = kind_at(kinds, closing) else {
+        drop(control);
         return Err(Stop::Syntax(closing));
     };
     match Expr::generic(alloc, at, at + 1, control, choices, closing) {
@@ -173,16 +182,22 @@ pub(crate) fn offset(alloc: Global, kinds: &Kinds<'_>, at: u32) -> Result<(Expr,
         Err(stop) => return Err(stop),
     };
     let Kind::Comma = kind_at(kinds, comma) else {
+        drop(name);
         return Err(Stop::Syntax(comma));
     };
     if !kind_at(kinds, comma + 1).is_word() {
+        drop(name);
         return Err(Stop::Syntax(comma + 1));
     }
     let (more, closing) = match steps(alloc, kinds, comma + 2) {
         Ok(found) => found,
-        Err(stop) => return Err(stop),
+        Err(stop) => {
+            drop(name);
+            return Err(stop);
+        }
     };
     let Kind::CloseParen = kind_at(kinds, closing) else {
+        drop(name);
         return Err(Stop::Syntax(closing));
     };
     match Expr::offset(alloc, at, at + 1, name, comma, comma + 1, more, closing) {

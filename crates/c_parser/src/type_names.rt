@@ -118,6 +118,7 @@ fn alignment(
         Err(stop) => return Err(stop),
     };
     let Kind::CloseParen = kind_at(kinds, closing) else {
+        drop(size);
         return Err(Stop::Syntax(closing));
     };
     match Specifier::aligned(alloc, at, at + 1, size, closing) {

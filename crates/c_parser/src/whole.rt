@@ -49,6 +49,7 @@ fn expression(alloc: Global, kinds: &Kinds<'_>) -> Result<Expr, ParseError>
         Err(stop) => return Err(at_front(stop)),
     };
     if (end as usize) < kinds.len() {
+        drop(expr);
         return Err(ParseError::Syntax(0));
     }
     Ok(expr)
@@ -121,6 +122,7 @@ fn name_of_type(alloc: Global, kinds: &Kinds<'_>) -> Result<TypeName, ParseError
         Err(stop) => return Err(at_front(stop)),
     };
     if (end as usize) < kinds.len() {
+        drop(name);
         return Err(ParseError::Syntax(0));
     }
     Ok(name)
@@ -247,6 +249,7 @@ fn whole_head(alloc: Global, kinds: &[Kind], hidden: Vec<bool>) -> Result<Head, 
         Err(stop) => return Err(at_front(stop)),
     };
     if (end as usize) < kinds.len() {
+        drop(head);
         return Err(ParseError::Syntax(0));
     }
     Ok(head)
