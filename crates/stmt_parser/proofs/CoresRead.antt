@@ -11,9 +11,9 @@ use Rattle.c_parser.specs.Words.{Words, kind_in}
 use Rattle.stmt_parser.specs.Found.{FoundOptional, FoundTest, FoundStatement, FailsStatement}
 use Rattle.stmt_parser.specs.Fronts.{labels_at, is_marked}
 use Rattle.stmt_parser.specs.Reading.{HoldsOptional, HoldsTest, HoldsStatement, HoldsCore, Ends}
-use Rattle.stmt_parser.proofs.Marks.{code_of, coded, ended}
+use Rattle.stmt_parser.proofs.Marks.{code_of, coded}
 use Rattle.stmt_parser.proofs.OneReading.{closed_ends, behind_ends, statement_only}
-use Rattle.stmt_parser.proofs.PartsRead.{OnlyOptional, FailsOptional}
+use Rattle.stmt_parser.proofs.PartsRead.{FailsEnded}
 use Rattle.stmt_parser.proofs.Views.{bare_core, plain_statement, goto_core, continue_core, break_core, return_core, do_core}
 
 pub bare_found : (w : Words) → (a : ℕ) → (c : Core) → (b : ℕ) → HoldsCore w c a b → a < b → b ≤ length w.kinds → FoundStatement w a (bare c) b
@@ -27,18 +27,9 @@ pub core_fails : (w : Words) → (a i : ℕ) → code_of (kind_in w a) ≡ i →
 core_fails w a i k high e f s b h ends = bare_core w a (omega (arith, k, high)) f s b h
 
 -- expression opt ;
-pub plain_by : (w : Words) → (a : ℕ) → labels_at w a ≡ false → is_marked (kind_in w a) ≡ false → (e : Stop)
-    → ((x : Option Tree) → (m : ℕ) → HoldsOptional w x a m → kind_in w m ≡ Semicolon → IsWant e) → FailsStatement w a e
-plain_by w a lack un e f s b h ends = plain_statement w a lack un (λ x m b' g. f x m g.0 g.1) s b h
-
-pub plain_unbegun : (w : Words) → (a : ℕ) → labels_at w a ≡ false → is_marked (kind_in w a) ≡ false → (e : Stop) → FailsOptional w a e
-    → FailsStatement w a e
-plain_unbegun w a lack un e f = plain_by w a lack un e (λ x m h q. f x m h (ended w m Semicolon q refl))
-
-pub plain_unended : (w : Words) → (a : ℕ) → labels_at w a ≡ false → is_marked (kind_in w a) ≡ false → (y : Option Tree) → (p : ℕ)
-    → OnlyOptional w a y p → (kind_in w p ≡ Semicolon → ⊥) → (e : Stop) → FailsStatement w a e
-plain_unended w a lack un y p only n e =
-    plain_by w a lack un e (λ x m h q. absurd (n (ap (kind_in w) (only x m h (ended w m Semicolon q refl)).1 ∙ q)))
+pub plain_fails : (w : Words) → (a : ℕ) → labels_at w a ≡ false → is_marked (kind_in w a) ≡ false → (e : Stop)
+    → FailsEnded w a e → FailsStatement w a e
+plain_fails w a lack un e f s b h ends = plain_statement w a lack un (λ x m b' g. f x m g.0 g.1) s b h
 
 pub plain_found : (w : Words) → (a : ℕ) → (x : Option Tree) → (m : ℕ) → FoundOptional w a x m → kind_in w m ≡ Semicolon → m < length w.kinds
     → FoundStatement w a (bare (Expression_of x m)) (m + 1)
@@ -86,17 +77,8 @@ break_found w a k q le =
     bare_found w a (Break_of a (a + 1)) (a + 2) (refl, k, refl, q, omega arith) (omega arith) (omega (arith, le))
 
 -- return expression opt ;
-pub return_unbegun : PartsLaw → (w : Words) → (a : ℕ) → kind_in w a ≡ Return → (e : Stop) → FailsOptional w (a + 1) e → FailsStatement w a e
-return_unbegun law w a k e f =
-    core_fails w a 12 (coded w a Return k) (omega arith) e
-    (return_core law w a k (λ p x m b h. f x m h.2 (ended w m Semicolon h.3 refl)))
-
-pub return_unended : PartsLaw → (w : Words) → (a : ℕ) → kind_in w a ≡ Return → (y : Option Tree) → (j : ℕ) → OnlyOptional w (a + 1) y j
-    → (kind_in w j ≡ Semicolon → ⊥) → (e : Stop) → FailsStatement w a e
-return_unended law w a k y j only lack e =
-    core_fails w a 12 (coded w a Return k) (omega arith) e
-    (return_core law w a k
-    (λ p x m b h. absurd (lack (ap (kind_in w) (only x m h.2 (ended w m Semicolon h.3 refl)).1 ∙ h.3))))
+pub return_fails : PartsLaw → (w : Words) → (a : ℕ) → kind_in w a ≡ Return → (e : Stop) → FailsEnded w (a + 1) e → FailsStatement w a e
+return_fails law w a k e f = core_fails w a 12 (coded w a Return k) (omega arith) e (return_core law w a k (λ p x m b h. f x m h.2 h.3))
 
 pub return_found : (w : Words) → (a : ℕ) → kind_in w a ≡ Return → (x : Option Tree) → (m : ℕ) → FoundOptional w (a + 1) x m → kind_in w m ≡ Semicolon
     → m < length w.kinds → FoundStatement w a (bare (Return_of a x m)) (m + 1)

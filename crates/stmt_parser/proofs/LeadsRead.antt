@@ -15,7 +15,7 @@ use Rattle.stmt_parser.specs.Reading.{HoldsOptional, HoldsTest, HoldsLead}
 use Rattle.stmt_parser.proofs.FrontLemmas.{token_inside}
 use Rattle.stmt_parser.proofs.InForceLemmas.{optional_blind}
 use Rattle.stmt_parser.proofs.Marks.{code_of, coded, stops_before, ended, start_declares_not, declaring_code}
-use Rattle.stmt_parser.proofs.PartsRead.{optional_kinds, alike_itself, semicolon_seen, closing_seen, FailsTail, OnlyOptional, FailsOptional}
+use Rattle.stmt_parser.proofs.PartsRead.{optional_kinds, alike_itself, semicolon_seen, closing_seen, FailsTail, OnlyEnded, FailsEnded}
 use Rattle.stmt_parser.proofs.Views.{labels_parts, first_lead, case_lead, default_lead, switch_lead, while_lead, for_lead}
 
 -- whatever holds of each lead of a kind: at a place where that kind stands
@@ -221,26 +221,20 @@ loop_by law w a k st e f =
     declared_from w d o a m e h = subst (λ y. HoldsDeclaration w d y m) (place o a e) h
 
 pub loop_unbegun : PartsLaw → (w : Words) → (a : ℕ) → kind_in w a ≡ For → starts_declaration (kind_in w (a + 2)) ≡ false → (e : Stop)
-    → FailsOptional w (a + 2) e → FailsStatement w a e
-loop_unbegun law w a k st e f = loop_by law w a k st e (λ x m h q y n z c g r p t. f x m h (ended w m Semicolon q refl))
-
-pub loop_undivided : PartsLaw → (w : Words) → (a : ℕ) → kind_in w a ≡ For → starts_declaration (kind_in w (a + 2)) ≡ false → (u : Option Tree) → (j : ℕ)
-    → OnlyOptional w (a + 2) u j → (kind_in w j ≡ Semicolon → ⊥) → (e : Stop) → FailsStatement w a e
-loop_undivided law w a k st u j only lack e =
-    loop_by law w a k st e
-    (λ x m h q y n z c g r p t. absurd (lack (ap (kind_in w) (only x m h (ended w m Semicolon q refl)).1 ∙ q)))
+    → FailsEnded w (a + 2) e → FailsStatement w a e
+loop_unbegun law w a k st e f = loop_by law w a k st e (λ x m h q y n z c g r p t. f x m h q)
 
 -- the identifiers behind the first part differ in typedef names alone
 first_alike : PartsLaw → (w : Words) → (x : Option Tree) → (v : Words) → v ≡ past_optional w x → Alike v w
 first_alike law w x v is f i a = ap (λ y. f (kind_in y a)) is ∙ optional_blind law f i w x a
 
 pub loop_fails : PartsLaw → (w : Words) → (a : ℕ) → kind_in w a ≡ For → starts_declaration (kind_in w (a + 2)) ≡ false → (u : Option Tree) → (j : ℕ)
-    → OnlyOptional w (a + 2) u j → (v : Words) → v ≡ past_optional w u → (e : Stop) → FailsTail v v (j + 1) e → FailsStatement w a e
+    → OnlyEnded w (a + 2) u j → (v : Words) → v ≡ past_optional w u → (e : Stop) → FailsTail v v (j + 1) e → FailsStatement w a e
 loop_fails law w a k st u j only v is e f' =
     let f : FailsTail w v (j + 1) e = fails_outside v w (first_alike law w u v is) (j + 1) e f' in
     loop_by law w a k st e
     (λ x m h q y n z c g r p t.
-    let same = only x m h (ended w m Semicolon q refl) in
+    let same = only x m h q in
     let to : past_optional w x ≡ v = ap (past_optional w) (sym same.0) ∙ sym is in
     f y n z c
     (subst (λ i. HoldsOptional v y (i + 1) n) (sym same.1) (subst (λ i. HoldsOptional i y (m + 1) n) to g))

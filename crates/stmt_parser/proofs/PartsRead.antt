@@ -131,38 +131,49 @@ OnlyOptional w a x m = (y : Option Tree) → (b : ℕ) → HoldsOptional w y a b
 abbrev pub FailsOptional : Words → ℕ → Stop → Type 0
 FailsOptional w a e = (y : Option Tree) → (b : ℕ) → HoldsOptional w y a b → ends_expression (kind_in w b) ≡ true → IsWant e
 
+-- the same up to a `;`
+abbrev pub OnlyEnded : Words → ℕ → Option Tree → ℕ → Type 0
+OnlyEnded w a x m = (y : Option Tree) → (b : ℕ) → HoldsOptional w y a b → kind_in w b ≡ Semicolon → (x ≡ y) × (m ≡ b)
+
+abbrev pub FailsEnded : Words → ℕ → Stop → Type 0
+FailsEnded w a e = (y : Option Tree) → (b : ℕ) → HoldsOptional w y a b → kind_in w b ≡ Semicolon → IsWant e
+
+pub unbegun : (w : Words) → (a : ℕ) → (e : Stop) → FailsOptional w a e → FailsEnded w a e
+unbegun w a e f y b h k = f y b h (ended w b Semicolon k refl)
+
+pub unended : (w : Words) → (a : ℕ) → (x : Option Tree) → (m : ℕ) → OnlyOptional w a x m → (kind_in w m ≡ Semicolon → ⊥) → (y : Option Tree) → (b : ℕ)
+    → HoldsOptional w y a b → kind_in w b ≡ Semicolon → ⊥
+unended w a x m only lack y b h k = lack (ap (kind_in w) (only y b h (ended w b Semicolon k refl)).1 ∙ k)
+
+pub ended_only : (w : Words) → (a : ℕ) → (x : Option Tree) → (m : ℕ) → OnlyOptional w a x m → OnlyEnded w a x m
+ended_only w a x m only y b h k = only y b h (ended w b Semicolon k refl)
+
 abbrev pub FailsTail : Words → Words → ℕ → Stop → Type 0
 FailsTail v w a e = (y : Option Tree) → (n : ℕ) → (z : Option Tree) → (c : ℕ) → HoldsOptional w y a n → kind_in v n ≡ Semicolon
     → HoldsOptional (past_optional w y) z (n + 1) c → kind_in v c ≡ CloseParen → IsWant e
 
-pub tail_unbegun : (w v : Words) → Alike w v → (a : ℕ) → (e : Stop) → FailsOptional w a e → FailsTail v w a e
-tail_unbegun w v alike a e f y n z c h k g m = f y n h (ends_under w v alike n Semicolon k refl)
-
-pub tail_undivided : (w v : Words) → Alike w v → (a : ℕ) → (x : Option Tree) → (m : ℕ) → OnlyOptional w a x m → (kind_in v m ≡ Semicolon → ⊥)
-    → (at : ℕ) → (y : Option Tree) → (n : ℕ) → (z : Option Tree) → (c : ℕ) → HoldsOptional w y a n → kind_in v n ≡ Semicolon
-    → HoldsOptional (past_optional w y) z (n + 1) c → kind_in v c ≡ CloseParen → ⊥
-tail_undivided w v alike a x m only lack at y n z c h k g q =
-    lack (ap (kind_in v) (only y n h (ends_under w v alike n Semicolon k refl)).1 ∙ k)
+pub tail_unbegun : (w v : Words) → Alike w v → (a : ℕ) → (e : Stop) → FailsEnded w a e → FailsTail v w a e
+tail_unbegun w v alike a e f y n z c h k g m = f y n h (semicolon_seen w v alike n k)
 
 -- under the identifiers behind the first part
 behind_alike : PartsLaw → (w v : Words) → Alike w v → (x : Option Tree) → (j : Words) → j ≡ past_optional w x → Alike j v
 behind_alike law w v alike x j is f i a = ap (λ y. f (kind_in y a)) is ∙ optional_blind law f i w x a ∙ alike f i a
 
 -- the second part, from the place where the first one was found to end
-second_part : (w v : Words) → Alike w v → (a : ℕ) → (x : Option Tree) → (m : ℕ) → OnlyOptional w a x m → (j : Words) → j ≡ past_optional w x
+second_part : (w v : Words) → Alike w v → (a : ℕ) → (x : Option Tree) → (m : ℕ) → OnlyEnded w a x m → (j : Words) → j ≡ past_optional w x
     → (y : Option Tree) → (n : ℕ) → (z : Option Tree) → (c : ℕ) → HoldsOptional w y a n → kind_in v n ≡ Semicolon
     → HoldsOptional (past_optional w y) z (n + 1) c → HoldsOptional j z (m + 1) c
 second_part w v alike a x m only j is y n z c h k g =
-    let r = only y n h (ends_under w v alike n Semicolon k refl) in
+    let r = only y n h (semicolon_seen w v alike n k) in
     subst (λ p. HoldsOptional j z (p + 1) c) (sym r.1)
     (subst (λ u. HoldsOptional u z (n + 1) c) (ap (past_optional w) (sym r.0) ∙ sym is) g)
 
-pub tail_unstepped : PartsLaw → (w v : Words) → Alike w v → (a : ℕ) → (x : Option Tree) → (m : ℕ) → OnlyOptional w a x m → (j : Words)
+pub tail_unstepped : PartsLaw → (w v : Words) → Alike w v → (a : ℕ) → (x : Option Tree) → (m : ℕ) → OnlyEnded w a x m → (j : Words)
     → j ≡ past_optional w x → (e : Stop) → FailsOptional j (m + 1) e → FailsTail v w a e
 tail_unstepped law w v alike a x m only j is e f y n z c h k g q =
     f z c (second_part w v alike a x m only j is y n z c h k g) (ends_under j v (behind_alike law w v alike x j is) c CloseParen q refl)
 
-pub tail_unclosed : PartsLaw → (w v : Words) → Alike w v → (a : ℕ) → (x : Option Tree) → (m : ℕ) → OnlyOptional w a x m → (j : Words)
+pub tail_unclosed : PartsLaw → (w v : Words) → Alike w v → (a : ℕ) → (x : Option Tree) → (m : ℕ) → OnlyEnded w a x m → (j : Words)
     → j ≡ past_optional w x → (u : Option Tree) → (p : ℕ) → OnlyOptional j (m + 1) u p → (kind_in j p ≡ CloseParen → ⊥)
     → (y : Option Tree) → (n : ℕ) → (z : Option Tree) → (c : ℕ) → HoldsOptional w y a n → kind_in v n ≡ Semicolon
     → HoldsOptional (past_optional w y) z (n + 1) c → kind_in v c ≡ CloseParen → ⊥
@@ -171,12 +182,12 @@ tail_unclosed law w v alike a x m only j is u p next lack y n z c h k g q =
     let same = next z c (second_part w v alike a x m only j is y n z c h k g) (ends_under j v under c CloseParen q refl) in
     lack (ap (kind_in j) same.1 ∙ closing_seen j v under c q)
 
-pub tail_same : PartsLaw → (w v : Words) → Alike w v → (a : ℕ) → (x : Option Tree) → (m : ℕ) → OnlyOptional w a x m → (j : Words)
+pub tail_same : PartsLaw → (w v : Words) → Alike w v → (a : ℕ) → (x : Option Tree) → (m : ℕ) → OnlyEnded w a x m → (j : Words)
     → j ≡ past_optional w x → (u : Option Tree) → (p : ℕ) → OnlyOptional j (m + 1) u p
     → (y : Option Tree) → (n : ℕ) → (z : Option Tree) → (c : ℕ) → HoldsOptional w y a n → kind_in v n ≡ Semicolon
     → HoldsOptional (past_optional w y) z (n + 1) c → kind_in v c ≡ CloseParen → (x ≡ y) × (m ≡ n) × (u ≡ z) × (p ≡ c)
 tail_same law w v alike a x m only j is u p next y n z c h k g q =
-    let r = only y n h (ends_under w v alike n Semicolon k refl) in
+    let r = only y n h (semicolon_seen w v alike n k) in
     let s =
     next z c (second_part w v alike a x m only j is y n z c h k g) (ends_under j v (behind_alike law w v alike x j is) c CloseParen q refl) in
     (r.0, r.1, s.0, s.1)

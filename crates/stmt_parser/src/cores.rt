@@ -9,7 +9,7 @@ ghost use Rattle.stmt_parser.specs.Found.{FoundStatement, FailsStatement};
 ghost use Rattle.stmt_parser.specs.Fronts.{labels_at, is_marked};
 ghost use Rattle.stmt_parser.specs.InForce.{past_item};
 
-use crate::parts::{behind, optional};
+use crate::parts::up_to_semicolon;
 use c_parser::{Kind, Scope, Stop};
 use std::alloc::Global;
 use tree_data::Stmt;
@@ -29,15 +29,9 @@ pub(crate) fn expression<'a>(
     ensures past { IfOk result (λ r. r.1 ≡ past_item scope.entry (Stated_of (stmt_of r.0))) }
     ensures fails { IfErr result (FailsStatement scope.entry at) }
 {
-    let (expr, end) = match optional(alloc, &scope, at) {
+    let (expr, end, inside) = match up_to_semicolon(alloc, scope, at) {
         Ok(found) => found,
         Err(stop) => return Err(stop),
-    };
-    let Kind::Semicolon = scope.kind_at(end) else {
-        return Err(Stop::Syntax(end));
-    };
-    let Ok(inside) = behind(alloc, scope, &expr, at, end) else {
-        return Err(Stop::NoMemory);
     };
     match Stmt::expression(alloc, expr, end) {
         Ok(stmt) => Ok((stmt, inside, end + 1)),
@@ -110,15 +104,9 @@ pub(crate) fn returns<'a>(
     ensures past { IfOk result (λ r. r.1 ≡ past_item scope.entry (Stated_of (stmt_of r.0))) }
     ensures fails { IfErr result (FailsStatement scope.entry at) }
 {
-    let (value, end) = match optional(alloc, &scope, at + 1) {
+    let (value, end, inside) = match up_to_semicolon(alloc, scope, at + 1) {
         Ok(found) => found,
         Err(stop) => return Err(stop),
-    };
-    let Kind::Semicolon = scope.kind_at(end) else {
-        return Err(Stop::Syntax(end));
-    };
-    let Ok(inside) = behind(alloc, scope, &value, at + 1, end) else {
-        return Err(Stop::NoMemory);
     };
     match Stmt::returns(alloc, at, value, end) {
         Ok(stmt) => Ok((stmt, inside, end + 1)),

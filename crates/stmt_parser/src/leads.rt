@@ -8,7 +8,7 @@ ghost use Rattle.stmt_parser.specs.Found.{FoundLead, FailsStatement};
 ghost use Rattle.stmt_parser.specs.Fronts.{labels_at};
 ghost use Rattle.stmt_parser.specs.InForce as force;
 
-use crate::parts::{CONSTANT, behind, optional, tail, test};
+use crate::parts::{CONSTANT, tail, test, up_to_semicolon};
 use c_parser::{Kind, Scope, Stop, declaration_at, expression_at, past_expression};
 use std::alloc::Global;
 use tree_data::Lead;
@@ -166,15 +166,9 @@ fn for_loop<'a>(alloc: Global, scope: Scope<'a>, at: u32) -> Result<(Lead, Scope
     ensures past { IfOk result (λ r. r.1 ≡ force.inside scope.entry (lead_of r.0)) }
     ensures fails { IfErr result (FailsStatement scope.entry at) }
 {
-    let (first, place) = match optional(alloc, &scope, at + 2) {
+    let (first, place, inner) = match up_to_semicolon(alloc, scope, at + 2) {
         Ok(found) => found,
         Err(stop) => return Err(stop),
-    };
-    let Kind::Semicolon = scope.kind_at(place) else {
-        return Err(Stop::Syntax(place));
-    };
-    let Ok(inner) = behind(alloc, scope, &first, at + 2, place) else {
-        return Err(Stop::NoMemory);
     };
     let (test, middle, step, inside, closing) = match tail(alloc, inner, place + 1) {
         Ok(found) => found,

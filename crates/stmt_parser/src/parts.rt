@@ -1,5 +1,5 @@
 // Expressions inside statements (ISO C11 6.8.3 to 6.8.5).
-ghost use Rattle.std.specs.Prelude.{◌≡◌, ℕ, ◌+◌, ◌≤◌, true, length, Option, option_map, is_some, IfOk};
+ghost use Rattle.std.specs.Prelude.{◌≡◌, ℕ, ◌+◌, ◌<◌, ◌≤◌, true, length, Option, option_map, is_some, IfOk};
 ghost use Rattle.tree_data.specs.Seen.{tree_of};
 ghost use Rattle.tree_data.specs.Trees.{Tree};
 ghost use Rattle.c_parser.specs.declared.kinds.Kind.TheVariants.{Semicolon, CloseParen};
@@ -22,11 +22,7 @@ pub(crate) const EXPRESSION: u8 = 1;
 pub(crate) const CONSTANT: u8 = 3;
 
 // An expression, if there is one.
-pub(crate) fn optional(
-    alloc: Global,
-    scope: &Scope<'_>,
-    at: u32,
-) -> Result<(Option<Expr>, u32), Stop>
+fn optional(alloc: Global, scope: &Scope<'_>, at: u32) -> Result<(Option<Expr>, u32), Stop>
     requires law { PartsLaw }
     requires size { length scope.now.kinds ≤ 2000000 }
     requires inside { at ≤ length scope.now.kinds }
@@ -76,7 +72,7 @@ fn stands(expr: &Option<Expr>) -> bool
 }
 
 // The identifiers in force behind an expression, if it is there, that stands from one place to another.
-pub(crate) fn behind<'a>(
+fn behind<'a>(
     alloc: Global,
     scope: Scope<'a>,
     expr: &Option<Expr>,
@@ -92,6 +88,36 @@ pub(crate) fn behind<'a>(
     }
     let inside = past_expression(alloc, scope, from, to)?;
     Ok(inside)
+}
+
+// An expression, if there is one, and a `;` behind it: the number of that, and the identifiers in force there.
+pub(crate) fn up_to_semicolon<'a>(
+    alloc: Global,
+    scope: Scope<'a>,
+    at: u32,
+) -> Result<(Option<Expr>, u32, Scope<'a>), Stop>
+    requires law { PartsLaw }
+    requires size { length scope.kinds ≤ 2000000 }
+    requires inside { at ≤ length scope.kinds }
+    ensures found { IfOk result (λ r. FoundOptional scope.entry at (option_map tree_of r.0) r.1) }
+    ensures semicolon { IfOk result (λ r. kind_in scope.entry r.1 ≡ Semicolon) }
+    ensures within { IfOk result (λ r. r.1 < length scope.entry.kinds) }
+    ensures size { IfOk result (λ r. length r.2.kinds ≡ length scope.entry.kinds) }
+    ensures past { IfOk result (λ r. r.2 ≡ past_optional scope.entry (option_map tree_of r.0)) }
+    ensures only { (x : Option Tree) → (end : ℕ) → HoldsOptional scope.entry x at end → kind_in scope.entry end ≡ Semicolon
+        → MustGive result (λ r. (option_map tree_of r.0 ≡ x) × (r.1 ≡ end)) }
+{
+    let (expr, end) = match optional(alloc, &scope, at) {
+        Ok(found) => found,
+        Err(stop) => return Err(stop),
+    };
+    let Kind::Semicolon = scope.kind_at(end) else {
+        return Err(Stop::Syntax(end));
+    };
+    let Ok(inside) = behind(alloc, scope, &expr, at, end) else {
+        return Err(Stop::NoMemory);
+    };
+    Ok((expr, end, inside))
 }
 
 // What stands in the parentheses of a `for` behind its first part: two expressions, each if it is there, the number of the `;` between them, the
@@ -111,15 +137,9 @@ pub(crate) fn tail<'a>(
         → kind_in scope.entry c ≡ CloseParen
         → MustGive result (λ r. (option_map tree_of r.0 ≡ y) × (r.1 ≡ n) × (option_map tree_of r.2 ≡ z) × (r.4 ≡ c)) }
 {
-    let (test, middle) = match optional(alloc, &scope, at) {
+    let (test, middle, inner) = match up_to_semicolon(alloc, scope, at) {
         Ok(found) => found,
         Err(stop) => return Err(stop),
-    };
-    let Kind::Semicolon = scope.kind_at(middle) else {
-        return Err(Stop::Syntax(middle));
-    };
-    let Ok(inner) = behind(alloc, scope, &test, at, middle) else {
-        return Err(Stop::NoMemory);
     };
     let (step, closing) = match optional(alloc, &inner, middle + 1) {
         Ok(found) => found,

@@ -2,27 +2,19 @@ use Rattle.std.proofs.Common.{◌∙◌, sym, subst, ◌+◌, ap}
 use Rattle.tree_data.specs.Statements.{Stated_of}
 use Rattle.stmt_parser.specs.Found.{FoundStatement}
 use Rattle.stmt_parser.specs.InForce.{past_item}
-use Rattle.c_parser.specs.declared.answers.Stop.TheVariants as stop
-use Rattle.stmt_parser.proofs.CoresRead.{plain_unbegun, plain_unended, plain_found}
+use Rattle.stmt_parser.proofs.CoresRead.{plain_fails, plain_found}
 use Rattle.stmt_parser.proofs.cores.expression.Goals as goal
 
 pub returns-in-Err : goal.returns-in-Err
 returns-in-Err c = record {
   found = tt;
   past = tt;
-  fails = plain_unbegun _ _ c.requires.unlabelled c.requires.unmarked _ c.in-Err.ensures.only;
-}
-
-pub returns-in_default : goal.returns-in_default
-returns-in_default c = record {
-  found = tt;
-  past = tt;
-  fails = plain_unended _ _ c.requires.unlabelled c.requires.unmarked _ _ c.in-Ok.ensures.only (λ k. c.in_default.not-Semicolon (c.kind_at.ensures.kind ∙ k)) (stop.Syntax 0);
+  fails = plain_fails _ _ c.requires.unlabelled c.requires.unmarked _ c.in-Err.ensures.only;
 }
 
 pub returns-in-Ok-expression : goal.returns-in-Ok-expression
 returns-in-Ok-expression c = record {
-  found = subst (λ s. FoundStatement c.args.scope c.args.at s (c.in-Ok.found.1 + 1)) (sym c.in-Ok-expression.ensures) (plain_found _ _ _ _ c.in-Ok.ensures.found (sym c.in-Semicolon.ensures.kind) c.in-Semicolon.ensures.inside);
-  past = c.in-Ok-behind.ensures.past c.in-Ok.ensures.found.reads ∙ sym (ap (λ s. past_item c.args.scope (Stated_of s)) c.in-Ok-expression.ensures);
+  found = subst (λ s. FoundStatement c.args.scope c.args.at s (c.in-Ok.found.1 + 1)) (sym c.in-Ok-expression.ensures) (plain_found _ _ _ _ c.in-Ok.ensures.found c.in-Ok.ensures.semicolon c.in-Ok.ensures.within);
+  past = c.in-Ok.ensures.past ∙ sym (ap (λ s. past_item c.args.scope (Stated_of s)) c.in-Ok-expression.ensures);
   fails = tt;
 }
