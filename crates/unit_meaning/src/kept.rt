@@ -3,7 +3,7 @@ ghost use Rattle.std.specs.Prelude.{◌≡◌, IfOk, is_some, option_map};
 ghost use Rattle.unit_meaning.specs.Exports as spec;
 
 use crate::firsts::{first_tokens, token_of};
-use crate::statements::{Asked, first_stated, outside};
+use crate::statements::{all_first_stated, outside};
 use scope_tables::{HeadMeaning, Occ};
 use shared_text::Name;
 use std::alloc::{AllocError, Global};
@@ -48,10 +48,8 @@ impl<'a> Kept<'a> {
         ensures { IfOk result (λ k. k ≡ record { occs = occs.now; heads = heads.now }) }
     {
         let firsts = first_tokens(alloc, occs)?;
-        let defined = first_stated(alloc, Asked::Defined, heads)?;
-        let tentative = first_stated(alloc, Asked::Tentative, heads)?;
-        let refused = first_stated(alloc, Asked::Refused, heads)?;
         let outside = outside(alloc, heads)?;
+        let (defined, tentative, refused) = all_first_stated(alloc, heads)?;
         Ok(Kept {
             occs,
             heads,

@@ -1,6 +1,7 @@
 // What a unit means.
 ghost use Rattle.std.specs.Prelude.{◌≡◌, IfOk};
 ghost use Rattle.unit_meaning.specs.Entities.{entities as declared};
+ghost use Rattle.unit_meaning.specs.Exports as shown;
 ghost use Rattle.unit_meaning.specs.Meanings as spec;
 ghost use Rattle.unit_meaning.specs.Occurrences as denoted;
 ghost use Rattle.unit_meaning.specs.Seen.{elaborated_of};
@@ -15,7 +16,7 @@ use crate::occurrences::{in_items, of_unit};
 use crate::sites::all_reached;
 use crate::symbols::symbols;
 use crate::tags::tags;
-use scope_tables::{BodyMeaning, Entity, Exports, HeadMeaning, Occ, UnitMeaning};
+use scope_tables::{BodyMeaning, Entity, Export, Exports, HeadMeaning, Occ, UnitMeaning};
 use shared_list::Listing;
 use std::alloc::{AllocError, Global};
 use tok_data::{FileId, OutToken, ShownFault, TokId};
@@ -46,45 +47,75 @@ fn faults(alloc: Global, unit: &Elaborated<'_>, tags: &Tags) -> Result<Vec<Shown
     Ok(out)
 }
 
-#[tactic(auto, unfolding(crate::specs::Meanings::exports))]
-fn exports(
+// The names that a unit shows to the others.
+fn exported(
     alloc: Global,
     unit: &Elaborated<'_>,
     occs: &[Occ],
     entities: &[Entity],
-    tags: Tags,
-) -> Result<Exports, AllocError>
-    requires occs { occs.now ≡ denoted.in_items (elaborated_of unit.now).unit.items (elaborated_of unit.now).heads (elaborated_of unit.now).bodies }
-    requires entities { entities.now ≡ declared (elaborated_of unit.now).unit (elaborated_of unit.now).heads (elaborated_of unit.now).bodies }
-    requires tags { tags ≡ known (elaborated_of unit.now).heads (elaborated_of unit.now).bodies }
-    ensures { IfOk result (λ r. r ≡ spec.exports (elaborated_of unit.now)) }
+) -> Result<Vec<Export>, AllocError>
+    ensures { IfOk result (λ r. r.items ≡ shown.names (elaborated_of unit.now).unit (elaborated_of unit.now).reached occs.now (elaborated_of unit.now).heads entities.now) }
 {
     let kept = Kept::new(alloc, occs, unit.heads)?;
     let names = names(alloc, unit.sources, unit.reached, &kept, entities)?;
-    Ok(Exports {
-        names: Listing::from_vec(names),
-        tags,
-    })
+    Ok(names)
 }
 
-#[tactic(auto, unfolding(crate::specs::Meanings::meant))]
+// The entities of a unit, and the names among them that it shows.
+#[tactic(auto, unfolding(crate::specs::Meanings::exports))]
+fn declarations(
+    alloc: Global,
+    unit: &Elaborated<'_>,
+    occs: &[Occ],
+) -> Result<(Vec<Entity>, Vec<Export>), AllocError>
+    requires { occs.now ≡ denoted.in_items (elaborated_of unit.now).unit.items (elaborated_of unit.now).heads (elaborated_of unit.now).bodies }
+    ensures entities { IfOk result (λ r. r.0.items ≡ declared (elaborated_of unit.now).unit (elaborated_of unit.now).heads (elaborated_of unit.now).bodies) }
+    ensures names { IfOk result (λ r. r.1.items ≡ (spec.exports (elaborated_of unit.now)).names) }
+{
+    let entities = entities(
+        alloc,
+        unit.sources,
+        unit.sources.items(),
+        unit.heads,
+        unit.bodies,
+    )?;
+    let names = exported(alloc, unit, occs, &entities)?;
+    Ok((entities, names))
+}
+
+// The occurrences of a unit, its entities, and the names that it shows.
+#[tactic(auto, unfolding(crate::specs::Meanings::exports))]
+fn denotations(
+    alloc: Global,
+    unit: &Elaborated<'_>,
+) -> Result<(Vec<Occ>, Vec<Entity>, Vec<Export>), AllocError>
+    ensures occs { IfOk result (λ r. r.0.items ≡ denoted.of_unit (elaborated_of unit.now).unit (denoted.in_items (elaborated_of unit.now).unit.items (elaborated_of unit.now).heads (elaborated_of unit.now).bodies)) }
+    ensures entities { IfOk result (λ r. r.1.items ≡ declared (elaborated_of unit.now).unit (elaborated_of unit.now).heads (elaborated_of unit.now).bodies) }
+    ensures names { IfOk result (λ r. r.2.items ≡ (spec.exports (elaborated_of unit.now)).names) }
+{
+    let told = in_items(alloc, unit.sources.items(), unit.heads, unit.bodies)?;
+    let (entities, names) = declarations(alloc, unit, &told)?;
+    let occs = of_unit(alloc, unit.sources, &told)?;
+    Ok((occs, entities, names))
+}
+
+#[tactic(auto, unfolding(crate::specs::Meanings::meant, crate::specs::Meanings::exports))]
 fn meant(alloc: Global, unit: &Elaborated<'_>) -> Result<UnitMeaning, AllocError>
     ensures { IfOk result (λ m. m ≡ spec.meant (elaborated_of unit.now)) }
 {
-    let items = unit.sources.items();
+    let symbols = symbols(alloc, unit.sources, unit.heads)?;
     let tags = tags(alloc, unit.heads, unit.bodies)?;
     let faults = faults(alloc, unit, &tags)?;
-    let told = in_items(alloc, items, unit.heads, unit.bodies)?;
-    let occs = of_unit(alloc, unit.sources, &told)?;
-    let entities = entities(alloc, unit.sources, items, unit.heads, unit.bodies)?;
-    let symbols = symbols(alloc, unit.sources, unit.heads)?;
-    let exports = exports(alloc, unit, &told, &entities, tags)?;
+    let (occs, entities, names) = denotations(alloc, unit)?;
     Ok(UnitMeaning {
         faults: Listing::from_vec(faults),
         occs: Listing::from_vec(occs),
         entities: Listing::from_vec(entities),
         symbols: Listing::from_vec(symbols),
-        exports,
+        exports: Exports {
+            names: Listing::from_vec(names),
+            tags,
+        },
     })
 }
 

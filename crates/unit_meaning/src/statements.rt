@@ -118,6 +118,28 @@ pub(crate) fn first_stated(
     Ok(map)
 }
 
+/// For each name the tokens of the first statements of its definition, of a tentative one and of one that has a fault.
+pub(crate) fn all_first_stated(
+    alloc: Global,
+    heads: &[HeadMeaning],
+) -> Result<
+    (
+        HashMap<Name, TokId>,
+        HashMap<Name, TokId>,
+        HashMap<Name, TokId>,
+    ),
+    AllocError,
+>
+    ensures defined { IfOk result (λ r. (q : List ℕ) → at r.0 q ≡ spec.first_stated spec.defines q heads.now) }
+    ensures tentative { IfOk result (λ r. (q : List ℕ) → at r.1 q ≡ spec.first_stated spec.is_tentative q heads.now) }
+    ensures refused { IfOk result (λ r. (q : List ℕ) → at r.2 q ≡ spec.first_stated spec.is_refused q heads.now) }
+{
+    let defined = first_stated(alloc, Asked::Defined, heads)?;
+    let tentative = first_stated(alloc, Asked::Tentative, heads)?;
+    let refused = first_stated(alloc, Asked::Refused, heads)?;
+    Ok((defined, tentative, refused))
+}
+
 fn note_outside(
     alloc: Global,
     map: &mut HashMap<Name, TokId>,
