@@ -139,6 +139,7 @@ pub fn access(
     ensures { Comes (told_of around.now) (spec.access (context_of around.now) at name operand made.old) (λ j. j) result made.new }
 {
     let Ok(text) = name_at(alloc, around.tokens, name) else {
+        drop(operand);
         return Err(Halt::NoMemory);
     };
     let dot = is_dot(spelling(around.tokens, at));
@@ -147,7 +148,9 @@ pub fn access(
         form: member_form(dot, text),
     };
     let parts = [operand];
-    accessed(alloc, around, made, &operator, name, dot, &parts, &parts[0])
+    let done = accessed(alloc, around, made, &operator, name, dot, &parts, &parts[0]);
+    drop(operator);
+    done
 }
 
 fn place_type(filling: &Filling) -> Result<CType, AllocError>
@@ -172,7 +175,11 @@ pub fn designate_field(
 {
     let text = name_at(alloc, around.tokens, name)?;
     let piece = InitPiece::Field(text);
-    fill(alloc, made, filling, dot, &piece)?;
+    let Ok(()) = fill(alloc, made, filling, dot, &piece) else {
+        drop(piece);
+        return Err(AllocError);
+    };
+    drop(piece);
     let ty = place_type(filling)?;
     use_member(alloc, around, made, name, &ty)
 }
@@ -189,6 +196,9 @@ pub fn offset_field(
 {
     let member = member_of(alloc, &made.tags, spelling(around.tokens, name), ty)?;
     let found = type_of(member)?;
-    use_member(alloc, around, made, name, ty)?;
+    let Ok(()) = use_member(alloc, around, made, name, ty) else {
+        drop(found);
+        return Err(AllocError);
+    };
     Ok(found)
 }

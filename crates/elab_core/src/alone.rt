@@ -54,7 +54,8 @@ fn open(
 ) -> Result<(), AllocError>
     ensures { OnOk result (made.new ≡ spec.known (context_of around.now) kind at Nothing made.old) }
 {
-    new_tag(alloc, around, made, kind, at)?;
+    let typed = new_tag(alloc, around, made, kind, at)?;
+    drop(typed);
     Ok(())
 }
 
@@ -103,8 +104,14 @@ fn declare(
         Err(halt) => return Err(halt),
     };
     match know_found(alloc, around, made, kind, at, &entity) {
-        Ok(()) => Ok(()),
-        Err(_) => Err(Halt::NoMemory),
+        Ok(()) => {
+            drop(entity);
+            Ok(())
+        }
+        Err(_) => {
+            drop(entity);
+            Err(Halt::NoMemory)
+        }
     }
 }
 

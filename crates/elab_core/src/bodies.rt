@@ -43,8 +43,10 @@ pub(crate) fn aligned(
         Err(halt) => return Err(halt),
     };
     let Ok(()) = add_alignment(alloc, gathered, made, keyword, first_of(size), &value) else {
+        drop(value);
         return Err(Halt::NoMemory);
     };
+    drop(value);
     Ok(())
 }
 
@@ -89,11 +91,17 @@ pub(crate) fn structure(
     let mut fields = Fields::new(alloc, body.kind);
     match members(alloc, around, place, made, &mut fields, list) {
         Ok(()) => (),
-        Err(halt) => return Err(halt),
+        Err(halt) => {
+            drop(fields);
+            drop(body);
+            return Err(halt);
+        }
     }
     let Ok(()) = add_members(alloc, around, gathered, made, &body, fields) else {
+        drop(body);
         return Err(Halt::NoMemory);
     };
+    drop(body);
     Ok(())
 }
 
@@ -133,6 +141,7 @@ pub(crate) fn based(
         Err(halt) => return Err(halt),
     };
     let Ok(typed) = settled(alloc, made, specs_begin(specs), &gathered) else {
+        drop(gathered);
         return Err(Halt::NoMemory);
     };
     Ok((gathered, typed))
@@ -159,9 +168,14 @@ fn member(
             };
             match field(alloc, around, place, made, fields, at, &base, first) {
                 Ok(()) => (),
-                Err(halt) => return Err(halt),
+                Err(halt) => {
+                    drop(base);
+                    return Err(halt);
+                }
             }
-            other_fields(alloc, around, place, made, fields, at, &base, more)
+            let done = other_fields(alloc, around, place, made, fields, at, &base, more);
+            drop(base);
+            done
         }
         Member::Asserted(assertion) => asserted(alloc, around, place, made, assertion),
     }
@@ -182,7 +196,7 @@ fn bare(
         Ok(done) => done,
         Err(halt) => return Err(halt),
     };
-    add_bare(
+    let done = add_bare(
         alloc,
         around,
         made,
@@ -190,7 +204,9 @@ fn bare(
         &base.0,
         specs_begin(specs),
         &base.1,
-    )
+    );
+    drop(base);
+    done
 }
 
 #[cycle(judging)]
@@ -233,7 +249,10 @@ pub(crate) fn derived_by(
     };
     let steps = match declarator(alloc, around, place, made, next) {
         Ok(done) => done,
-        Err(halt) => return Err(halt),
+        Err(halt) => {
+            drop(base);
+            return Err(halt);
+        }
     };
     let own = place_behind(at, next);
     derived(alloc, around, made, own, false, steps, base)
@@ -260,7 +279,9 @@ fn field(
             };
             let begins = place_behind(at, inner);
             let name = name_of(inner);
-            add_member(alloc, around, made, fields, &base.0, begins, name, &own)
+            let done = add_member(alloc, around, made, fields, &base.0, begins, name, &own);
+            drop(own);
+            done
         }
         Field::Bits(inner, _, width) => {
             let own = match derived_by(alloc, around, place, made, at, &base.1, inner) {
@@ -269,14 +290,20 @@ fn field(
             };
             let value = match judged(alloc, around, place, made, width) {
                 Ok(done) => done,
-                Err(halt) => return Err(halt),
+                Err(halt) => {
+                    drop(own);
+                    return Err(halt);
+                }
             };
             let begins = place_behind(at, inner);
             let name = name_of(inner);
             let size = first_of(width);
-            add_bits(
+            let done = add_bits(
                 alloc, around, made, fields, &base.0, begins, name, &own, size, &value,
-            )
+            );
+            drop(value);
+            drop(own);
+            done
         }
         Field::Padding(colon, width) => {
             let value = match judged(alloc, around, place, made, width) {
@@ -284,9 +311,11 @@ fn field(
                 Err(halt) => return Err(halt),
             };
             let size = first_of(width);
-            add_bits(
+            let done = add_bits(
                 alloc, around, made, fields, &base.0, *colon, None, &base.1, size, &value,
-            )
+            );
+            drop(value);
+            done
         }
     }
 }
@@ -310,15 +339,25 @@ pub(crate) fn enumeration(
     let mut rows = Enumerators::new(alloc);
     match enumerator(alloc, around, place, made, &mut rows, &list.first) {
         Ok(()) => (),
-        Err(halt) => return Err(halt),
+        Err(halt) => {
+            drop(rows);
+            drop(body);
+            return Err(halt);
+        }
     }
     match enumerators(alloc, around, place, made, &mut rows, &list.more) {
         Ok(()) => (),
-        Err(halt) => return Err(halt),
+        Err(halt) => {
+            drop(rows);
+            drop(body);
+            return Err(halt);
+        }
     }
     let Ok(()) = add_enumerators(alloc, gathered, made, &body, rows) else {
+        drop(body);
         return Err(Halt::NoMemory);
     };
+    drop(body);
     Ok(())
 }
 
@@ -366,8 +405,10 @@ fn enumerator(
                 Err(halt) => return Err(halt),
             };
             let Ok(()) = give(alloc, around, made, rows, *at, first_of(value), &own) else {
+                drop(own);
                 return Err(Halt::NoMemory);
             };
+            drop(own);
             Ok(())
         }
     }
@@ -399,7 +440,9 @@ pub(crate) fn asserted(
         begins,
         &condition,
     ) else {
+        drop(condition);
         return Err(Halt::NoMemory);
     };
+    drop(condition);
     Ok(())
 }

@@ -94,7 +94,11 @@ pub fn express(
 {
     doubt(filling, is_bad(&judged.ty));
     let piece = item(text, judged);
-    fill(alloc, made, filling, at, &piece)?;
+    let Ok(()) = fill(alloc, made, filling, at, &piece) else {
+        drop(piece);
+        return Err(AllocError);
+    };
+    drop(piece);
     Ok(())
 }
 
@@ -128,7 +132,9 @@ fn index_value(alloc: Global, judged: &Judged) -> Result<Value, AllocError>
         return Ok(Value::Faulty(0));
     }
     let value = converted(alloc, judged)?;
-    Ok(index_of(value.constant))
+    let index = index_of(value.constant);
+    drop(value);
+    Ok(index)
 }
 
 #[tactic(auto, unfolding(crate::specs::Braced::on_value))]
@@ -192,7 +198,9 @@ pub fn designate(
     doubt(filling, is_bad(&index.ty));
     let value = index_value(alloc, index)?;
     let piece = InitPiece::Index(value);
-    fill_by(alloc, made, filling, opening, begins, &piece)
+    let done = fill_by(alloc, made, filling, opening, begins, &piece);
+    drop(piece);
+    done
 }
 
 fn whole_type(alloc: Global, filling: &Filling) -> Result<CType, AllocError>

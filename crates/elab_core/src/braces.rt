@@ -61,8 +61,10 @@ fn element(
         Err(halt) => return Err(halt),
     };
     let Ok(()) = designate(alloc, made, filling, opening, first_of(index), &value) else {
+        drop(value);
         return Err(Halt::NoMemory);
     };
+    drop(value);
     Ok(())
 }
 
@@ -278,13 +280,23 @@ pub(crate) fn completed(
             };
             let mut filling = match begun(alloc, around, made, &typed) {
                 Ok(done) => done,
-                Err(halt) => return Err(halt),
+                Err(halt) => {
+                    drop(typed);
+                    return Err(halt);
+                }
             };
             match braces(alloc, around, place, made, &mut filling, list) {
                 Ok(()) => (),
-                Err(halt) => return Err(halt),
+                Err(halt) => {
+                    drop(filling);
+                    drop(typed);
+                    return Err(halt);
+                }
             }
-            literal(alloc, around, made, *at, &typed, &filling)
+            let done = literal(alloc, around, made, *at, &typed, &filling);
+            drop(filling);
+            drop(typed);
+            done
         }
         Expr::Generic(at, _, control, list, _) => {
             let control = match judged(alloc, around, place, made, control) {
@@ -296,7 +308,10 @@ pub(crate) fn completed(
             };
             match associations(alloc, around, place, made, &mut choices, list) {
                 Ok(()) => (),
-                Err(halt) => return Err(halt),
+                Err(halt) => {
+                    drop(choices);
+                    return Err(halt);
+                }
             }
             select(alloc, around, made, *at, choices)
         }
@@ -307,11 +322,18 @@ pub(crate) fn completed(
             };
             let mut way = match way_from(alloc, around, made, &typed, *member) {
                 Ok(done) => done,
-                Err(halt) => return Err(halt),
+                Err(halt) => {
+                    drop(typed);
+                    return Err(halt);
+                }
             };
             match steps_to(alloc, around, place, made, &mut way, list) {
                 Ok(()) => (),
-                Err(halt) => return Err(halt),
+                Err(halt) => {
+                    drop(way);
+                    drop(typed);
+                    return Err(halt);
+                }
             }
             place_of_member(alloc, around, made, *at, typed, way)
         }

@@ -78,7 +78,10 @@ pub fn cast(
     };
     match warn(alloc, made, at, unevaluated) {
         Ok(()) => Ok(judged),
-        Err(_) => Err(Halt::NoMemory),
+        Err(_) => {
+            drop(judged);
+            Err(Halt::NoMemory)
+        }
     }
 }
 

@@ -171,7 +171,10 @@ fn fill(
     };
     match initial(alloc, around, EVALUATED, made, &mut filling, init) {
         Ok(()) => Ok(filling),
-        Err(halt) => Err(halt),
+        Err(halt) => {
+            drop(filling);
+            Err(halt)
+        }
     }
 }
 
@@ -186,11 +189,20 @@ fn initialize_by(
 {
     let filling = match fill(alloc, around, made, init, &entity) {
         Ok(filling) => filling,
-        Err(halt) => return Err(halt),
+        Err(halt) => {
+            drop(entity);
+            return Err(halt);
+        }
     };
     match end_init(alloc, made, entity, &filling) {
-        Ok(()) => Ok(()),
-        Err(_) => Err(Halt::NoMemory),
+        Ok(()) => {
+            drop(filling);
+            Ok(())
+        }
+        Err(_) => {
+            drop(filling);
+            Err(Halt::NoMemory)
+        }
     }
 }
 
@@ -205,7 +217,10 @@ fn initialize(
 {
     match init {
         Some(init) => initialize_by(alloc, around, made, init, entity),
-        None => Ok(()),
+        None => {
+            drop(entity);
+            Ok(())
+        }
     }
 }
 
@@ -222,6 +237,7 @@ fn end_declarator(
     ensures { Comes (told_of around.now) (spec.with_initial (context_of around.now) (option_map seen.initial_of init.now) decl.now walked.old entity made.old) (λ _. walked.new) result made.new }
 {
     let Ok(()) = add_declarator(around, walked, decl, &entity) else {
+        drop(entity);
         return Err(Halt::NoMemory);
     };
     match initialize(alloc, around, made, init, entity) {
@@ -324,12 +340,15 @@ fn declare_named(
     ensures { Comes (told_of around.now) (spec.named (context_of around.now) (seen.specs_of specs.now) gathered.now body (option_map seen.initial_of init.now) own typed walked.old made.old) (λ _. walked.new) result made.new }
 {
     let Some(at) = own else {
+        drop(typed);
         return Ok(());
     };
     let Ok(decl) = parts(alloc, around, made, gathered, body, init, at, typed) else {
         return Err(Halt::NoMemory);
     };
-    declare_as(alloc, around, made, walked, specs, gathered, init, &decl)
+    let done = declare_as(alloc, around, made, walked, specs, gathered, init, &decl);
+    drop(decl);
+    done
 }
 
 fn derive(
@@ -531,6 +550,7 @@ fn typed_in(in_for: bool, gathered: &Gathered, typed: Typed) -> Typed
     ensures { result ≡ spec.typed_in in_for gathered.now typed }
 {
     if in_for && (is_barred(gathered.storage) || gathered.thread_at.is_some()) {
+        drop(typed);
         return no_type();
     }
     typed

@@ -32,8 +32,14 @@ pub fn decl_parts(
 ) -> Result<DeclParts, AllocError>
     ensures { IfOk result (λ d. d ≡ spec.parts (context_of around.now) gathered.now at typed init body list scope) }
 {
-    let name = name_at(alloc, around.tokens, at)?;
-    let tok = own_token(around, at)?;
+    let Ok(name) = name_at(alloc, around.tokens, at) else {
+        drop(typed);
+        return Err(AllocError);
+    };
+    let Ok(tok) = own_token(around, at) else {
+        drop(typed);
+        return Err(AllocError);
+    };
     Ok(DeclParts {
         name,
         at,
@@ -165,7 +171,9 @@ fn look_at_result(
     let Ok(ty) = result_of(&decl.ty) else {
         return Err(Halt::NoMemory);
     };
-    look_at(alloc, around, made, &ty)
+    let done = look_at(alloc, around, made, &ty);
+    drop(ty);
+    done
 }
 
 fn look(alloc: Global, around: &Around<'_>, made: &mut Made, decl: &DeclParts) -> Result<(), Halt>
@@ -218,8 +226,14 @@ fn accept(
 ) -> Result<Option<Entity>, AllocError>
     ensures { IfOk result (λ e. (e, made.new) ≡ spec.accepted (context_of around.now) at role entity made.old) }
 {
-    let copy = entity.share(alloc)?;
-    declare_by(alloc, around, made, at, role, entity)?;
+    let Ok(copy) = entity.share(alloc) else {
+        drop(entity);
+        return Err(AllocError);
+    };
+    let Ok(()) = declare_by(alloc, around, made, at, role, entity) else {
+        drop(copy);
+        return Err(AllocError);
+    };
     Ok(Some(copy))
 }
 
@@ -400,7 +414,10 @@ fn with_type(entity: Entity, ty: CType) -> Entity
 fn restate(alloc: Global, made: &mut Made, entity: Entity) -> Result<(), AllocError>
     ensures { OnOk result (made.new ≡ spec.restated entity made.old) }
 {
-    bind_entity(alloc, made, &entity)?;
+    let Ok(()) = bind_entity(alloc, made, &entity) else {
+        drop(entity);
+        return Err(AllocError);
+    };
     made.entities.push(entity)?;
     Ok(())
 }
@@ -414,9 +431,13 @@ fn complete(
     ensures { OnOk result (made.new ≡ spec.sized entity filling.now made.old) }
 {
     if !is_open_array(&entity.ty) {
+        drop(entity);
         return Ok(());
     }
-    let ty = completed(alloc, &filling.state)?;
+    let Ok(ty) = completed(alloc, &filling.state) else {
+        drop(entity);
+        return Err(AllocError);
+    };
     restate(alloc, made, with_type(entity, ty))
 }
 

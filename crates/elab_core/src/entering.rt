@@ -55,7 +55,10 @@ fn enter_as(
 {
     match look(alloc, around, made, body, &typed) {
         Ok(()) => (),
-        Err(halt) => return Err(halt),
+        Err(halt) => {
+            drop(typed);
+            return Err(halt);
+        }
     }
     match know(alloc, around, made, body, gathered, at, own, typed) {
         Ok(typed) => Ok(typed),
@@ -81,6 +84,7 @@ pub fn enter(
     ensures { Comes (told_of around.now) (spec.entered (context_of around.now) body gathered.now alone at own quals typed made.old) (λ t. t) result made.new }
 {
     if alone && stands_for_none(gathered, own, &typed) {
+        drop(typed);
         return Ok(None);
     }
     let Ok(typed) = adjusted(alloc, quals, typed) else {

@@ -23,7 +23,9 @@ fn mark_earlier(
 {
     let name = name_at(alloc, around.tokens, at)?;
     let anchor = anchor_here(made, &name)?;
-    mark_if(around, made, at, Role::Defines, &anchor)
+    let done = mark_if(around, made, at, Role::Defines, &anchor);
+    drop(anchor);
+    done
 }
 
 fn denote(
@@ -52,8 +54,16 @@ fn enumerate(
     ensures { OnOk result ((list.new, made.new) ≡ spec.enumerated (context_of around.now) at value list.old made.old) }
 {
     let name = name_token(alloc, around, at)?;
-    let Enumerated { entity, fault } = list.add(alloc, &made.names, &name, value)?;
-    note_by_name(around, made, fault)?;
+    let Ok(enumerated) = list.add(alloc, &made.names, &name, value) else {
+        drop(name);
+        return Err(AllocError);
+    };
+    drop(name);
+    let Enumerated { entity, fault } = enumerated;
+    let Ok(()) = note_by_name(around, made, fault) else {
+        drop(entity);
+        return Err(AllocError);
+    };
     denote(alloc, around, made, at, entity)
 }
 

@@ -56,13 +56,19 @@ fn mark_earlier(
 {
     let file = item_file(alloc, &id.item)?;
     let tok = token(&file, id.at)?;
-    mark(around, made, at, &Anchor::Local(tok), Role::Defines)
+    let anchor = Anchor::Local(tok);
+    let done = mark(around, made, at, &anchor, Role::Defines);
+    drop(anchor);
+    done
 }
 
 fn define(around: &Around<'_>, made: &mut Made, at: u32, entity: Entity) -> Result<(), AllocError>
     ensures { OnOk result (made.new ≡ spec.defined (context_of around.now) at entity made.old) }
 {
-    mark(around, made, at, &entity.anchor, Role::Defines)?;
+    let Ok(()) = mark(around, made, at, &entity.anchor, Role::Defines) else {
+        drop(entity);
+        return Err(AllocError);
+    };
     made.entities.push(entity)?;
     Ok(())
 }
@@ -94,7 +100,10 @@ fn denote_if_named(
 {
     match own {
         Some(at) => denote(alloc, around, made, at, denotes),
-        None => Ok(()),
+        None => {
+            drop(denotes);
+            Ok(())
+        }
     }
 }
 
@@ -127,7 +136,10 @@ fn add(
     ensures { OnOk result ((fields.new, made.new) ≡ spec.fielded (context_of around.now) own parts.now fields.old made.old) }
 {
     let Fielded { denotes, fault } = fields.add(alloc, &made.tags, parts)?;
-    note(made, placed_if(around, fault))?;
+    let Ok(()) = note(made, placed_if(around, fault)) else {
+        drop(denotes);
+        return Err(AllocError);
+    };
     denote_if_named(alloc, around, made, own, denotes)
 }
 
@@ -164,7 +176,9 @@ fn add_with_type(
         Constant::Absent,
         flexible,
     )?;
-    add(alloc, around, made, fields, own, &parts)
+    let done = add(alloc, around, made, fields, own, &parts);
+    drop(parts);
+    done
 }
 
 /// A member that is no bit-field, of this type, whose name is the token `own`; its faults stand on the token `at` and are noted. What is
@@ -205,7 +219,9 @@ fn add_with_width(
     ensures { OnOk result ((fields.new, made.new) ≡ spec.with_width (context_of around.now) gathered.now at own typed.now width fields.old made.old) }
 {
     let parts = parts(alloc, around, gathered, at, own, typed, width, false)?;
-    add(alloc, around, made, fields, own, &parts)
+    let done = add(alloc, around, made, fields, own, &parts);
+    drop(parts);
+    done
 }
 
 fn add_judged(
@@ -311,7 +327,10 @@ fn withdraw(
     ensures { OnOk result (made.new ≡ spec.withdrawn (context_of around.now) fault made.old) }
 {
     let entity = withdrawn_entity(alloc, around, &fault)?;
-    made.faults.push(renumbered(around, fault))?;
+    let Ok(()) = made.faults.push(renumbered(around, fault)) else {
+        drop(entity);
+        return Err(AllocError);
+    };
     made.entities.push(entity)?;
     Ok(())
 }

@@ -38,7 +38,10 @@ pub(crate) fn chosen_by(alloc: Global, control: Judged) -> Result<Choices, Alloc
 fn add(choices: &mut Choices, association: Association, part: Judged) -> Result<(), AllocError>
     ensures { OnOk result (choices.new ≡ choosing.with_choice association part choices.old) }
 {
-    choices.associations.push(association)?;
+    let Ok(()) = choices.associations.push(association) else {
+        drop(part);
+        return Err(AllocError);
+    };
     choices.parts.push(part)?;
     Ok(())
 }
@@ -57,7 +60,10 @@ fn choice(
 {
     let part = match judged(alloc, around, place, made, part) {
         Ok(done) => done,
-        Err(halt) => return Err(halt),
+        Err(halt) => {
+            drop(association);
+            return Err(halt);
+        }
     };
     let Ok(()) = add(choices, association, part) else {
         return Err(Halt::NoMemory);

@@ -130,7 +130,10 @@ fn judged_from(
     };
     match judged(alloc, around, place, &mut made, expr) {
         Ok(judged) => Ok(Elab::Done(meaning_of(judged, made))),
-        Err(halt) => halted(alloc, halt),
+        Err(halt) => {
+            drop(made);
+            halted(alloc, halt)
+        }
     }
 }
 

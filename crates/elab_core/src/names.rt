@@ -86,10 +86,12 @@ fn used_row(
 ) -> Result<Judged, Halt>
     ensures { Comes (told_of around.now) (spec.used_row (context_of around.now) counted at entity made.old) (λ j. j) result made.new }
 {
-    let Ok(name) = name_at(alloc, around.tokens, at) else {
+    let Ok(()) = use_if_any(around, made, counted, at, &entity) else {
+        drop(entity);
         return Err(Halt::NoMemory);
     };
-    let Ok(()) = use_if_any(around, made, counted, at, &entity) else {
+    let Ok(name) = name_at(alloc, around.tokens, at) else {
+        drop(entity);
         return Err(Halt::NoMemory);
     };
     row(alloc, around, made, at, Form::Ident(name, entity), &[])

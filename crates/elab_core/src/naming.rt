@@ -123,7 +123,10 @@ fn specified(
     'specifiers: for next in list {
         match specifier(alloc, around, place, made, &mut gathered, next) {
             Ok(()) => (),
-            Err(halt) => return Err(halt),
+            Err(halt) => {
+                drop(gathered);
+                return Err(halt);
+            }
         }
     }
     Ok(gathered)
@@ -155,8 +158,16 @@ fn add_pointers(
     let mut steps = Stack::new(alloc);
     let mut rest = pointers;
     'pointers: while let Some((pointer, others)) = rest.split_first() {
-        let gathered = qualifiers(alloc, around, made, pointer.qualifiers.as_slice())?;
-        steps.push(pointer_step(&gathered))?;
+        let Ok(gathered) = qualifiers(alloc, around, made, pointer.qualifiers.as_slice()) else {
+            drop(steps);
+            return Err(AllocError);
+        };
+        let step = pointer_step(&gathered);
+        drop(gathered);
+        let Ok(()) = steps.push(step) else {
+            drop(steps);
+            return Err(AllocError);
+        };
         rest = others;
     }
     Ok(steps)
@@ -200,12 +211,20 @@ fn sized_array(
     };
     let size_judged = match judged(alloc, around, place, made, size) {
         Ok(done) => done,
-        Err(halt) => return Err(halt),
+        Err(halt) => {
+            drop(gathered);
+            return Err(halt);
+        }
     };
     let Ok(extent) = sized(alloc, made, opening, first_of(size), &size_judged) else {
+        drop(size_judged);
+        drop(gathered);
         return Err(Halt::NoMemory);
     };
-    Ok(array_step(opening, &gathered, marked, extent))
+    drop(size_judged);
+    let step = array_step(opening, &gathered, marked, extent);
+    drop(gathered);
+    Ok(step)
 }
 
 #[cycle(judging)]
@@ -224,12 +243,14 @@ fn bound(
             let Ok(gathered) = qualifiers(alloc, around, made, words.as_slice()) else {
                 return Err(Halt::NoMemory);
             };
-            Ok(array_step(
+            let step = array_step(
                 opening,
                 &gathered,
                 are_some(words.as_slice()),
                 Some(Extent::None),
-            ))
+            );
+            drop(gathered);
+            Ok(step)
         }
         Bound::AnySize(_, _) => {
             let Ok(()) = leave_variable(alloc, made, opening) else {
@@ -276,23 +297,33 @@ fn entry(
         Err(halt) => return Err(halt),
     };
     let Ok(base) = settled(alloc, made, specs_begin(&name.specs), &gathered) else {
+        drop(gathered);
         return Err(Halt::NoMemory);
     };
     let steps = match declarator(alloc, around, within, made, &name.declarator) {
         Ok(done) => done,
-        Err(halt) => return Err(halt),
+        Err(halt) => {
+            drop(base);
+            drop(gathered);
+            return Err(halt);
+        }
     };
     let at = place_of(&name.specs, &name.declarator);
     let own = name_of(&name.declarator);
     let quals = quals_of(&steps);
     let typed = match derived(alloc, around, made, at, true, steps, base) {
         Ok(done) => done,
-        Err(halt) => return Err(halt),
+        Err(halt) => {
+            drop(gathered);
+            return Err(halt);
+        }
     };
     let body = place.defining;
-    enter(
+    let done = enter(
         alloc, around, made, body, &gathered, alone, at, own, quals, typed,
-    )
+    );
+    drop(gathered);
+    done
 }
 
 fn one(alloc: Global, typed: Option<Typed>) -> Result<Stack<Option<Typed>>, AllocError>
@@ -583,11 +614,16 @@ pub(crate) fn type_name(
         Err(halt) => return Err(halt),
     };
     let Ok(base) = settled(alloc, made, specs_begin(&name.specs), &gathered) else {
+        drop(gathered);
         return Err(Halt::NoMemory);
     };
+    drop(gathered);
     let steps = match declarator(alloc, around, place, made, &name.declarator) {
         Ok(done) => done,
-        Err(halt) => return Err(halt),
+        Err(halt) => {
+            drop(base);
+            return Err(halt);
+        }
     };
     let at = place_of(&name.specs, &name.declarator);
     derived(alloc, around, made, at, false, steps, base)

@@ -108,8 +108,10 @@ fn index(
         Err(halt) => return Err(halt),
     };
     let Ok(()) = by_index(alloc, made, way, first_of(inner), &value) else {
+        drop(value);
         return Err(Halt::NoMemory);
     };
+    drop(value);
     Ok(())
 }
 
@@ -185,7 +187,10 @@ pub(crate) fn place_of_member(
             let form = Form::OffsetOf(typed.ty, list.into_listing());
             row(alloc, around, made, at, form, &[])
         }
-        None => Ok(bad()),
+        None => {
+            drop(typed);
+            Ok(bad())
+        }
     }
 }
 
@@ -207,6 +212,7 @@ pub(crate) fn way_from(
         return Err(Halt::NoMemory);
     };
     let Ok(()) = by_name(alloc, around, made, &mut way, member) else {
+        drop(way);
         return Err(Halt::NoMemory);
     };
     Ok(way)

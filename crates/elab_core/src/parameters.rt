@@ -67,19 +67,32 @@ pub fn quals_of(steps: &Stack<Step>) -> Qual
     }
 }
 
+fn pointer_to(alloc: Global, of: &CType, qual: Qual) -> Result<CType, AllocError>
+    ensures { IfOk result (λ t. t ≡ types_of.Pointer_to of.now qual) }
+{
+    let of = of.share()?;
+    CType::pointer(alloc, of, qual)
+}
+
 /// The type of a parameter after its adjustment (p7, p8), with these qualifiers in its outermost brackets.
 pub fn adjusted(alloc: Global, quals: Qual, typed: Typed) -> Result<Typed, AllocError>
     ensures { IfOk result (λ t. t ≡ spec.adjusted quals typed) }
 {
     match typed.ty.node() {
         Node::Array(of, own, _) => {
-            let of = of.share()?;
-            let ty = CType::pointer(alloc, of, *own)?;
+            let Ok(ty) = pointer_to(alloc, of, *own) else {
+                drop(typed);
+                return Err(AllocError);
+            };
+            drop(typed);
             Ok(Typed { ty, qual: quals })
         }
         Node::Function(_, _, _) => {
-            let function = typed.ty.share()?;
-            let ty = CType::pointer(alloc, function, UNQUALIFIED)?;
+            let Ok(ty) = pointer_to(alloc, &typed.ty, UNQUALIFIED) else {
+                drop(typed);
+                return Err(AllocError);
+            };
+            drop(typed);
             Ok(Typed {
                 ty,
                 qual: UNQUALIFIED,
@@ -114,8 +127,14 @@ fn parts(
 ) -> Result<DeclParts, AllocError>
     ensures { IfOk result (λ d. d ≡ spec.parts (context_of around.now) body gathered.now at own typed) }
 {
-    let name = own_name(alloc, around, own)?;
-    let tok = own_token(around, at)?;
+    let Ok(name) = own_name(alloc, around, own) else {
+        drop(typed);
+        return Err(AllocError);
+    };
+    let Ok(tok) = own_token(around, at) else {
+        drop(typed);
+        return Err(AllocError);
+    };
     Ok(DeclParts {
         name,
         at,
@@ -213,8 +232,14 @@ pub(crate) fn declare_by(
 ) -> Result<(), AllocError>
     ensures { OnOk result (made.new ≡ spec.declared_by (context_of around.now) at role entity made.old) }
 {
-    mark(around, made, at, &entity.anchor, role)?;
-    bind_entity(alloc, made, &entity)?;
+    let Ok(()) = mark(around, made, at, &entity.anchor, role) else {
+        drop(entity);
+        return Err(AllocError);
+    };
+    let Ok(()) = bind_entity(alloc, made, &entity) else {
+        drop(entity);
+        return Err(AllocError);
+    };
     made.entities.push(entity)?;
     Ok(())
 }
@@ -231,7 +256,10 @@ fn declare_if_named(
 {
     match own {
         Some(at) => declare_by(alloc, around, made, at, role, entity),
-        None => Ok(()),
+        None => {
+            drop(entity);
+            Ok(())
+        }
     }
 }
 
@@ -288,7 +316,9 @@ fn declare_without_type(
     ensures { OnOk result (made.new ≡ spec.declared_without_type (context_of around.now) role decl.now at made.old) }
 {
     let decl = without_type(decl)?;
-    declare_if_sound(alloc, around, made, at, role, &decl)
+    let done = declare_if_sound(alloc, around, made, at, role, &decl);
+    drop(decl);
+    done
 }
 
 pub(crate) fn anchor_here(made: &Made, name: &Name) -> Result<Option<Anchor>, AllocError>
@@ -350,7 +380,10 @@ fn accepted(
 ) -> Result<Typed, AllocError>
     ensures { IfOk result (λ t. (t, made.new) ≡ spec.accepted (context_of around.now) role own qual entity made.old) }
 {
-    let ty = entity.ty.share()?;
+    let Ok(ty) = entity.ty.share() else {
+        drop(entity);
+        return Err(AllocError);
+    };
     declare_if_named(alloc, around, made, own, role, entity)?;
     Ok(Typed { ty, qual })
 }
@@ -391,7 +424,9 @@ pub fn parameter_of(
     ensures { IfOk result (λ t. (t, made.new) ≡ spec.parameter_of (context_of around.now) body gathered.now at own typed made.old) }
 {
     let decl = parts(alloc, around, body, gathered, at, own, typed)?;
-    declare_parameter(alloc, around, made, gathered, own, role_in(body), &decl)
+    let done = declare_parameter(alloc, around, made, gathered, own, role_in(body), &decl);
+    drop(decl);
+    done
 }
 
 /// Likewise out of a function definition.
@@ -413,6 +448,8 @@ fn sound(alloc: Global, typed: Typed, list: Params) -> Result<Option<Params>, Al
     ensures { IfOk result (λ ps. ps ≡ spec.sound typed list) }
 {
     if is_bad(&typed.ty) {
+        drop(typed);
+        drop(list);
         return Ok(None);
     }
     let list = Params::first(alloc, typed.ty, typed.qual, list)?;
@@ -431,7 +468,10 @@ fn in_front(
     };
     match list {
         Some(list) => sound(alloc, typed, list),
-        None => Ok(None),
+        None => {
+            drop(typed);
+            Ok(None)
+        }
     }
 }
 

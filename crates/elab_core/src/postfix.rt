@@ -37,7 +37,10 @@ fn operand(
 {
     let right = match judged(alloc, around, place, made, right) {
         Ok(done) => done,
-        Err(halt) => return Err(halt),
+        Err(halt) => {
+            drop(left);
+            return Err(halt);
+        }
     };
     operator_row(alloc, around, made, at, left, right)
 }
@@ -82,7 +85,10 @@ pub(crate) fn operands(
 fn two(alloc: Global, first: Judged, second: Judged) -> Result<Grown<Judged>, AllocError>
     ensures { IfOk result (λ parts. parts ≡ first ∷ second ∷ []) }
 {
-    let mut parts = Grown::of(alloc, first)?;
+    let Ok(mut parts) = Grown::of(alloc, first) else {
+        drop(second);
+        return Err(AllocError);
+    };
     parts.push(second)?;
     Ok(parts)
 }
@@ -100,7 +106,10 @@ fn first_argument(
 {
     let part = match judged(alloc, around, place, made, part) {
         Ok(done) => done,
-        Err(halt) => return Err(halt),
+        Err(halt) => {
+            drop(function);
+            return Err(halt);
+        }
     };
     let Ok(parts) = two(alloc, function, part) else {
         return Err(Halt::NoMemory);
@@ -175,7 +184,10 @@ fn index(
 {
     let inner = match judged(alloc, around, place, made, inner) {
         Ok(done) => done,
-        Err(halt) => return Err(halt),
+        Err(halt) => {
+            drop(array);
+            return Err(halt);
+        }
     };
     index_row(alloc, around, made, at, array, inner)
 }

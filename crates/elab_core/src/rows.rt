@@ -70,5 +70,7 @@ pub fn row(
     ensures { Comes (told_of around.now) (spec.row (context_of around.now) at form parts.now made.old) (λ j. j) result made.new }
 {
     let operator = Operator { at, form };
-    row_of(alloc, around, made, &operator, parts)
+    let done = row_of(alloc, around, made, &operator, parts);
+    drop(operator);
+    done
 }

@@ -87,6 +87,7 @@ fn add_type(gathered: &mut Gathered, typed: Typed)
     ensures { gathered.new ≡ spec.with_other_type gathered.old.other typed gathered.old }
 {
     if gathered.other.is_some() {
+        drop(typed);
         gathered.clashes = true;
         return;
     }
@@ -446,7 +447,11 @@ fn with_quals(alloc: Global, qual: Qual, typed: Typed) -> Result<Typed, AllocErr
     ensures { IfOk result (λ t. t ≡ spec.with_quals qual typed) }
 {
     let own = own_quals(&typed.ty, both_quals(typed.qual, qual));
-    let ty = qualified(alloc, &typed.ty, qual)?;
+    let Ok(ty) = qualified(alloc, &typed.ty, qual) else {
+        drop(typed);
+        return Err(AllocError);
+    };
+    drop(typed);
     Ok(Typed { ty, qual: own })
 }
 

@@ -28,13 +28,16 @@ pub fn qualifiers(
     let mut gathered = nothing();
     let mut rest = words;
     'words: while let Some((word, others)) = rest.split_first() {
-        add_word(
+        let Ok(()) = add_word(
             alloc,
             &mut gathered,
             made,
             word_of(spelling(around.tokens, *word)),
             *word,
-        )?;
+        ) else {
+            drop(gathered);
+            return Err(AllocError);
+        };
         rest = others;
     }
     Ok(gathered)
@@ -163,8 +166,11 @@ pub fn sized(
     }
     let value = converted(alloc, size)?;
     if integer_type(&value.ty).is_some() {
-        return of_constancy(alloc, made, at, begins, value.constant);
+        let constant = value.constant;
+        drop(value);
+        return of_constancy(alloc, made, at, begins, constant);
     }
+    drop(value);
     bad_size(alloc, made, at)
 }
 
@@ -216,7 +222,11 @@ fn element_type(
 ) -> Result<Typed, AllocError>
     ensures { IfOk result (λ t. (t, made.new) ≡ spec.element_type at extent typed made.old) }
 {
-    if may_be_element(alloc, &made.tags, &typed.ty)? {
+    let Ok(fits) = may_be_element(alloc, &made.tags, &typed.ty) else {
+        drop(typed);
+        return Err(AllocError);
+    };
+    if fits {
         let ty = CType::array(alloc, typed.ty, typed.qual, extent)?;
         return Ok(Typed {
             ty,
@@ -291,7 +301,10 @@ fn arrayed(
 {
     match look_at_element(alloc, around, made, &typed.ty) {
         Ok(()) => (),
-        Err(halt) => return Err(halt),
+        Err(halt) => {
+            drop(typed);
+            return Err(halt);
+        }
     }
     match element_type(alloc, made, at, extent, typed) {
         Ok(typed) => Ok(typed),
@@ -374,6 +387,8 @@ fn unmarked_step(
     ensures { Comes (told_of around.now) (spec.unmarked_step (context_of around.now) at step typed made.old) (λ t. t) result made.new }
 {
     if is_bad(&typed.ty) {
+        drop(typed);
+        drop(step);
         return Ok(no_type());
     }
     sound_step(alloc, around, made, at, step, typed)
@@ -408,10 +423,14 @@ fn one_step(
     ensures { Comes (told_of around.now) (spec.one_step (context_of around.now) at outermost step typed made.old) (λ t. t) result made.new }
 {
     match misplaced(&step, outermost) {
-        Some(opening) => match made.faults.push(fault_at(alloc, 420, opening)) {
-            Ok(()) => Ok(no_type()),
-            Err(_) => Err(Halt::NoMemory),
-        },
+        Some(opening) => {
+            drop(typed);
+            drop(step);
+            match made.faults.push(fault_at(alloc, 420, opening)) {
+                Ok(()) => Ok(no_type()),
+                Err(_) => Err(Halt::NoMemory),
+            }
+        }
         None => unmarked_step(alloc, around, made, at, step, typed),
     }
 }

@@ -147,10 +147,13 @@ fn new_body(
 ) -> Result<OpenBody, AllocError>
     ensures { IfOk result (λ o. (o, made.new) ≡ spec.new_body (context_of around.now) kind at made.old) }
 {
-    let entity = tag_entity(alloc, around, kind, at)?;
     let id = own_tag(around, at)?;
     let name = name_at(alloc, around.tokens, at)?;
-    open_new_tag(alloc, around, made, kind, at, &entity)?;
+    let entity = tag_entity(alloc, around, kind, at)?;
+    let Ok(()) = open_new_tag(alloc, around, made, kind, at, &entity) else {
+        drop(entity);
+        return Err(AllocError);
+    };
     Ok(OpenBody {
         kind,
         id,
@@ -194,8 +197,14 @@ fn again(
 ) -> Result<OpenBody, AllocError>
     ensures { IfOk result (λ o. (o, made.new) ≡ spec.again (context_of around.now) kind at id entity made.old) }
 {
-    let name = name_at(alloc, around.tokens, at)?;
-    mark_again(around, made, at, &entity)?;
+    let Ok(()) = mark_again(around, made, at, &entity) else {
+        drop(entity);
+        return Err(AllocError);
+    };
+    let Ok(name) = name_at(alloc, around.tokens, at) else {
+        drop(entity);
+        return Err(AllocError);
+    };
     Ok(OpenBody {
         kind,
         id,
@@ -208,13 +217,13 @@ fn note_refused(
     around: &Around<'_>,
     made: &mut Made,
     at: u32,
-    anchor: &Option<Anchor>,
+    entity: &Option<Entity>,
     fault: Fault,
 ) -> Result<(), AllocError>
-    ensures { OnOk result (made.new ≡ spec.noted_refused (context_of around.now) at anchor.now fault made.old) }
+    ensures { OnOk result (made.new ≡ spec.noted_refused (context_of around.now) at (Parameters.anchor_of entity.now) fault made.old) }
 {
     made.faults.push(renumbered(around, fault))?;
-    mark_if(around, made, at, Role::Defines, anchor)
+    mark_again(around, made, at, entity)
 }
 
 fn refuse(
@@ -228,11 +237,10 @@ fn refuse(
 ) -> Result<OpenBody, AllocError>
     ensures { IfOk result (λ o. (o, made.new) ≡ spec.refused (context_of around.now) kind at entity.now fault made.old) }
 {
+    note_refused(around, made, at, entity, fault)?;
     let name = name_at(alloc, around.tokens, at)?;
-    let id = own_tag(around, at)?;
-    let anchor = anchor_of(entity)?;
-    note_refused(around, made, at, &anchor, fault)?;
     know_tag(around, made, kind, at, &name)?;
+    let id = own_tag(around, at)?;
     Ok(OpenBody {
         kind,
         id,
@@ -253,9 +261,16 @@ fn by_row(
     ensures { IfOk result (λ o. (o, made.new) ≡ spec.by_row (context_of around.now) kind at entity begun made.old) }
 {
     match begun {
-        Begun::New => new_body(alloc, around, made, kind, at),
+        Begun::New => {
+            drop(entity);
+            new_body(alloc, around, made, kind, at)
+        }
         Begun::Again(id) => again(alloc, around, made, kind, at, id, entity),
-        Begun::Refused(fault) => refuse(alloc, around, made, kind, at, &entity, fault),
+        Begun::Refused(fault) => {
+            let done = refuse(alloc, around, made, kind, at, &entity, fault);
+            drop(entity);
+            done
+        }
     }
 }
 
@@ -301,7 +316,10 @@ fn begin_by(
 ) -> Result<OpenBody, AllocError>
     ensures { IfOk result (λ o. (o, made.new) ≡ spec.begun_by (context_of around.now) kind at entity made.old) }
 {
-    let begun = row(alloc, around, made, kind, at, &entity)?;
+    let Ok(begun) = row(alloc, around, made, kind, at, &entity) else {
+        drop(entity);
+        return Err(AllocError);
+    };
     by_row(alloc, around, made, kind, at, entity, begun)
 }
 
@@ -316,7 +334,10 @@ fn begin_as(
     ensures { IfOk result (λ o. (o, made.new) ≡ spec.begun_as (context_of around.now) kind at entity made.old) }
 {
     let body = begin_by(alloc, around, made, kind, at, entity)?;
-    stand(made, &body.id)?;
+    let Ok(()) = stand(made, &body.id) else {
+        drop(body);
+        return Err(AllocError);
+    };
     Ok(body)
 }
 
@@ -332,7 +353,10 @@ fn begin_tested(
 {
     match test(alloc, around, made, kind, &entity) {
         Ok(()) => (),
-        Err(halt) => return Err(halt),
+        Err(halt) => {
+            drop(entity);
+            return Err(halt);
+        }
     }
     match begin_as(alloc, around, made, kind, at, entity) {
         Ok(open) => Ok(open),
@@ -378,8 +402,8 @@ fn nameless(
 {
     let name = Name::from_str(alloc, "")?;
     let id = own_tag(around, at)?;
-    let ty = of_kind(kind, own_tag(around, at)?);
     let tok = own_token(around, at)?;
+    let ty = of_kind(kind, own_tag(around, at)?);
     Ok(Entity {
         name,
         kind: EntityKind::Tag(id, nameless_info(kind)),
@@ -414,9 +438,9 @@ fn nameless_body(
 ) -> Result<OpenBody, AllocError>
     ensures { IfOk result (λ o. (o, made.new) ≡ spec.nameless_body (context_of around.now) kind at made.old) }
 {
-    let entity = nameless(alloc, around, kind, at)?;
-    let id = own_tag(around, at)?;
     know_nameless(around, made, kind, at)?;
+    let id = own_tag(around, at)?;
+    let entity = nameless(alloc, around, kind, at)?;
     Ok(OpenBody {
         kind,
         id,
@@ -436,7 +460,10 @@ fn begin_nameless(
     ensures { IfOk result (λ o. (o, made.new) ≡ spec.begun_nameless (context_of around.now) kind at made.old) }
 {
     let body = nameless_body(alloc, around, made, kind, at)?;
-    stand(made, &body.id)?;
+    let Ok(()) = stand(made, &body.id) else {
+        drop(body);
+        return Err(AllocError);
+    };
     Ok(body)
 }
 
@@ -479,8 +506,15 @@ fn completed_entity(
 {
     let name = entity.name.share()?;
     let ty = entity.ty.share()?;
-    let anchor = entity.anchor.share()?;
-    let kind = kind_of(alloc, id, info)?;
+    let Ok(anchor) = entity.anchor.share() else {
+        drop(ty);
+        return Err(AllocError);
+    };
+    let Ok(kind) = kind_of(alloc, id, info) else {
+        drop(anchor);
+        drop(ty);
+        return Err(AllocError);
+    };
     Ok(Entity {
         name,
         kind,
@@ -505,7 +539,10 @@ fn bind_if(alloc: Global, made: &mut Made, named: bool, entity: &Entity) -> Resu
 fn know(alloc: Global, made: &mut Made, named: bool, entity: Entity) -> Result<(), AllocError>
     ensures { OnOk result (made.new ≡ spec.known named entity made.old) }
 {
-    bind_if(alloc, made, named, &entity)?;
+    let Ok(()) = bind_if(alloc, made, named, &entity) else {
+        drop(entity);
+        return Err(AllocError);
+    };
     made.entities.push(entity)?;
     Ok(())
 }

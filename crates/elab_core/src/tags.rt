@@ -63,7 +63,10 @@ fn typedef_found(
     match entity {
         Some(entity) => {
             let typed = named_type(entity)?;
-            use_entity(around, made, counted, at, entity)?;
+            let Ok(()) = use_entity(around, made, counted, at, entity) else {
+                drop(typed);
+                return Err(AllocError);
+            };
             Ok(typed)
         }
         None => Ok(None),
@@ -85,8 +88,14 @@ pub fn typedef_name(
         Err(halt) => return Err(halt),
     };
     match typedef_found(around, made, counted, at, &entity) {
-        Ok(typed) => Ok(typed),
-        Err(_) => Err(Halt::NoMemory),
+        Ok(typed) => {
+            drop(entity);
+            Ok(typed)
+        }
+        Err(_) => {
+            drop(entity);
+            Err(Halt::NoMemory)
+        }
     }
 }
 
@@ -143,10 +152,10 @@ pub(crate) fn tag_entity(
     ensures { IfOk result (λ e. e ≡ spec.tag_entity (context_of around.now) kind at) }
 {
     let name = name_at(alloc, around.tokens, at)?;
-    let id = own_tag(around, at)?;
-    let ty = of_kind(kind, own_tag(around, at)?);
-    let info = unknown_info(kind, &name)?;
     let tok = own_token(around, at)?;
+    let id = own_tag(around, at)?;
+    let info = unknown_info(kind, &name)?;
+    let ty = of_kind(kind, own_tag(around, at)?);
     Ok(Entity {
         name,
         kind: EntityKind::Tag(id, info),
@@ -200,9 +209,18 @@ fn declare_tag(
 ) -> Result<(), AllocError>
     ensures { OnOk result (made.new ≡ spec.declared_tag (context_of around.now) kind at entity made.old) }
 {
-    mark(around, made, at, &entity.anchor, Role::Declares)?;
-    bind_tag(alloc, made, &entity)?;
-    know_tag(around, made, kind, at, &entity.name)?;
+    let Ok(()) = mark(around, made, at, &entity.anchor, Role::Declares) else {
+        drop(entity);
+        return Err(AllocError);
+    };
+    let Ok(()) = bind_tag(alloc, made, &entity) else {
+        drop(entity);
+        return Err(AllocError);
+    };
+    let Ok(()) = know_tag(around, made, kind, at, &entity.name) else {
+        drop(entity);
+        return Err(AllocError);
+    };
     made.entities.push(entity)?;
     Ok(())
 }
@@ -216,8 +234,8 @@ pub(crate) fn new_tag(
 ) -> Result<Option<Typed>, AllocError>
     ensures { IfOk result (λ t. (t, made.new) ≡ spec.new_tag (context_of around.now) kind at made.old) }
 {
-    let entity = tag_entity(alloc, around, kind, at)?;
     let id = own_tag(around, at)?;
+    let entity = tag_entity(alloc, around, kind, at)?;
     declare_tag(alloc, around, made, kind, at, entity)?;
     Ok(Some(typed(of_kind(kind, id))))
 }

@@ -231,7 +231,10 @@ fn choice_waits(
     };
     let middle = match judged(alloc, around, place, made, &choice.middle) {
         Ok(done) => done,
-        Err(halt) => return Err(halt),
+        Err(halt) => {
+            drop(test);
+            return Err(halt);
+        }
     };
     let Ok(()) = waiting.push(Waiting::Choice(choice.question, test, middle)) else {
         return Err(Halt::NoMemory);

@@ -422,14 +422,14 @@ braces::completed-returns-in-Err-braces t c =
 
 pub braces::completed-returns-in-Ok-braces : goal.braces::completed-returns-in-Ok-braces
 braces::completed-returns-in-Ok-braces t c =
-    comes_as (told_of c.args.around.now) (spec.judge (context_of c.args.around.now) c.args.place (seen.tree_of c.args.expr.now) c.args.made.now) (literals.literal (context_of c.args.around.now) c.in-Compound.at c.in-Ok.done c.braces.new.filling c.braces.new.made) (λ j. j) c.literal.result c.literal.new.made
+    comes_as (told_of c.args.around.now) (spec.judge (context_of c.args.around.now) c.args.place (seen.tree_of c.args.expr.now) c.args.made.now) (literals.literal (context_of c.args.around.now) c.in-Compound.at c.in-Ok.done c.braces.new.filling c.braces.new.made) (λ j. j) c.literal-done.result c.literal-done.new.made
     (ap (λ x. run_by (answered (told_of c.args.around.now)) (spec.judge (context_of c.args.around.now) c.args.place x c.args.made.now)) (layers.expr_compound c.args.expr.now c.in-Compound.at c.in-Compound.name c.in-Compound.field-2 c.in-Compound.list c.in-Compound.is)
     ∙ ap (λ e. run_by (answered (told_of c.args.around.now)) (spec.judge (context_of c.args.around.now) c.args.place (trees.Compound_of c.in-Compound.at (seen.type_of e) c.in-Compound.field-2 (seen.braces_of c.in-Compound.list.value)) c.args.made.now)) (sym c.deref.ensures)
     ∙ ap (λ e. run_by (answered (told_of c.args.around.now)) (spec.judge (context_of c.args.around.now) c.args.place (trees.Compound_of c.in-Compound.at (seen.type_of c.deref.result.now) c.in-Compound.field-2 (seen.braces_of e)) c.args.made.now)) (sym c.deref-in-Compound.ensures)
     ∙ on (answered (told_of c.args.around.now)) (spec.type_name (context_of c.args.around.now) c.args.place (seen.type_of c.deref.result.now) c.args.made.now) (λ x now. follow (literals.begun (context_of c.args.around.now) x now) (λ f next. follow (spec.braces (context_of c.args.around.now) c.args.place (seen.braces_of c.deref-in-Compound.result.now) f next) (λ g. literals.literal (context_of c.args.around.now) c.in-Compound.at x g))) (c.in-Ok.done) (c.type_name.new.made) c.in-Ok.ensures
     ∙ on (answered (told_of c.args.around.now)) (literals.begun (context_of c.args.around.now) c.in-Ok.done c.type_name.new.made) (λ x now. follow (spec.braces (context_of c.args.around.now) c.args.place (seen.braces_of c.deref-in-Compound.result.now) x now) (λ g. literals.literal (context_of c.args.around.now) c.in-Compound.at c.in-Ok.done g)) (c.in-Ok-begun.done) (c.begun.new.made) c.in-Ok-begun.ensures
     ∙ on (answered (told_of c.args.around.now)) (spec.braces (context_of c.args.around.now) c.args.place (seen.braces_of c.deref-in-Compound.result.now) c.in-Ok-begun.done c.begun.new.made) (λ x now. literals.literal (context_of c.args.around.now) c.in-Compound.at c.in-Ok.done x now) (c.braces.new.filling) (c.braces.new.made) c.in-Ok-braces.ensures)
-    c.literal.ensures
+    c.literal-done.ensures
 
 pub braces::completed-returns-in-Err-judged : goal.braces::completed-returns-in-Err-judged
 braces::completed-returns-in-Err-judged t c =
@@ -583,7 +583,7 @@ pub naming::sized_array-returns : goal.naming::sized_array-returns
 naming::sized_array-returns t c =
     let is0 : (c.in-Ok.gathered, c.qualifiers.new.made) ≡ steps.qualifiers (context_of c.args.around.now) c.args.words.now.items c.args.made.now = search rules in
     let is2 : (c.in-Ok-sized.extent, c.sized.new.made) ≡ steps.sized c.args.opening (ends.first_of (seen.tree_of c.args.size.now)) c.in-Ok-judged.done c.judged.new.made = search rules in
-    let last : c.array_step.result ≡ steps.array_step c.args.opening c.in-Ok.gathered c.args.marked c.in-Ok-sized.extent = search rules in
+    let last : c.array_step-step.result ≡ steps.array_step c.args.opening c.in-Ok.gathered c.args.marked c.in-Ok-sized.extent = search rules in
     ap (λ p. run_by (answered (told_of c.args.around.now)) (follow (spec.judge (context_of c.args.around.now) c.args.place (seen.tree_of c.args.size.now) p.1) (λ j next. follow (Gives (steps.sized c.args.opening (ends.first_of (seen.tree_of c.args.size.now)) j next)) (λ n. gives (steps.array_step c.args.opening p.0 c.args.marked n))))) (sym is0)
     ∙ on (answered (told_of c.args.around.now)) (spec.judge (context_of c.args.around.now) c.args.place (seen.tree_of c.args.size.now) c.qualifiers.new.made) (λ x now. follow (Gives (steps.sized c.args.opening (ends.first_of (seen.tree_of c.args.size.now)) x now)) (λ n. gives (steps.array_step c.args.opening c.in-Ok.gathered c.args.marked n))) (c.in-Ok-judged.done) (c.judged.new.made) c.in-Ok-judged.ensures
     ∙ ap (λ p. run_by (answered (told_of c.args.around.now)) (gives (steps.array_step c.args.opening c.in-Ok.gathered c.args.marked p.0) p.1)) (sym is2)
@@ -752,7 +752,7 @@ naming::atomic-returns t c =
 pub naming::bound-returns-in-Ok : goal.naming::bound-returns-in-Ok
 naming::bound-returns-in-Ok t c =
     let is0 : (c.in-Ok.gathered, c.qualifiers.new.made) ≡ steps.qualifiers (context_of c.args.around.now) c.in-Unsized.words.items c.args.made.now = search rules in
-    let last : c.array_step.result ≡ steps.array_step c.args.opening c.in-Ok.gathered (steps.is_some_of c.in-Unsized.words.items) (Some extent.None) = search rules in
+    let last : c.array_step-step.result ≡ steps.array_step c.args.opening c.in-Ok.gathered (steps.is_some_of c.in-Unsized.words.items) (Some extent.None) = search rules in
     ap (λ x. run_by (answered (told_of c.args.around.now)) (spec.bound (context_of c.args.around.now) c.args.place c.args.opening x c.args.made.now)) (layers.bound_unsized c.args.bound.now c.in-Unsized.words c.in-Unsized.is)
     ∙ ap (λ p. run_by (answered (told_of c.args.around.now)) (gives (steps.array_step c.args.opening p.0 (steps.is_some_of c.in-Unsized.words.items) (Some extent.None)) p.1)) (sym is0)
     ∙ ap (λ v. Ends (v, c.qualifiers.new.made)) (sym last)
@@ -890,7 +890,7 @@ naming::entry-returns t c =
     let is4 : c.place_of-at.result ≡ (ends.place_of (seen.specs_of (out-TypeName c.args.name.now).specs) (seen.declarator_of (out-TypeName c.args.name.now).declarator)) = search rules in
     let is5 : c.name_of-own.result ≡ ends.name_of (seen.declarator_of (out-TypeName c.args.name.now).declarator) = search rules in
     let is6 : c.quals_of-quals.result ≡ parameters.bracket_quals c.in-Ok-declarator.done = search rules in
-    comes_as (told_of c.args.around.now) (spec.entry (context_of c.args.around.now) c.args.place (seen.type_of c.args.name.now) c.args.alone c.args.made.now) (entering.entered (context_of c.args.around.now) c.args.place.defining c.in-Ok.done c.args.alone c.place_of-at.result c.name_of-own.result c.quals_of-quals.result c.in-Ok-derived.done c.derived.new.made) (λ t. t) c.enter.result c.enter.new.made
+    comes_as (told_of c.args.around.now) (spec.entry (context_of c.args.around.now) c.args.place (seen.type_of c.args.name.now) c.args.alone c.args.made.now) (entering.entered (context_of c.args.around.now) c.args.place.defining c.in-Ok.done c.args.alone c.place_of-at.result c.name_of-own.result c.quals_of-quals.result c.in-Ok-derived.done c.derived.new.made) (λ t. t) c.enter-done.result c.enter-done.new.made
     (ap (λ x. run_by (answered (told_of c.args.around.now)) (spec.entry (context_of c.args.around.now) c.args.place x c.args.alone c.args.made.now)) (layers.type_name_is c.args.name.now)
     ∙ ap (λ v. run_by (answered (told_of c.args.around.now)) (follow (spec.specifiers (context_of c.args.around.now) v (seen.specs_of (out-TypeName c.args.name.now).specs) specifiers.nothing c.args.made.now) (λ g mid. follow (Gives (specifiers.settled (ends.specifiers_begin (seen.specs_of (out-TypeName c.args.name.now).specs)) g mid)) (λ ty next. follow (spec.declarator (context_of c.args.around.now) v (seen.declarator_of (out-TypeName c.args.name.now).declarator) next) (λ ss last. follow (steps.derived (context_of c.args.around.now) (ends.place_of (seen.specs_of (out-TypeName c.args.name.now).specs) (seen.declarator_of (out-TypeName c.args.name.now).declarator)) true ss ty last) (λ t end. entering.entered (context_of c.args.around.now) c.args.place.defining g c.args.alone (ends.place_of (seen.specs_of (out-TypeName c.args.name.now).specs) (seen.declarator_of (out-TypeName c.args.name.now).declarator)) (ends.name_of (seen.declarator_of (out-TypeName c.args.name.now).declarator)) (parameters.bracket_quals ss) t end)))))) (sym is0)
     ∙ on (answered (told_of c.args.around.now)) (spec.specifiers (context_of c.args.around.now) c.in_list-within.result (seen.specs_of (out-TypeName c.args.name.now).specs) specifiers.nothing c.args.made.now) (λ x now. follow (Gives (specifiers.settled (ends.specifiers_begin (seen.specs_of (out-TypeName c.args.name.now).specs)) x now)) (λ ty next. follow (spec.declarator (context_of c.args.around.now) c.in_list-within.result (seen.declarator_of (out-TypeName c.args.name.now).declarator) next) (λ ss last. follow (steps.derived (context_of c.args.around.now) (ends.place_of (seen.specs_of (out-TypeName c.args.name.now).specs) (seen.declarator_of (out-TypeName c.args.name.now).declarator)) true ss ty last) (λ t end. entering.entered (context_of c.args.around.now) c.args.place.defining x c.args.alone (ends.place_of (seen.specs_of (out-TypeName c.args.name.now).specs) (seen.declarator_of (out-TypeName c.args.name.now).declarator)) (ends.name_of (seen.declarator_of (out-TypeName c.args.name.now).declarator)) (parameters.bracket_quals ss) t end)))) (c.in-Ok.done) (c.specifiers.new.made) c.in-Ok.ensures
@@ -900,7 +900,7 @@ naming::entry-returns t c =
     ∙ ap (λ v. run_by (answered (told_of c.args.around.now)) (follow (steps.derived (context_of c.args.around.now) c.place_of-at.result true c.in-Ok-declarator.done c.in-Ok-settled.base c.declarator.new.made) (λ t end. entering.entered (context_of c.args.around.now) c.args.place.defining c.in-Ok.done c.args.alone c.place_of-at.result v (parameters.bracket_quals c.in-Ok-declarator.done) t end))) (sym is5)
     ∙ ap (λ v. run_by (answered (told_of c.args.around.now)) (follow (steps.derived (context_of c.args.around.now) c.place_of-at.result true c.in-Ok-declarator.done c.in-Ok-settled.base c.declarator.new.made) (λ t end. entering.entered (context_of c.args.around.now) c.args.place.defining c.in-Ok.done c.args.alone c.place_of-at.result c.name_of-own.result v t end))) (sym is6)
     ∙ on (answered (told_of c.args.around.now)) (steps.derived (context_of c.args.around.now) c.place_of-at.result true c.in-Ok-declarator.done c.in-Ok-settled.base c.declarator.new.made) (λ x now. entering.entered (context_of c.args.around.now) c.args.place.defining c.in-Ok.done c.args.alone c.place_of-at.result c.name_of-own.result c.quals_of-quals.result x now) (c.in-Ok-derived.done) (c.derived.new.made) c.in-Ok-derived.ensures)
-    c.enter.ensures
+    c.enter-done.ensures
 
 pub bodies::aligned-returns-in-Err : goal.bodies::aligned-returns-in-Err
 bodies::aligned-returns-in-Err t c =
@@ -976,12 +976,12 @@ bodies::member-returns-in-Err-field t c =
 pub bodies::member-returns-in-Ok-field : goal.bodies::member-returns-in-Ok-field
 bodies::member-returns-in-Ok-field t c =
     let is1 : c.specs_begin-at.result ≡ ends.specifiers_begin (seen.specs_of c.in-Fields.specs) = search rules in
-    comes_as (told_of c.args.around.now) (spec.member (context_of c.args.around.now) c.args.place (seen.member_of c.args.member.now) c.args.fields.now c.args.made.now) (spec.fields (context_of c.args.around.now) c.args.place c.specs_begin-at.result c.in-Ok.done.0 c.in-Ok.done.1 (trees.fields (seen.fields_of c.in-Fields.more.items) trees.No_fields) c.field.new.fields c.field.new.made) (λ _. c.other_fields.new.fields) c.other_fields.result c.other_fields.new.made
+    comes_as (told_of c.args.around.now) (spec.member (context_of c.args.around.now) c.args.place (seen.member_of c.args.member.now) c.args.fields.now c.args.made.now) (spec.fields (context_of c.args.around.now) c.args.place c.specs_begin-at.result c.in-Ok.done.0 c.in-Ok.done.1 (trees.fields (seen.fields_of c.in-Fields.more.items) trees.No_fields) c.field.new.fields c.field.new.made) (λ _. c.other_fields-done.new.fields) c.other_fields-done.result c.other_fields-done.new.made
     (ap (λ x. run_by (answered (told_of c.args.around.now)) (spec.member (context_of c.args.around.now) c.args.place x c.args.fields.now c.args.made.now)) (layers.member_fields c.args.member.now c.in-Fields.specs c.in-Fields.first c.in-Fields.more c.in-Fields.field-3 c.in-Fields.is)
     ∙ on (answered (told_of c.args.around.now)) (spec.based (context_of c.args.around.now) c.args.place (seen.specs_of c.in-Fields.specs) c.args.made.now) (λ x now. follow (spec.field (context_of c.args.around.now) c.args.place (ends.specifiers_begin (seen.specs_of c.in-Fields.specs)) x.0 x.1 (seen.field_of c.in-Fields.first) c.args.fields.now now) (λ r next. spec.fields (context_of c.args.around.now) c.args.place (ends.specifiers_begin (seen.specs_of c.in-Fields.specs)) x.0 x.1 (trees.fields (seen.fields_of c.in-Fields.more.items) trees.No_fields) r next)) (c.in-Ok.done) (c.based.new.made) c.in-Ok.ensures
     ∙ ap (λ v. run_by (answered (told_of c.args.around.now)) (follow (spec.field (context_of c.args.around.now) c.args.place v c.in-Ok.done.0 c.in-Ok.done.1 (seen.field_of c.in-Fields.first) c.args.fields.now c.based.new.made) (λ r next. spec.fields (context_of c.args.around.now) c.args.place v c.in-Ok.done.0 c.in-Ok.done.1 (trees.fields (seen.fields_of c.in-Fields.more.items) trees.No_fields) r next))) (sym is1)
     ∙ on (answered (told_of c.args.around.now)) (spec.field (context_of c.args.around.now) c.args.place c.specs_begin-at.result c.in-Ok.done.0 c.in-Ok.done.1 (seen.field_of c.in-Fields.first) c.args.fields.now c.based.new.made) (λ x now. spec.fields (context_of c.args.around.now) c.args.place c.specs_begin-at.result c.in-Ok.done.0 c.in-Ok.done.1 (trees.fields (seen.fields_of c.in-Fields.more.items) trees.No_fields) x now) (c.field.new.fields) (c.field.new.made) c.in-Ok-field.ensures)
-    c.other_fields.ensures
+    c.other_fields-done.ensures
 
 pub bodies::member-returns-in-Asserted : goal.bodies::member-returns-in-Asserted
 bodies::member-returns-in-Asserted t c =
@@ -995,10 +995,10 @@ bodies::bare-returns-in-Err t c =
 pub bodies::bare-returns : goal.bodies::bare-returns
 bodies::bare-returns t c =
     let is1 : c.specs_begin.result ≡ ends.specifiers_begin (seen.specs_of c.args.specs.now) = search rules in
-    comes_as (told_of c.args.around.now) (spec.member (context_of c.args.around.now) c.args.place (trees.Bare_of (seen.specs_of c.args.specs.now) 0) c.args.fields.now c.args.made.now) (fielding.bare (context_of c.args.around.now) c.in-Ok.done.0 c.specs_begin.result c.in-Ok.done.1 c.args.fields.now c.based.new.made) (λ _. c.add_bare.new.fields) c.add_bare.result c.add_bare.new.made
+    comes_as (told_of c.args.around.now) (spec.member (context_of c.args.around.now) c.args.place (trees.Bare_of (seen.specs_of c.args.specs.now) 0) c.args.fields.now c.args.made.now) (fielding.bare (context_of c.args.around.now) c.in-Ok.done.0 c.specs_begin.result c.in-Ok.done.1 c.args.fields.now c.based.new.made) (λ _. c.add_bare-done.new.fields) c.add_bare-done.result c.add_bare-done.new.made
     (on (answered (told_of c.args.around.now)) (spec.based (context_of c.args.around.now) c.args.place (seen.specs_of c.args.specs.now) c.args.made.now) (λ x now. fielding.bare (context_of c.args.around.now) x.0 (ends.specifiers_begin (seen.specs_of c.args.specs.now)) x.1 c.args.fields.now now) (c.in-Ok.done) (c.based.new.made) c.in-Ok.ensures
     ∙ ap (λ v. run_by (answered (told_of c.args.around.now)) (fielding.bare (context_of c.args.around.now) c.in-Ok.done.0 v c.in-Ok.done.1 c.args.fields.now c.based.new.made)) (sym is1))
-    c.add_bare.ensures
+    c.add_bare-done.ensures
 
 pub bodies::derived_by-returns-in-Err : goal.bodies::derived_by-returns-in-Err
 bodies::derived_by-returns-in-Err t c =
@@ -1027,12 +1027,12 @@ pub bodies::field-returns-in-Ok : goal.bodies::field-returns-in-Ok
 bodies::field-returns-in-Ok t c =
     let is1 : c.place_behind-begins.result ≡ ends.place_behind c.args.at (seen.declarator_of c.in-Declared.inner) = search rules in
     let is2 : c.name_of-name.result ≡ ends.name_of (seen.declarator_of c.in-Declared.inner) = search rules in
-    comes_as (told_of c.args.around.now) (spec.field (context_of c.args.around.now) c.args.place c.args.at c.args.base.now.0 c.args.base.now.1 (seen.field_of c.args.field.now) c.args.fields.now c.args.made.now) (fielding.declared (context_of c.args.around.now) c.args.base.now.0 c.place_behind-begins.result c.name_of-name.result c.in-Ok.done c.args.fields.now c.derived_by.new.made) (λ _. c.add_member.new.fields) c.add_member.result c.add_member.new.made
+    comes_as (told_of c.args.around.now) (spec.field (context_of c.args.around.now) c.args.place c.args.at c.args.base.now.0 c.args.base.now.1 (seen.field_of c.args.field.now) c.args.fields.now c.args.made.now) (fielding.declared (context_of c.args.around.now) c.args.base.now.0 c.place_behind-begins.result c.name_of-name.result c.in-Ok.done c.args.fields.now c.derived_by.new.made) (λ _. c.add_member-done.new.fields) c.add_member-done.result c.add_member-done.new.made
     (ap (λ x. run_by (answered (told_of c.args.around.now)) (spec.field (context_of c.args.around.now) c.args.place c.args.at c.args.base.now.0 c.args.base.now.1 x c.args.fields.now c.args.made.now)) (layers.field_declared c.args.field.now c.in-Declared.inner c.in-Declared.is)
     ∙ on (answered (told_of c.args.around.now)) (spec.derived_by (context_of c.args.around.now) c.args.place c.args.at c.args.base.now.1 (seen.declarator_of c.in-Declared.inner) c.args.made.now) (λ x now. fielding.declared (context_of c.args.around.now) c.args.base.now.0 (ends.place_behind c.args.at (seen.declarator_of c.in-Declared.inner)) (ends.name_of (seen.declarator_of c.in-Declared.inner)) x c.args.fields.now now) (c.in-Ok.done) (c.derived_by.new.made) c.in-Ok.ensures
     ∙ ap (λ v. run_by (answered (told_of c.args.around.now)) (fielding.declared (context_of c.args.around.now) c.args.base.now.0 v (ends.name_of (seen.declarator_of c.in-Declared.inner)) c.in-Ok.done c.args.fields.now c.derived_by.new.made)) (sym is1)
     ∙ ap (λ v. run_by (answered (told_of c.args.around.now)) (fielding.declared (context_of c.args.around.now) c.args.base.now.0 c.place_behind-begins.result v c.in-Ok.done c.args.fields.now c.derived_by.new.made)) (sym is2))
-    c.add_member.ensures
+    c.add_member-done.ensures
 
 pub bodies::field-returns-in-Err-derived_by : goal.bodies::field-returns-in-Err-derived_by
 bodies::field-returns-in-Err-derived_by t c =
@@ -1052,14 +1052,14 @@ bodies::field-returns-in-Ok-judged t c =
     let is2 : c.place_behind-begins-in-Bits.result ≡ ends.place_behind c.args.at (seen.declarator_of c.in-Bits.inner) = search rules in
     let is3 : c.name_of-name-in-Bits.result ≡ ends.name_of (seen.declarator_of c.in-Bits.inner) = search rules in
     let is4 : c.first_of-size.result ≡ ends.first_of (seen.tree_of c.in-Bits.width) = search rules in
-    comes_as (told_of c.args.around.now) (spec.field (context_of c.args.around.now) c.args.place c.args.at c.args.base.now.0 c.args.base.now.1 (seen.field_of c.args.field.now) c.args.fields.now c.args.made.now) (fielding.bits (context_of c.args.around.now) c.args.base.now.0 c.place_behind-begins-in-Bits.result c.name_of-name-in-Bits.result c.in-Ok-derived_by.done c.first_of-size.result c.in-Ok-judged.done c.args.fields.now c.judged.new.made) (λ _. c.add_bits.new.fields) c.add_bits.result c.add_bits.new.made
+    comes_as (told_of c.args.around.now) (spec.field (context_of c.args.around.now) c.args.place c.args.at c.args.base.now.0 c.args.base.now.1 (seen.field_of c.args.field.now) c.args.fields.now c.args.made.now) (fielding.bits (context_of c.args.around.now) c.args.base.now.0 c.place_behind-begins-in-Bits.result c.name_of-name-in-Bits.result c.in-Ok-derived_by.done c.first_of-size.result c.in-Ok-judged.done c.args.fields.now c.judged.new.made) (λ _. c.add_bits-done.new.fields) c.add_bits-done.result c.add_bits-done.new.made
     (ap (λ x. run_by (answered (told_of c.args.around.now)) (spec.field (context_of c.args.around.now) c.args.place c.args.at c.args.base.now.0 c.args.base.now.1 x c.args.fields.now c.args.made.now)) (layers.field_bits c.args.field.now c.in-Bits.inner c.in-Bits.field-1 c.in-Bits.width c.in-Bits.is)
     ∙ on (answered (told_of c.args.around.now)) (spec.derived_by (context_of c.args.around.now) c.args.place c.args.at c.args.base.now.1 (seen.declarator_of c.in-Bits.inner) c.args.made.now) (λ x now. follow (spec.judge (context_of c.args.around.now) c.args.place (seen.tree_of c.in-Bits.width) now) (λ j next. fielding.bits (context_of c.args.around.now) c.args.base.now.0 (ends.place_behind c.args.at (seen.declarator_of c.in-Bits.inner)) (ends.name_of (seen.declarator_of c.in-Bits.inner)) x (ends.first_of (seen.tree_of c.in-Bits.width)) j c.args.fields.now next)) (c.in-Ok-derived_by.done) (c.derived_by-in-Bits.new.made) c.in-Ok-derived_by.ensures
     ∙ on (answered (told_of c.args.around.now)) (spec.judge (context_of c.args.around.now) c.args.place (seen.tree_of c.in-Bits.width) c.derived_by-in-Bits.new.made) (λ x now. fielding.bits (context_of c.args.around.now) c.args.base.now.0 (ends.place_behind c.args.at (seen.declarator_of c.in-Bits.inner)) (ends.name_of (seen.declarator_of c.in-Bits.inner)) c.in-Ok-derived_by.done (ends.first_of (seen.tree_of c.in-Bits.width)) x c.args.fields.now now) (c.in-Ok-judged.done) (c.judged.new.made) c.in-Ok-judged.ensures
     ∙ ap (λ v. run_by (answered (told_of c.args.around.now)) (fielding.bits (context_of c.args.around.now) c.args.base.now.0 v (ends.name_of (seen.declarator_of c.in-Bits.inner)) c.in-Ok-derived_by.done (ends.first_of (seen.tree_of c.in-Bits.width)) c.in-Ok-judged.done c.args.fields.now c.judged.new.made)) (sym is2)
     ∙ ap (λ v. run_by (answered (told_of c.args.around.now)) (fielding.bits (context_of c.args.around.now) c.args.base.now.0 c.place_behind-begins-in-Bits.result v c.in-Ok-derived_by.done (ends.first_of (seen.tree_of c.in-Bits.width)) c.in-Ok-judged.done c.args.fields.now c.judged.new.made)) (sym is3)
     ∙ ap (λ v. run_by (answered (told_of c.args.around.now)) (fielding.bits (context_of c.args.around.now) c.args.base.now.0 c.place_behind-begins-in-Bits.result c.name_of-name-in-Bits.result c.in-Ok-derived_by.done v c.in-Ok-judged.done c.args.fields.now c.judged.new.made)) (sym is4))
-    c.add_bits.ensures
+    c.add_bits-done.ensures
 
 pub bodies::field-returns-in-Err-judged-2 : goal.bodies::field-returns-in-Err-judged-2
 bodies::field-returns-in-Err-judged-2 t c =
@@ -1070,11 +1070,11 @@ bodies::field-returns-in-Err-judged-2 t c =
 pub bodies::field-returns-in-Ok-judged-2 : goal.bodies::field-returns-in-Ok-judged-2
 bodies::field-returns-in-Ok-judged-2 t c =
     let is1 : c.first_of-size-in-Padding.result ≡ ends.first_of (seen.tree_of c.in-Padding.width) = search rules in
-    comes_as (told_of c.args.around.now) (spec.field (context_of c.args.around.now) c.args.place c.args.at c.args.base.now.0 c.args.base.now.1 (seen.field_of c.args.field.now) c.args.fields.now c.args.made.now) (fielding.bits (context_of c.args.around.now) c.args.base.now.0 c.in-Padding.colon None c.args.base.now.1 c.first_of-size-in-Padding.result c.in-Ok-judged-2.done c.args.fields.now c.judged-in-Padding.new.made) (λ _. c.add_bits-in-Padding.new.fields) c.add_bits-in-Padding.result c.add_bits-in-Padding.new.made
+    comes_as (told_of c.args.around.now) (spec.field (context_of c.args.around.now) c.args.place c.args.at c.args.base.now.0 c.args.base.now.1 (seen.field_of c.args.field.now) c.args.fields.now c.args.made.now) (fielding.bits (context_of c.args.around.now) c.args.base.now.0 c.in-Padding.colon None c.args.base.now.1 c.first_of-size-in-Padding.result c.in-Ok-judged-2.done c.args.fields.now c.judged-in-Padding.new.made) (λ _. c.add_bits-done-in-Padding.new.fields) c.add_bits-done-in-Padding.result c.add_bits-done-in-Padding.new.made
     (ap (λ x. run_by (answered (told_of c.args.around.now)) (spec.field (context_of c.args.around.now) c.args.place c.args.at c.args.base.now.0 c.args.base.now.1 x c.args.fields.now c.args.made.now)) (layers.field_padding c.args.field.now c.in-Padding.colon c.in-Padding.width c.in-Padding.is)
     ∙ on (answered (told_of c.args.around.now)) (spec.judge (context_of c.args.around.now) c.args.place (seen.tree_of c.in-Padding.width) c.args.made.now) (λ x now. fielding.bits (context_of c.args.around.now) c.args.base.now.0 c.in-Padding.colon None c.args.base.now.1 (ends.first_of (seen.tree_of c.in-Padding.width)) x c.args.fields.now now) (c.in-Ok-judged-2.done) (c.judged-in-Padding.new.made) c.in-Ok-judged-2.ensures
     ∙ ap (λ v. run_by (answered (told_of c.args.around.now)) (fielding.bits (context_of c.args.around.now) c.args.base.now.0 c.in-Padding.colon None c.args.base.now.1 v c.in-Ok-judged-2.done c.args.fields.now c.judged-in-Padding.new.made)) (sym is1))
-    c.add_bits-in-Padding.ensures
+    c.add_bits-done-in-Padding.ensures
 
 pub bodies::enumeration-returns-in-Err : goal.bodies::enumeration-returns-in-Err
 bodies::enumeration-returns-in-Err t c =
