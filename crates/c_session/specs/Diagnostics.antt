@@ -10,23 +10,23 @@ use Rattle.text_lines.specs.Positions.{pos_at}
 use Rattle.text_lines.specs.declared.encoding.Encoding.{Encoding}
 use Rattle.text_lines.specs.declared.pos.Pos.{Pos}
 use Rattle.frame_form.specs.Written.{framed}
-use Rattle.lsp_answers.specs.Places.{pos_data}
+use Rattle.lsp_answers.specs.Places.{range_data}
 
 -- the severity of a rule (LSP 3.17, DiagnosticSeverity): an error or a warning
 abbrev pub severity : ℕ → ℕ
 severity rule = if is_warning rule then 2 else 1
 
 -- a Diagnostic on a range
-abbrev pub fault_data : ℕ → List ℕ → Data → Data → Data
-fault_data rule message start end = object
+abbrev pub fault_data : ℕ → List ℕ → Data → Data
+fault_data rule message range = object
     (member (codes "code") (number (unsigned rule))
     (member (codes "message") (string message)
-    (member (codes "range") (object (member (codes "end") end (member (codes "start") start no_members)))
+    (member (codes "range") range
     (member (codes "severity") (number (unsigned (severity rule)))
     (member (codes "source") (string (codes "c11ls")) no_members)))))
 
 abbrev pub diagnostic_data : ℕ → List ℕ → Pos → Pos → Data
-diagnostic_data rule message start end = fault_data rule message (pos_data start) (pos_data end)
+diagnostic_data rule message start end = fault_data rule message (range_data start end)
 
 -- the Diagnostic for a fault of a text
 unfoldable pub diagnostic : List ℕ → Encoding → Shown → Data

@@ -278,7 +278,12 @@ impl Current {
         ensures docs { self.new.docs ≡ self.old.docs }
     {
         let conf = self.conf_now()?;
-        self.kept = analysed(self.alloc, &self.docs, &conf, steps)?;
+        let Ok(kept) = analysed(self.alloc, &self.docs, &conf, steps) else {
+            drop(conf);
+            return Err(AllocError);
+        };
+        drop(conf);
+        self.kept = kept;
         self.read = None;
         Ok(())
     }
@@ -290,7 +295,11 @@ impl Current {
         ensures { IfOk result (λ counts. counts ≡ counts_of (current_state self.now)) }
     {
         let conf = self.conf_now()?;
-        let units = unit_count(self.alloc, &self.docs, &conf)?;
+        let Ok(units) = unit_count(self.alloc, &self.docs, &conf) else {
+            drop(conf);
+            return Err(AllocError);
+        };
+        drop(conf);
         let paths = self.docs.paths()?;
         Ok(Counts {
             units,
@@ -331,9 +340,9 @@ impl Current {
         ensures steps { OnOk result (Renews prior.now self.old.docs self.old.kept (current_state self.old) steps.old steps.new) }
         ensures same { OnOk result (current_state self.new ≡ current_state self.old) }
     {
-        let kept = mem::replace(&mut self.kept, Analysis::new(self.alloc));
         let read = mem::replace(&mut self.read, None);
         let conf = self.read_now(read, prior)?;
+        let kept = mem::replace(&mut self.kept, Analysis::new(self.alloc));
         let renewal = self.renew(kept, &conf, prior, steps)?;
         let change = Change {
             before: &renewal.before,
@@ -341,7 +350,11 @@ impl Current {
             prior,
             touched,
         };
-        let out = self.told(response, logs, change)?;
+        let Ok(out) = self.told(response, logs, change) else {
+            drop(renewal);
+            drop(conf);
+            return Err(AllocError);
+        };
         let Renewal {
             analysis,
             before: _,

@@ -3,12 +3,11 @@ ghost use Rattle.std.specs.Prelude.{◌≡◌, ◌≤◌, ◌++◌, length, map,
 ghost use Rattle.serde_json.specs.View.{view, items_of};
 ghost use Rattle.serde_json.specs.Written.{compact_text, items_text, comma_if};
 ghost use Rattle.plain_mean.specs.Within.{AreWithin};
-ghost use Rattle.lsp_answers.specs.Places.{pos_data};
 ghost use Rattle.c_session.specs.Diagnostics.{severity, fault_data, diagnostic_data, diagnostic, publish};
 ghost use Rattle.c_session.specs.Ties.Published.{number_data, publish_start, publish_end, version_part};
 ghost use Rattle.serde_json.specs.Data.{string};
 
-use lsp_answers::{pos_value, push_framed};
+use lsp_answers::{push_framed, range_value};
 use plain_mean::{Shown, is_warning};
 use serde_json::{Value, json};
 use std::alloc::{AllocError, Global};
@@ -20,17 +19,11 @@ fn severity(rule: u16) -> u8
     if is_warning(rule) { 2 } else { 1 }
 }
 
-fn with_range(
-    alloc: Global,
-    rule: u16,
-    message: &str,
-    start: Value,
-    end: Value,
-) -> Result<Value, AllocError>
-    ensures { IfOk result (λ v. view v ≡ fault_data rule message.now (view start) (view end)) }
+fn with_range(alloc: Global, rule: u16, message: &str, range: Value) -> Result<Value, AllocError>
+    ensures { IfOk result (λ v. view v ≡ fault_data rule message.now (view range)) }
 {
     let severity = severity(rule);
-    json!(in alloc; {"code": rule, "message": message, "range": {"end": end, "start": start}, "severity": severity, "source": "c11ls"})
+    json!(in alloc; {"code": rule, "message": message, "range": range, "severity": severity, "source": "c11ls"})
 }
 
 /// A Diagnostic on a range.
@@ -43,9 +36,8 @@ fn diagnostic_value(
 ) -> Result<Value, AllocError>
     ensures { IfOk result (λ v. view v ≡ diagnostic_data rule message.now start end) }
 {
-    let start = pos_value(alloc, start)?;
-    let end = pos_value(alloc, end)?;
-    with_range(alloc, rule, message, start, end)
+    let range = range_value(alloc, start, end)?;
+    with_range(alloc, rule, message, range)
 }
 
 /// The text of a Diagnostic on a range.

@@ -314,6 +314,7 @@ pub(crate) fn mentions(
         };
         out.push(shown)?;
     }
+    drop(hand);
     Ok(out)
 }
 
@@ -356,5 +357,6 @@ pub(crate) fn all_symbols(
         };
         out.push(shown)?;
     }
+    drop(hand);
     Ok(out)
 }

@@ -56,7 +56,9 @@ fn may_be_renamed(kept: &Analysis, tok: &TokId) -> Result<bool, AllocError>
     ensures { IfOk result (λ can. can ≡ can_be_renamed (class_in (map occs_of (units_in kept.now)) tok.now)) }
 {
     let class = class_kept(kept, tok)?;
-    Ok(class.can_be_renamed())
+    let can = class.can_be_renamed();
+    drop(class);
+    Ok(can)
 }
 
 fn spelling_of(alloc: Global, tokens: &[PpToken], at: u32) -> Result<Name, AllocError>

@@ -220,7 +220,10 @@ fn compared(
 {
     let before = match views_before(alloc, units, effect.kinds.as_slice()) {
         Ok(before) => before,
-        Err(_) => return Err(RenameError::NoMemory),
+        Err(_) => {
+            drop(plan);
+            return Err(RenameError::NoMemory);
+        }
     };
     let after = match views_after(
         alloc,
@@ -229,7 +232,10 @@ fn compared(
         effect.kinds_after.as_slice(),
     ) {
         Ok(after) => after,
-        Err(_) => return Err(RenameError::NoMemory),
+        Err(_) => {
+            drop(plan);
+            return Err(RenameError::NoMemory);
+        }
     };
     confirm(alloc, plan, before.as_slice(), after.as_slice())
 }
@@ -253,7 +259,10 @@ fn settled<L: Ledger>(
     units_stay();
     let effect = match effect_of(kept, docs, conf, &plan, steps) {
         Ok(effect) => effect,
-        Err(_) => return Err(RenameError::NoMemory),
+        Err(_) => {
+            drop(plan);
+            return Err(RenameError::NoMemory);
+        }
     };
     compared(kept.alloc, plan, kept.units.as_slice(), &effect)
 }

@@ -18,7 +18,10 @@ fn held_as(alloc: Global, path: &Path, meant: Meant) -> Result<HeldUnit, AllocEr
     ensures unit { IfOk result (λ h. h.unit ≡ known_as path.now meant.meaning) }
     ensures grounds { IfOk result (λ h. h.grounds ≡ meant.grounds) }
 {
-    let path = path.share()?;
+    let Ok(path) = path.share() else {
+        drop(meant);
+        return Err(AllocError);
+    };
     let Meant { meaning, grounds } = meant;
     let UnitMeaning { meaning, reads } = meaning;
     let unit = IndexedUnit::of(alloc, path, reads, meaning)?;

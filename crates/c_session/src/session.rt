@@ -124,22 +124,33 @@ impl Session {
         };
         let message = match message_of(self.current.alloc, &value) {
             Ok(message) => message,
-            Err(_) => return Err(SessionError::NoMemory),
+            Err(_) => {
+                drop(value);
+                return Err(SessionError::NoMemory);
+            }
         };
         self.handled += 1;
         let whole = self.whole;
         self.whole = false;
         match ready(&mut self.current, whole, steps) {
             Ok(()) => {}
-            Err(_) => return Err(SessionError::NoMemory),
+            Err(_) => {
+                drop(message);
+                drop(value);
+                return Err(SessionError::NoMemory);
+            }
         }
         match self.current.on_message(&message, store, steps) {
             Ok(reply) => {
                 self.whole = true;
+                drop(message);
+                drop(value);
                 Ok(reply)
             }
             Err(error) => {
                 self.current.forget();
+                drop(message);
+                drop(value);
                 Err(error)
             }
         }

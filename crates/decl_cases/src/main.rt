@@ -93,10 +93,16 @@ fn shown_fault(alloc: Global, fault: &Fault) -> Result<String, AllocError> {
 
 // Declares what has a name in a scope that was entered.
 fn enter(scopes: &mut Scopes, name: &Name, entity: Entity) -> Result<(), AllocError> {
-    if 0 < scopes.depth() && !name.as_str().is_empty() {
-        let name = name.share()?;
-        scopes.declare(Space::Ordinary, name, entity)?;
+    if scopes.depth() == 0 || name.as_str().is_empty() {
+        drop(entity);
+        return Ok(());
     }
+    let Ok(name) = name.share() else {
+        drop(entity);
+        return Err(AllocError);
+    };
+    let before = scopes.declare(Space::Ordinary, name, entity)?;
+    drop(before);
     Ok(())
 }
 
@@ -107,7 +113,10 @@ fn shown_entered(
     name: &Name,
     entity: Entity,
 ) -> Result<String, AllocError> {
-    let shown = shown_entity(alloc, &entity)?;
+    let Ok(shown) = shown_entity(alloc, &entity) else {
+        drop(entity);
+        return Err(AllocError);
+    };
     enter(scopes, name, entity)?;
     Ok(shown)
 }

@@ -47,19 +47,27 @@ fn one(alloc: Global, basic: Basic) -> Result<Params, AllocError> {
     Params::first(alloc, ty, plain(), Params::of(ParamList::Empty))
 }
 
-fn function(alloc: Global, of: CType, letter: u8) -> Result<CType, AllocError> {
+fn params(alloc: Global, letter: u8) -> Result<Params, AllocError> {
     match letter {
-        b'o' => CType::function(alloc, of, Params::of(ParamList::Empty), Proto::Old),
-        b'n' => {
-            let params = one(alloc, Basic::Int)?;
-            CType::function(alloc, of, params, Proto::Fixed)
-        }
-        b'q' => {
-            let params = one(alloc, Basic::Char)?;
-            CType::function(alloc, of, params, Proto::Fixed)
-        }
-        _ => CType::function(alloc, of, Params::of(ParamList::Empty), Proto::Fixed),
+        b'n' => one(alloc, Basic::Int),
+        b'q' => one(alloc, Basic::Char),
+        _ => Ok(Params::of(ParamList::Empty)),
     }
+}
+
+fn proto(letter: u8) -> Proto {
+    match letter {
+        b'o' => Proto::Old,
+        _ => Proto::Fixed,
+    }
+}
+
+fn function(alloc: Global, of: CType, letter: u8) -> Result<CType, AllocError> {
+    let Ok(params) = params(alloc, letter) else {
+        drop(of);
+        return Err(AllocError);
+    };
+    CType::function(alloc, of, params, proto(letter))
 }
 
 fn extent(letter: u8) -> Option<Extent> {

@@ -90,29 +90,37 @@ pub fn parts_of(alloc: Global, number: u32, line: &str) -> Result<Option<DeclPar
     Ok(Some(decl))
 }
 
-/// A complete structure, an incomplete one, and a complete enumeration.
-pub fn tags_of(alloc: Global) -> Result<Tags, AllocError> {
-    let mut tags = Tags::new(alloc);
+fn tell_all(alloc: Global, tags: &mut Tags) -> Result<(), AllocError> {
+    let id = tag(alloc, 1)?;
     let complete = TagInfo {
         kind: TagKind::Struct,
         name: None,
         members: Some(Listing::from_vec(Vec::new(alloc))),
         layout: Some(Layout::new(8, 8, Vec::new(alloc))),
     };
-    tags.insert(tag(alloc, 1)?, complete)?;
+    tags.insert(id, complete)?;
+    let id = tag(alloc, 2)?;
     let incomplete = TagInfo {
         kind: TagKind::Struct,
         name: None,
         members: None,
         layout: None,
     };
-    tags.insert(tag(alloc, 2)?, incomplete)?;
+    tags.insert(id, incomplete)?;
+    let id = tag(alloc, 3)?;
     let enumeration = TagInfo {
         kind: TagKind::Enum,
         name: None,
         members: Some(Listing::from_vec(Vec::new(alloc))),
         layout: None,
     };
-    tags.insert(tag(alloc, 3)?, enumeration)?;
+    tags.insert(id, enumeration)?;
+    Ok(())
+}
+
+/// A complete structure, an incomplete one, and a complete enumeration.
+pub fn tags_of(alloc: Global) -> Result<Tags, AllocError> {
+    let mut tags = Tags::new(alloc);
+    tell_all(alloc, &mut tags)?;
     Ok(tags)
 }

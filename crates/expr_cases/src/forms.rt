@@ -3,7 +3,7 @@ use crate::types::{plain, type_named};
 use crate::words::{assigned_named, binary_named, life_named, scope_named, unary_named};
 use c_literals::{Literal, StrValue};
 use expr_rules::{Association, Designator, Form};
-use scope_tables::{Anchor, Entity, EntityKind, Life, Linkage};
+use scope_tables::{Anchor, Entity, EntityKind, Linkage};
 use shared_list::Listing;
 use shared_text::Name;
 use std::alloc::{AllocError, Global};
@@ -18,47 +18,54 @@ struct Words<'a> {
     fourth: &'a str,
 }
 
+// What the name denotes, of this kind and of the type that a word stands for.
 fn entity(
     alloc: Global,
-    name: &str,
+    words: &Words<'_>,
     kind: EntityKind,
-    ty: CType,
-    life: Life,
+    ty: &str,
     value: Option<Value>,
 ) -> Result<Entity, AllocError> {
-    let name = Name::from_str(alloc, name)?;
-    let anchor = Anchor::External(name.share()?);
+    let name = Name::from_str(alloc, words.first)?;
+    let shared = name.share()?;
+    let ty = type_named(alloc, ty)?;
     Ok(Entity {
         name,
         kind,
         ty,
         qual: plain(),
         linkage: Linkage::None,
-        life,
+        life: life_named(words.fourth),
         value,
-        anchor,
+        anchor: Anchor::External(shared),
     })
+}
+
+fn value_of(word: &str) -> Option<Value> {
+    match word.parse::<i128>() {
+        Ok(number) => Some(Value::Known(number)),
+        Err(_) => None,
+    }
+}
+
+fn denoted(alloc: Global, words: &Words<'_>) -> Result<Option<Entity>, AllocError> {
+    let entity = match words.second {
+        "object" => entity(alloc, words, EntityKind::Object, words.third, None)?,
+        "function" => entity(alloc, words, EntityKind::Function, words.third, None)?,
+        "typedef" => entity(alloc, words, EntityKind::Typedef, words.third, None)?,
+        "enumerator" => {
+            let value = value_of(words.third);
+            entity(alloc, words, EntityKind::Enumerator, "i", value)?
+        }
+        _ => return Ok(None),
+    };
+    Ok(Some(entity))
 }
 
 // `ident NAME`, and behind it `object TYPE LIFE`, `function TYPE`, `enumerator NUMBER` or `typedef TYPE`.
 fn identifier(alloc: Global, words: &Words<'_>) -> Result<Form, AllocError> {
     let name = Name::from_str(alloc, words.first)?;
-    let ty = type_named(alloc, words.third)?;
-    let life = life_named(words.fourth);
-    let denoted = match words.second {
-        "object" => Some(entity(alloc, words.first, EntityKind::Object, ty, life, None)?),
-        "function" => Some(entity(alloc, words.first, EntityKind::Function, ty, life, None)?),
-        "typedef" => Some(entity(alloc, words.first, EntityKind::Typedef, ty, life, None)?),
-        "enumerator" => {
-            let value = match words.third.parse::<i128>() {
-                Ok(number) => Some(Value::Known(number)),
-                Err(_) => None,
-            };
-            let ty = type_named(alloc, "i")?;
-            Some(entity(alloc, words.first, EntityKind::Enumerator, ty, life, value)?)
-        }
-        _ => None,
-    };
+    let denoted = denoted(alloc, words)?;
     Ok(Form::Ident(name, denoted))
 }
 

@@ -48,7 +48,11 @@ fn answered(
     parts: &[Judged],
 ) -> Result<String, AllocError> {
     match judge(alloc, operator, parts, tags) {
-        Ok(judged) => shown_part(alloc, tags, &judged),
+        Ok(judged) => {
+            let shown = shown_part(alloc, tags, &judged);
+            drop(judged);
+            shown
+        }
         Err(CheckError::Broken(fault)) => shown_fault(alloc, tags, &fault),
         Err(CheckError::NoMemory) => String::from_str(alloc, "no memory"),
     }
@@ -75,7 +79,11 @@ fn operator_of(alloc: Global, line: &str) -> Result<Option<Operator>, AllocError
 fn answer(alloc: Global, tags: &Tags, line: &str) -> Result<String, AllocError> {
     let parts = parts_of(alloc, line)?;
     match operator_of(alloc, line)? {
-        Some(operator) => answered(alloc, tags, &operator, parts.as_slice()),
+        Some(operator) => {
+            let shown = answered(alloc, tags, &operator, parts.as_slice());
+            drop(operator);
+            shown
+        }
         None => String::from_str(alloc, "no construct"),
     }
 }

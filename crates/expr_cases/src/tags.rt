@@ -41,20 +41,31 @@ fn basic(basic: Basic) -> CType {
     CType::of(Node::Basic(basic))
 }
 
-fn info(
+// A tag with these members is known by its number.
+fn know(
     alloc: Global,
+    tags: &mut Tags,
+    at: u32,
     kind: TagKind,
     name: &str,
     members: Vec<Member>,
-    layout: Layout,
-) -> Result<TagInfo, AllocError> {
+    layout: Option<Layout>,
+) -> Result<(), AllocError> {
+    let id = tag(alloc, at)?;
     let name = named(alloc, name)?;
-    Ok(TagInfo {
+    let info = TagInfo {
         kind,
         name,
         members: Some(Listing::from_vec(members)),
-        layout: Some(layout),
-    })
+        layout,
+    };
+    tags.insert(id, info)?;
+    Ok(())
+}
+
+fn both(alloc: Global, first: Member, second: Member) -> Result<Vec<Member>, AllocError> {
+    let members = vec![in alloc; first, second]?;
+    Ok(members)
 }
 
 fn laid(alloc: Global, size: u64, align: u64, second: Option<u64>) -> Result<Layout, AllocError> {
@@ -71,32 +82,26 @@ fn laid(alloc: Global, size: u64, align: u64, second: Option<u64>) -> Result<Lay
 
 fn with_field(alloc: Global, tags: &mut Tags) -> Result<(), AllocError> {
     let x = member(alloc, "x", basic(Basic::Int))?;
-    let mut b = member(alloc, "b", basic(Basic::Int))?;
+    let Ok(mut b) = member(alloc, "b", basic(Basic::Int)) else {
+        drop(x);
+        return Err(AllocError);
+    };
     b.width = Some(2);
-    let members = vec![in alloc; x, b]?;
+    let members = both(alloc, x, b)?;
     let layout = laid(alloc, 8, 4, Some(32))?;
-    tags.insert(
-        tag(alloc, 1)?,
-        info(alloc, TagKind::Struct, "S", members, layout)?,
-    )?;
-    Ok(())
+    know(alloc, tags, 1, TagKind::Struct, "S", members, Some(layout))
 }
 
 fn incomplete(alloc: Global, tags: &mut Tags) -> Result<(), AllocError> {
+    let id = tag(alloc, 2)?;
+    let name = named(alloc, "I")?;
     let info = TagInfo {
         kind: TagKind::Struct,
-        name: named(alloc, "I")?,
+        name,
         members: None,
         layout: None,
     };
-    tags.insert(tag(alloc, 2)?, info)?;
-    let enumeration = TagInfo {
-        kind: TagKind::Enum,
-        name: named(alloc, "E")?,
-        members: Some(Listing::from_vec(Vec::new(alloc))),
-        layout: None,
-    };
-    tags.insert(tag(alloc, 3)?, enumeration)?;
+    tags.insert(id, info)?;
     Ok(())
 }
 
@@ -109,65 +114,72 @@ fn with_const(alloc: Global, tags: &mut Tags) -> Result<(), AllocError> {
     };
     let members = vec![in alloc; k]?;
     let layout = laid(alloc, 4, 4, None)?;
-    tags.insert(
-        tag(alloc, 4)?,
-        info(alloc, TagKind::Struct, "K", members, layout)?,
-    )?;
-    Ok(())
+    know(alloc, tags, 4, TagKind::Struct, "K", members, Some(layout))
+}
+
+// The members of a structure or union whose other member is a tag.
+fn beside(
+    alloc: Global,
+    first: Member,
+    name: &str,
+    number: u32,
+) -> Result<Vec<Member>, AllocError> {
+    let Ok(id) = tag(alloc, number) else {
+        drop(first);
+        return Err(AllocError);
+    };
+    let Ok(second) = member(alloc, name, CType::of(Node::Tagged(id))) else {
+        drop(first);
+        return Err(AllocError);
+    };
+    both(alloc, first, second)
 }
 
 fn with_anonymous(alloc: Global, tags: &mut Tags) -> Result<(), AllocError> {
     let inner = CType::of(Node::Tagged(tag(alloc, 6)?));
     let anonymous = member(alloc, "", inner)?;
-    let c = member(alloc, "c", basic(Basic::Int))?;
-    let members = vec![in alloc; anonymous, c]?;
+    let Ok(c) = member(alloc, "c", basic(Basic::Int)) else {
+        drop(anonymous);
+        return Err(AllocError);
+    };
+    let members = both(alloc, anonymous, c)?;
     let layout = laid(alloc, 4, 4, Some(0))?;
-    tags.insert(
-        tag(alloc, 5)?,
-        info(alloc, TagKind::Union, "U", members, layout)?,
-    )?;
+    know(alloc, tags, 5, TagKind::Union, "U", members, Some(layout))
+}
+
+fn structure_in_union(alloc: Global, tags: &mut Tags) -> Result<(), AllocError> {
     let y = member(alloc, "y", basic(Basic::Int))?;
     let members = vec![in alloc; y]?;
     let layout = laid(alloc, 4, 4, None)?;
-    tags.insert(
-        tag(alloc, 6)?,
-        info(alloc, TagKind::Struct, "", members, layout)?,
-    )?;
-    Ok(())
+    know(alloc, tags, 6, TagKind::Struct, "", members, Some(layout))
 }
 
 fn with_array(alloc: Global, tags: &mut Tags) -> Result<(), AllocError> {
     let a = member(alloc, "a", basic(Basic::Char))?;
-    let inner = CType::of(Node::Tagged(tag(alloc, 8)?));
-    let d = member(alloc, "d", inner)?;
-    let members = vec![in alloc; a, d]?;
+    let members = beside(alloc, a, "d", 8)?;
     let layout = laid(alloc, 16, 4, Some(32))?;
-    tags.insert(
-        tag(alloc, 7)?,
-        info(alloc, TagKind::Struct, "D", members, layout)?,
-    )?;
-    let array = CType::array(alloc, basic(Basic::Int), plain(), Extent::Size(3))?;
-    let c = member(alloc, "c", array)?;
+    know(alloc, tags, 7, TagKind::Struct, "D", members, Some(layout))
+}
+
+fn structure_of_array(alloc: Global, tags: &mut Tags) -> Result<(), AllocError> {
+    let ty = CType::array(alloc, basic(Basic::Int), plain(), Extent::Size(3))?;
+    let c = member(alloc, "c", ty)?;
     let members = vec![in alloc; c]?;
     let layout = laid(alloc, 12, 4, None)?;
-    tags.insert(
-        tag(alloc, 8)?,
-        info(alloc, TagKind::Struct, "", members, layout)?,
-    )?;
-    Ok(())
+    know(alloc, tags, 8, TagKind::Struct, "", members, Some(layout))
 }
 
 // A structure that holds another one twice. Its size is too large to be told.
-fn doubled(alloc: Global, name: &str, held: u32) -> Result<TagInfo, AllocError> {
+fn double(
+    alloc: Global,
+    tags: &mut Tags,
+    at: u32,
+    name: &str,
+    held: u32,
+) -> Result<(), AllocError> {
     let first = member(alloc, "p", CType::of(Node::Tagged(tag(alloc, held)?)))?;
-    let second = member(alloc, "q", CType::of(Node::Tagged(tag(alloc, held)?)))?;
-    let members = vec![in alloc; first, second]?;
-    Ok(TagInfo {
-        kind: TagKind::Struct,
-        name: named(alloc, name)?,
-        members: Some(Listing::from_vec(members)),
-        layout: None,
-    })
+    let members = beside(alloc, first, "q", held)?;
+    know(alloc, tags, at, TagKind::Struct, name, members, None)
 }
 
 // Structures from a number on, each of which holds the one before twice.
@@ -181,21 +193,28 @@ fn heaped(
     let mut below = bottom;
     for number in 0u32..200 {
         let number = from.wrapping_add(number);
-        tags.insert(tag(alloc, number)?, doubled(alloc, name, below)?)?;
+        double(alloc, tags, number, name, below)?;
         below = number;
     }
     Ok(())
 }
 
+fn tell_all(alloc: Global, tags: &mut Tags) -> Result<(), AllocError> {
+    with_field(alloc, tags)?;
+    incomplete(alloc, tags)?;
+    know(alloc, tags, 3, TagKind::Enum, "E", Vec::new(alloc), None)?;
+    with_const(alloc, tags)?;
+    with_anonymous(alloc, tags)?;
+    structure_in_union(alloc, tags)?;
+    with_array(alloc, tags)?;
+    structure_of_array(alloc, tags)?;
+    heaped(alloc, tags, "N", 1, 1000)?;
+    heaped(alloc, tags, "M", 4, 2000)
+}
+
 /// What is known of these tags.
 pub fn tags_of(alloc: Global) -> Result<Tags, AllocError> {
     let mut tags = Tags::new(alloc);
-    with_field(alloc, &mut tags)?;
-    incomplete(alloc, &mut tags)?;
-    with_const(alloc, &mut tags)?;
-    with_anonymous(alloc, &mut tags)?;
-    with_array(alloc, &mut tags)?;
-    heaped(alloc, &mut tags, "N", 1, 1000)?;
-    heaped(alloc, &mut tags, "M", 4, 2000)?;
+    tell_all(alloc, &mut tags)?;
     Ok(tags)
 }

@@ -75,19 +75,33 @@ fn two(alloc: Global) -> Result<Params, AllocError> {
     Params::first(alloc, int(), plain(), more)
 }
 
-fn function(alloc: Global, of: CType, letter: u8) -> Result<CType, AllocError> {
-    let none = Params::of(ParamList::Empty);
+fn params(alloc: Global, letter: u8) -> Result<Params, AllocError> {
     match letter {
-        b'o' => CType::function(alloc, of, none, Proto::Old),
-        b'n' => CType::function(alloc, of, one(alloc, int())?, Proto::Fixed),
-        b't' => CType::function(alloc, of, two(alloc)?, Proto::Fixed),
-        b'V' => CType::function(alloc, of, one(alloc, int())?, Proto::Variadic),
+        b'n' => one(alloc, int()),
+        b't' => two(alloc),
+        b'V' => one(alloc, int()),
         b'p' => {
             let pointer = CType::pointer(alloc, int(), plain())?;
-            CType::function(alloc, of, one(alloc, pointer)?, Proto::Fixed)
+            one(alloc, pointer)
         }
-        _ => CType::function(alloc, of, none, Proto::Fixed),
+        _ => Ok(Params::of(ParamList::Empty)),
     }
+}
+
+fn proto(letter: u8) -> Proto {
+    match letter {
+        b'o' => Proto::Old,
+        b'V' => Proto::Variadic,
+        _ => Proto::Fixed,
+    }
+}
+
+fn function(alloc: Global, of: CType, letter: u8) -> Result<CType, AllocError> {
+    let Ok(params) = params(alloc, letter) else {
+        drop(of);
+        return Err(AllocError);
+    };
+    CType::function(alloc, of, params, proto(letter))
 }
 
 fn extent(letter: u8) -> Option<Extent> {

@@ -157,7 +157,9 @@ pub(crate) fn dot(
         qual: e.qual,
         constant: e.constant,
     };
-    member_of(alloc, at, tags, name, &value.ty, &whole)
+    let judged = member_of(alloc, at, tags, name, &value.ty, &whole);
+    drop(value);
+    judged
 }
 
 fn arrow_from(
@@ -196,5 +198,7 @@ pub(crate) fn arrow(
     let Ok(pointer) = converted(alloc, e) else {
         return Err(CheckError::NoMemory);
     };
-    arrow_from(alloc, at, tags, name, &pointer)
+    let judged = arrow_from(alloc, at, tags, name, &pointer);
+    drop(pointer);
+    judged
 }

@@ -48,7 +48,10 @@ fn types_of(alloc: Global, a: &CType, b: &CType) -> Result<Listing<CType>, Alloc
     ensures { IfOk result (λ types. types ≡ a.now ∷ b.now ∷ []) }
 {
     let a = a.share()?;
-    let b = b.share()?;
+    let Ok(b) = b.share() else {
+        drop(a);
+        return Err(AllocError);
+    };
     let types = vec![in alloc; a, b]?;
     Ok(Listing::from_vec(types))
 }

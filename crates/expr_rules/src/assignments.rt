@@ -94,6 +94,7 @@ fn second_and_third(
         let constant = choice(&ty, test, x.constant, y.constant);
         return Ok(value(ty, constant));
     }
+    drop(ty);
     let Ok(ty) = common(alloc, x, y) else {
         return Err(CheckError::NoMemory);
     };
@@ -126,17 +127,24 @@ pub(crate) fn conditional(
 ) -> Result<Judged, CheckError>
     ensures { result ≢ Err NoMemory → result ≡ spec.conditional at test.now x.now y.now }
 {
-    let ty = usual_type(x, y);
     let Ok(test) = converted(alloc, test) else {
         return Err(CheckError::NoMemory);
     };
-    let Ok(x) = converted(alloc, x) else {
+    let Ok(second) = converted(alloc, x) else {
+        drop(test);
         return Err(CheckError::NoMemory);
     };
-    let Ok(y) = converted(alloc, y) else {
+    let Ok(third) = converted(alloc, y) else {
+        drop(second);
+        drop(test);
         return Err(CheckError::NoMemory);
     };
-    chosen_by(alloc, at, &test, ty, &x, &y)
+    let ty = usual_type(x, y);
+    let chosen = chosen_by(alloc, at, &test, ty, &second, &third);
+    drop(third);
+    drop(second);
+    drop(test);
+    chosen
 }
 
 pub(crate) fn assigned(alloc: Global, at: u32, ty: &CType, r: &Judged) -> Result<Judged, CheckError>

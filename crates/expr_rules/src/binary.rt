@@ -345,6 +345,7 @@ pub(crate) fn binary(
         return Err(CheckError::NoMemory);
     };
     let Ok(b) = converted(alloc, right) else {
+        drop(a);
         return Err(CheckError::NoMemory);
     };
     let promoted = promoted_type(left);
@@ -353,5 +354,10 @@ pub(crate) fn binary(
         promoted: &promoted,
         usual: &usual,
     };
-    by_operator(alloc, at, tags, op, &types, &a, &b)
+    let judged = by_operator(alloc, at, tags, op, &types, &a, &b);
+    drop(usual);
+    drop(promoted);
+    drop(b);
+    drop(a);
+    judged
 }

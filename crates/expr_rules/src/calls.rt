@@ -25,9 +25,13 @@ fn misfit(
             };
             let from = converted(alloc, arg)?;
             if assignable(ty, &from) {
+                drop(from);
                 return misfit(alloc, more, others);
             }
-            let to = ty.share()?;
+            let Ok(to) = ty.share() else {
+                drop(from);
+                return Err(AllocError);
+            };
             Ok(Some((to, from.ty)))
         }
     }
@@ -103,7 +107,12 @@ fn returned(
             };
             Ok(value(ty, Constancy::No))
         }
-        Some((to, from)) => refuse_types(alloc, at, 507, &to, &from),
+        Some((to, from)) => {
+            let refused = refuse_types(alloc, at, 507, &to, &from);
+            drop(from);
+            drop(to);
+            refused
+        }
     }
 }
 
@@ -175,5 +184,7 @@ pub(crate) fn call(
     let Ok(function) = converted(alloc, function) else {
         return Err(CheckError::NoMemory);
     };
-    called_by(alloc, at, tags, args, &function.ty)
+    let judged = called_by(alloc, at, tags, args, &function.ty);
+    drop(function);
+    judged
 }

@@ -117,5 +117,7 @@ pub(crate) fn cast(alloc: Global, at: u32, ty: &CType, e: &Judged) -> Result<Jud
     let Ok(from) = converted(alloc, e) else {
         return Err(CheckError::NoMemory);
     };
-    cast_to(alloc, at, ty, e, &from)
+    let judged = cast_to(alloc, at, ty, e, &from);
+    drop(from);
+    judged
 }

@@ -49,8 +49,11 @@ pub(crate) fn stepped(alloc: Global, at: u32, tags: &Tags, e: &Judged) -> Result
         return Err(CheckError::NoMemory);
     };
     if !steps(tags, &operand.ty) {
-        return refuse_type(alloc, at, 510, &operand.ty);
+        let refused = refuse_type(alloc, at, 510, &operand.ty);
+        drop(operand);
+        return refused;
     }
+    drop(operand);
     let Ok(modifiable) = is_modifiable(alloc, tags, e) else {
         return Err(CheckError::NoMemory);
     };
@@ -82,7 +85,9 @@ pub(crate) fn assign(
     let Ok(right) = converted(alloc, right) else {
         return Err(CheckError::NoMemory);
     };
-    assigned(alloc, at, &left.ty, &right)
+    let judged = assigned(alloc, at, &left.ty, &right);
+    drop(right);
+    judged
 }
 
 /// `op=`.
@@ -106,7 +111,11 @@ pub(crate) fn assign_by(
         return Err(CheckError::NoMemory);
     };
     let Ok(b) = converted(alloc, right) else {
+        drop(a);
         return Err(CheckError::NoMemory);
     };
-    operated(alloc, at, tags, op, &a, &b)
+    let judged = operated(alloc, at, tags, op, &a, &b);
+    drop(b);
+    drop(a);
+    judged
 }

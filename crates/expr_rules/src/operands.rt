@@ -28,5 +28,10 @@ pub(crate) fn promoted_type(j: &Judged) -> CType
 pub(crate) fn usual_type(a: &Judged, b: &Judged) -> CType
     ensures { result ≡ spec.usual_type a.now b.now }
 {
-    usual(&promoted_type(a), &promoted_type(b))
+    let a = promoted_type(a);
+    let b = promoted_type(b);
+    let ty = usual(&a, &b);
+    drop(b);
+    drop(a);
+    ty
 }

@@ -80,9 +80,13 @@ pub(crate) fn index(
         return Err(CheckError::NoMemory);
     };
     let Ok(b) = converted(alloc, number) else {
+        drop(a);
         return Err(CheckError::NoMemory);
     };
-    subscript(alloc, at, tags, &a, &b)
+    let judged = subscript(alloc, at, tags, &a, &b);
+    drop(b);
+    drop(a);
+    judged
 }
 
 fn literal_constant(scope: ScopeKind) -> Constancy

@@ -211,7 +211,9 @@ pub(crate) fn generic(
         let Ok(controlling) = converted(alloc, controlling) else {
             return Err(CheckError::NoMemory);
         };
-        return selected(alloc, at, &controlling.ty, associations, parts);
+        let judged = selected(alloc, at, &controlling.ty, associations, parts);
+        drop(controlling);
+        return judged;
     }
     refuse(alloc, at, 502)
 }

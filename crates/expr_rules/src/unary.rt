@@ -59,7 +59,9 @@ pub(crate) fn dereference(alloc: Global, at: u32, e: &Judged) -> Result<Judged, 
     let Ok(e) = converted(alloc, e) else {
         return Err(CheckError::NoMemory);
     };
-    dereferenced(alloc, at, &e)
+    let judged = dereferenced(alloc, at, &e);
+    drop(e);
+    judged
 }
 
 fn takes(op: Op, ty: &CType) -> bool
@@ -95,7 +97,10 @@ fn unary_type(op: Op, promoted: CType) -> CType
     ensures { result ≡ spec.unary_type op promoted }
 {
     match op {
-        Op::LogNot => CType::of(Node::Basic(Basic::Int)),
+        Op::LogNot => {
+            drop(promoted);
+            CType::of(Node::Basic(Basic::Int))
+        }
         Op::Plus => promoted,
         Op::Minus => promoted,
         Op::BitNot => promoted,
@@ -133,6 +138,7 @@ fn unary_by(
         let constant = constants::unary(op, &promoted, e.constant);
         return Ok(value(unary_type(op, promoted), constant));
     }
+    drop(promoted);
     refuse_type(alloc, at, 515, &e.ty)
 }
 
@@ -140,11 +146,12 @@ fn unary_by(
 pub(crate) fn unary(alloc: Global, at: u32, op: Op, e: &Judged) -> Result<Judged, CheckError>
     ensures { result ≢ Err NoMemory → result ≡ spec.unary at op e.now }
 {
-    let promoted = promoted_type(e);
-    let Ok(e) = converted(alloc, e) else {
+    let Ok(operand) = converted(alloc, e) else {
         return Err(CheckError::NoMemory);
     };
-    unary_by(alloc, at, op, promoted, &e)
+    let judged = unary_by(alloc, at, op, promoted_type(e), &operand);
+    drop(operand);
+    judged
 }
 
 /// The type size_t.

@@ -87,7 +87,9 @@ pub fn body(alloc: Global, tags: &Tags, line: &str) -> Result<String, AllocError
         return begun(alloc, tags, kind, None, &[]);
     }
     let entity = tag_entity(alloc, has, letter)?;
-    begun_again(alloc, tags, kind, &entity, letter, is_round)
+    let shown = begun_again(alloc, tags, kind, &entity, letter, is_round);
+    drop(entity);
+    shown
 }
 
 /// A static assertion: its value, and the pieces of its string.

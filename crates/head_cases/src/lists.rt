@@ -17,7 +17,8 @@ fn declare(alloc: Global, scopes: &mut Scopes, enumerated: &Enumerated) -> Resul
     }
     let name = entity.name.share()?;
     let entity = entity.share(alloc)?;
-    scopes.declare(Space::Ordinary, name, entity)?;
+    let before = scopes.declare(Space::Ordinary, name, entity)?;
+    drop(before);
     Ok(())
 }
 
@@ -34,8 +35,13 @@ fn add_enumerator(
     };
     let name = name_token(alloc, name, at)?;
     let enumerated = list.add(alloc, scopes, &name, constant_named(value))?;
-    let shown = shown_enumerator(alloc, &enumerated)?;
-    declare(alloc, scopes, &enumerated)?;
+    let Ok(shown) = shown_enumerator(alloc, &enumerated) else {
+        drop(enumerated);
+        return Err(AllocError);
+    };
+    let declared = declare(alloc, scopes, &enumerated);
+    drop(enumerated);
+    declared?;
     Ok(shown)
 }
 
@@ -83,8 +89,12 @@ fn add_field(
     at: u32,
 ) -> Result<String, AllocError> {
     let parts = field_named(alloc, word, at)?;
-    let fielded = fields.add(alloc, tags, &parts)?;
-    shown_field(alloc, &fielded)
+    let fielded = fields.add(alloc, tags, &parts);
+    drop(parts);
+    let fielded = fielded?;
+    let shown = shown_field(alloc, &fielded);
+    drop(fielded);
+    shown
 }
 
 fn add_faults(alloc: Global, out: &mut String, faults: &[Fault]) -> Result<(), AllocError> {

@@ -236,8 +236,8 @@ fn member(parts: &FieldParts) -> Result<Member, AllocError>
     ensures { IfOk result (λ m. m ≡ spec.member parts.now) }
 {
     let name = name_of(&parts.name)?;
-    let ty = parts.ty.share()?;
     let at = token_of(&parts.name)?;
+    let ty = parts.ty.share()?;
     Ok(Member {
         name,
         ty,

@@ -58,10 +58,10 @@ pub(crate) fn at_first(alloc: Global, conf: &UnitConf) -> Result<Reading, AllocE
     ensures { IfOk result (λ reading. stack.reading_left conf.now.includes reading ≡ unit_tokens conf.now) }
 {
     let command = command_frame(alloc, conf.defines.as_slice())?;
-    let file = file_of(alloc, &conf.file)?;
-    let made = Made::at_first(alloc, &conf.file)?;
     let mut frames = Frames::new(alloc);
     frames.push(command)?;
+    let file = file_of(alloc, &conf.file)?;
+    let made = Made::at_first(alloc, &conf.file)?;
     Ok(Reading {
         frames,
         later: Some(file),
@@ -117,12 +117,16 @@ fn step_in(
             Ok(Step::Need(want))
         }
         Moved::Enters(inner) => {
-            reading.frames.push(Frame {
+            let Ok(()) = reading.frames.push(Frame {
                 place,
                 rest,
                 opens,
                 hand: Hand::Empty,
-            })?;
+            })
+            else {
+                drop(inner);
+                return Err(AllocError);
+            };
             reading.frames.push(inner)?;
             Ok(Step::On)
         }

@@ -108,9 +108,16 @@ fn going(alloc: Global, conf: &UnitConf, files: &Told, reading: &mut Kept) -> Re
 {
     let before = reading.take();
     let mut now = taken_up(alloc, conf, before)?;
-    match read_on(alloc, conf.includes.as_slice(), files, &mut now)? {
+    let Ok(want) = read_on(alloc, conf.includes.as_slice(), files, &mut now) else {
+        drop(now);
+        return Err(AllocError);
+    };
+    match want {
         Some(want) => {
-            let wants = needs(alloc, want)?;
+            let Ok(wants) = needs(alloc, want) else {
+                drop(now);
+                return Err(AllocError);
+            };
             reading.keep(alloc, now)?;
             Ok(Go::Need(wants))
         }

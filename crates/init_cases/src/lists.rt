@@ -33,7 +33,9 @@ fn takes(
     tags: &Tags,
 ) -> Result<bool, AllocError> {
     let piece = piece_named(alloc, word)?;
-    Ok(takes_all(alloc, state, &piece, tags, 1))
+    let taken = takes_all(alloc, state, &piece, tags, 1);
+    drop(piece);
+    Ok(taken)
 }
 
 fn takes_list(
@@ -43,7 +45,9 @@ fn takes_list(
     count: u32,
 ) -> Result<bool, AllocError> {
     let piece = piece_named(alloc, "i=1")?;
-    Ok(takes_all(alloc, state, &piece, tags, count))
+    let taken = takes_all(alloc, state, &piece, tags, count);
+    drop(piece);
+    Ok(taken)
 }
 
 // The members in order, each by its name.
@@ -101,8 +105,10 @@ fn shown(
 ) -> Result<String, AllocError> {
     let fits = listed(alloc, state, tags, count, named)?;
     let ty = completed(alloc, state)?;
-    let ty = print(alloc, &ty, plain(), "", tags)?;
-    let ty = ty.as_str();
+    let text = print(alloc, &ty, plain(), "", tags);
+    drop(ty);
+    let text = text?;
+    let ty = text.as_str();
     if fits {
         return format!(in alloc; " {ty}, and no more");
     }

@@ -69,7 +69,9 @@ fn step_by(
     tags: &Tags,
 ) -> Result<String, AllocError> {
     let piece = piece_named(alloc, word)?;
-    stepped(alloc, state, &piece, tags)
+    let shown = stepped(alloc, state, &piece, tags);
+    drop(piece);
+    shown
 }
 
 fn push_type(
@@ -79,7 +81,9 @@ fn push_type(
     out: &mut String,
 ) -> Result<(), AllocError> {
     let ty = completed(alloc, state)?;
-    let shown = print(alloc, &ty, plain(), "", tags)?;
+    let shown = print(alloc, &ty, plain(), "", tags);
+    drop(ty);
+    let shown = shown?;
     out.push_str(" ")?;
     out.push_str(shown.as_str())
 }

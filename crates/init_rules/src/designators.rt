@@ -58,7 +58,10 @@ fn enter(places: &mut Places, spot: Spot) -> Result<(), AllocError>
         Spot::Unchecked => Ok(()),
         Spot::Full => places.push(spent()),
         Spot::At(number, ty) => {
-            take(places, number)?;
+            let Ok(()) = take(places, number) else {
+                drop(ty);
+                return Err(AllocError);
+            };
             places.push(place(ty, 0, false))
         }
     }

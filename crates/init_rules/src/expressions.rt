@@ -157,7 +157,7 @@ fn expressed(
         constant: state.constant,
     };
     let spot = spot_of(tags, state.designating, e, &state.open_places)?;
-    let fault = at_spot(
+    let Ok(fault) = at_spot(
         alloc,
         setting,
         tags,
@@ -165,8 +165,12 @@ fn expressed(
         e,
         &mut state.open_places,
         &spot,
-    )?;
+    ) else {
+        drop(spot);
+        return Err(AllocError);
+    };
     let length = whole_length(&state.ty, e, &spot);
+    drop(spot);
     end_step(state, false, length as u128);
     Ok(fault)
 }
@@ -229,9 +233,16 @@ fn open_at(
             Ok(fault)
         }
         Spot::At(number, ty) => {
-            take(places, number)?;
-            let ty = list_type(tags, &ty)?;
-            places.push(place(ty, 0, true))?;
+            let Ok(()) = take(places, number) else {
+                drop(ty);
+                return Err(AllocError);
+            };
+            let Ok(list) = list_type(tags, &ty) else {
+                drop(ty);
+                return Err(AllocError);
+            };
+            drop(ty);
+            places.push(place(list, 0, true))?;
             Ok(None)
         }
     }

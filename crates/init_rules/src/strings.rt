@@ -146,11 +146,14 @@ pub(crate) fn fill(text: &CType, pointer: &CType, places: &mut Places) -> Result
     match places.pop() {
         Some(p) => {
             let length = outermost_length(text, places);
+            let braced = p.braced;
+            let overfull = p.overfull;
+            drop(p);
             places.push(OpenPlace {
                 ty: pointer.share()?,
                 next: 1,
-                braced: p.braced,
-                overfull: p.overfull,
+                braced,
+                overfull,
             })?;
             Ok(length)
         }

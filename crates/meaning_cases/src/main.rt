@@ -11,27 +11,43 @@ mod shown;
 mod unit;
 mod words;
 
-use std::io;
 use std::io::Read;
+use std::{io, mem};
 use unit::Unit;
+
+fn show_unit(rt: &HostRuntime, unit: &mut Unit) -> io::Result<()> {
+    let shown = unit.meaning(rt.alloc())?;
+    let shown = shown.as_str();
+    print!(rt; "{shown}")?;
+    let before = mem::replace(unit, Unit::new(rt.alloc()));
+    drop(before);
+    Ok(())
+}
+
+fn show_line(rt: &HostRuntime, unit: &mut Unit, line: &str) -> io::Result<()> {
+    if line == "end" {
+        return show_unit(rt, unit);
+    }
+    if !unit.read(rt.alloc(), line)? {
+        println!(rt; "{line} is no line")?;
+    }
+    Ok(())
+}
+
+fn show_all(rt: &HostRuntime, unit: &mut Unit, text: &str) -> io::Result<()> {
+    for line in text.lines() {
+        show_line(rt, unit, line)?;
+    }
+    Ok(())
+}
 
 fn show_lines(rt: &HostRuntime) -> io::Result<()> {
     let mut text = String::new(rt.alloc());
     rt.stdin().read_to_string(&mut text)?;
     let mut unit = Unit::new(rt.alloc());
-    for line in text.lines() {
-        if line == "end" {
-            let shown = unit.meaning(rt.alloc())?;
-            let shown = shown.as_str();
-            print!(rt; "{shown}")?;
-            unit = Unit::new(rt.alloc());
-            continue;
-        }
-        if !unit.read(rt.alloc(), line)? {
-            println!(rt; "{line} is no line")?;
-        }
-    }
-    Ok(())
+    let shown = show_all(rt, &mut unit, text.as_str());
+    drop(unit);
+    shown
 }
 
 fn main(rt: HostRuntime) -> io::Result<()> {

@@ -33,6 +33,20 @@ fn anchor(alloc: Global, items: &[Item], word: &str) -> Result<Option<Anchor>, A
     })))
 }
 
+fn tag_named(items: &[Item], word: &str) -> Result<Option<TagId>, AllocError> {
+    let Some((of, at)) = word.split_once('.') else {
+        return Ok(None);
+    };
+    let Some(of) = items.get(number(Some(of)) as usize) else {
+        return Ok(None);
+    };
+    let item = share_item(&of.name)?;
+    Ok(Some(TagId {
+        item,
+        at: number(Some(at)),
+    }))
+}
+
 /// What is said of the head or body of an item.
 #[derive(Drop)]
 pub struct Part {
@@ -68,7 +82,12 @@ impl Part {
         kind: EntityKind,
         ty: CType,
     ) -> Result<(), AllocError> {
-        let name = Name::from_str(alloc, name)?;
+        let Ok(name) = Name::from_str(alloc, name) else {
+            drop(anchor);
+            drop(kind);
+            drop(ty);
+            return Err(AllocError);
+        };
         let entity = Entity {
             name,
             kind,
@@ -91,16 +110,21 @@ impl Part {
         id: TagId,
         complete: bool,
     ) -> Result<(), AllocError> {
+        let Ok(known) = Name::from_str(alloc, name) else {
+            drop(anchor);
+            return Err(AllocError);
+        };
+        let Ok(ty) = type_named(alloc, &self.item, "int") else {
+            drop(anchor);
+            return Err(AllocError);
+        };
         let members = if complete { Some(none(alloc)) } else { None };
-        let known = Name::from_str(alloc, name)?;
         let info = TagInfo {
             kind: TagKind::Struct,
             name: Some(known),
             members,
             layout: None,
         };
-        let item = share_item(&self.item)?;
-        let ty = type_named(alloc, &item, "int")?;
         self.entity(alloc, name, anchor, EntityKind::Tag(id, info), ty)
     }
 
@@ -176,24 +200,25 @@ impl Part {
         if what == "occ" {
             return self.occ(alloc, number(Some(first)), anchor, rest);
         }
-        let item = share_item(&self.item)?;
         if what == "object" {
-            let ty = type_named(alloc, &item, rest)?;
+            let Ok(ty) = type_named(alloc, &self.item, rest) else {
+                drop(anchor);
+                return Err(AllocError);
+            };
             self.entity(alloc, first, anchor, EntityKind::Object, ty)?;
             return Ok(true);
         }
         let Some((at, members)) = rest.split_once(' ') else {
+            drop(anchor);
             return Ok(false);
         };
-        let Some((of, at)) = at.split_once('.') else {
-            return Ok(false);
+        let Ok(id) = tag_named(items, at) else {
+            drop(anchor);
+            return Err(AllocError);
         };
-        let Some(of) = items.get(number(Some(of)) as usize) else {
+        let Some(id) = id else {
+            drop(anchor);
             return Ok(false);
-        };
-        let id = TagId {
-            item: share_item(&of.name)?,
-            at: number(Some(at)),
         };
         self.tag(alloc, first, anchor, id, members == "complete")?;
         Ok(true)

@@ -109,6 +109,7 @@ pub fn type_named(alloc: Global, item: &ItemName, word: &str) -> Result<CType, A
     let Ok(at) = word.parse::<u32>() else {
         return Ok(int);
     };
+    drop(int);
     let item = share_item(item)?;
     Ok(CType::of(Node::Tagged(TagId { item, at })))
 }

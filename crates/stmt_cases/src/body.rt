@@ -77,24 +77,28 @@ impl Body {
 
     fn test(&mut self, alloc: Global, at: u32, word: &str) -> Result<(), AllocError> {
         let judged = part_named(alloc, word)?;
-        let fault = check_if(alloc, at, &judged)?;
-        self.tell(fault)
+        let fault = check_if(alloc, at, &judged);
+        drop(judged);
+        self.tell(fault?)
     }
 
     fn repeat(&mut self, alloc: Global, at: u32, word: &str) -> Result<(), AllocError> {
         if !word.is_empty() {
             let judged = part_named(alloc, word)?;
-            let fault = check_loop(alloc, at, &judged)?;
-            self.tell(fault)?;
+            let fault = check_loop(alloc, at, &judged);
+            drop(judged);
+            self.tell(fault?)?;
         }
         self.go_in(self.within.looped())
     }
 
     fn switch(&mut self, alloc: Global, at: u32, word: &str) -> Result<(), AllocError> {
         let judged = part_named(alloc, word)?;
-        let fault = check_switch(alloc, at, &judged)?;
-        self.tell(fault)?;
-        self.switches.enter(alloc, &judged)?;
+        let fault = check_switch(alloc, at, &judged);
+        let entered = self.switches.enter(alloc, &judged);
+        drop(judged);
+        self.tell(fault?)?;
+        entered?;
         self.go_in(self.within.switched())
     }
 
@@ -117,10 +121,12 @@ impl Body {
         let name = Name::from_str(alloc, word)?;
         let fault = check_label(alloc, at, &name, &self.labels)?;
         self.tell(fault)?;
-        let label = label(&name)?;
-        if 0 < self.labels.depth() {
-            self.labels.declare(Space::Labels, name, label)?;
+        if self.labels.depth() == 0 {
+            return Ok(());
         }
+        let label = label(&name)?;
+        let before = self.labels.declare(Space::Labels, name, label)?;
+        drop(before);
         Ok(())
     }
 
@@ -136,8 +142,9 @@ impl Body {
             return self.tell(fault);
         }
         let judged = part_named(alloc, word)?;
-        let fault = check_return(alloc, at, &self.function, Some(&judged))?;
-        self.tell(fault)
+        let fault = check_return(alloc, at, &self.function, Some(&judged));
+        drop(judged);
+        self.tell(fault?)
     }
 
     fn begin_for(&mut self, alloc: Global, at: u32, words: &str) -> Result<(), AllocError> {

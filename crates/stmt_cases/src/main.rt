@@ -80,7 +80,9 @@ fn answer(alloc: Global, tags: &Tags, line: &str) -> Result<String, AllocError> 
     };
     let ty = type_named(alloc, word)?;
     let mut body = Body::new(alloc, ty);
-    answers(alloc, tags, &mut body, statements)
+    let shown = answers(alloc, tags, &mut body, statements);
+    drop(body);
+    shown
 }
 
 fn number_behind(line: &str, word: &str) -> Option<u32> {

@@ -26,7 +26,9 @@ fn add_all(
     count: u32,
 ) -> Result<(), AllocError> {
     let judged = part_named(alloc, "u")?;
-    switches.enter(alloc, &judged)?;
+    let entered = switches.enter(alloc, &judged);
+    drop(judged);
+    entered?;
     for number in 0..count {
         add(alloc, switches, faults, number, number)?;
     }

@@ -168,6 +168,7 @@ fn statement<'a>(alloc: Global, scope: &Scope<'a>, at: u32) -> Result<(Stmt, Sco
             Err(stop) => return Err(stop),
         };
         let Ok(known) = outside(outer, front, place, &step, &behind) else {
+            drop(step);
             return Err(Stop::NoMemory);
         };
         let progress = match taken(alloc, scope, at, frames, leads, place, step, behind, next) {
@@ -177,6 +178,7 @@ fn statement<'a>(alloc: Global, scope: &Scope<'a>, at: u32) -> Result<(Stmt, Sco
         match progress {
             Progress::Whole(stmt, end) => {
                 let Some(last) = known else {
+                    drop(stmt);
                     return Err(Stop::NoMemory);
                 };
                 return Ok((stmt, last, end));

@@ -23,10 +23,13 @@ fn answered(alloc: Global, line: &str) -> Result<Option<bool>, AllocError> {
     let mut read = Notes::new(alloc);
     for word in words {
         if !read.word(alloc, word)? {
+            drop(read);
             return Ok(None);
         }
     }
-    read.answer(alloc, call)
+    let answer = read.answer(alloc, call);
+    drop(read);
+    answer
 }
 
 /// The text of a type, or none where the words aren't one: they begin with its own qualifiers and a name, `-` for none.
@@ -38,10 +41,13 @@ fn printed(alloc: Global, words: &str) -> Result<Option<String>, AllocError> {
     let mut read = Notes::new(alloc);
     for word in words {
         if !read.word(alloc, word)? {
+            drop(read);
             return Ok(None);
         }
     }
-    read.printed(alloc, quals, if name == "-" { "" } else { name })
+    let text = read.printed(alloc, quals, if name == "-" { "" } else { name });
+    drop(read);
+    text
 }
 
 fn show_printed(rt: &HostRuntime, line: &str, words: &str) -> io::Result<()> {
@@ -66,10 +72,15 @@ fn messaged(alloc: Global, words: &str) -> Result<Option<Name>, AllocError> {
     let mut read = Notes::new(alloc);
     for word in words {
         if !read.word(alloc, word)? {
+            drop(read);
             return Ok(None);
         }
     }
-    let message = read.message(alloc, rule, names)?;
+    let Ok(message) = read.message(alloc, rule, names) else {
+        drop(read);
+        return Err(AllocError);
+    };
+    drop(read);
     Ok(Some(message))
 }
 

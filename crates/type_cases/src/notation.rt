@@ -16,6 +16,13 @@ fn names_of(alloc: Global, words: &str) -> Result<Listing<Name>, AllocError> {
     Ok(Listing::from_vec(names))
 }
 
+fn made_of(alloc: Global, call: &str, first: &CType, second: &CType) -> Result<CType, AllocError> {
+    if call == "composite" {
+        return composite(alloc, first, second);
+    }
+    Ok(usual(first, second))
+}
+
 /// What was read.
 #[derive(Drop)]
 pub struct Notes {
@@ -53,9 +60,11 @@ impl Notes {
 
     fn read_array(&mut self, alloc: Global, of: CType, word: &str) -> Result<bool, AllocError> {
         let Some((quals, extent)) = word.split_once(':') else {
+            drop(of);
             return Ok(false);
         };
         let Some(extent) = extent_named(extent) else {
+            drop(of);
             return Ok(false);
         };
         let array = CType::array(alloc, of, qual_named(quals), extent)?;
@@ -74,9 +83,12 @@ impl Notes {
 
     fn read_function(&mut self, alloc: Global, of: CType, word: &str) -> Result<bool, AllocError> {
         let Some(params) = self.params.pop() else {
+            drop(of);
             return Ok(false);
         };
         let Some(proto) = proto_named(word) else {
+            drop(params);
+            drop(of);
             return Ok(false);
         };
         let function = CType::function(alloc, of, params, proto)?;
@@ -158,9 +170,15 @@ impl Notes {
     // The answer of a call on two types, or on one and the type of a value.
     fn of_two(&mut self, call: &str) -> Option<bool> {
         let second = self.types.pop()?;
-        let first = self.types.pop()?;
+        let Some(first) = self.types.pop() else {
+            drop(second);
+            return None;
+        };
         if call == "compatible" {
-            return Some(compatible(&first, &second));
+            let yes = compatible(&first, &second);
+            drop(first);
+            drop(second);
+            return Some(yes);
         }
         let from = Judged {
             ty: second,
@@ -168,7 +186,10 @@ impl Notes {
             place: Place::Value,
             constant: self.constant,
         };
-        Some(assignable(&first, &from))
+        let yes = assignable(&first, &from);
+        drop(from);
+        drop(first);
+        Some(yes)
     }
 
     fn of_size(&mut self) -> Option<bool> {
@@ -178,19 +199,44 @@ impl Notes {
 
     // Whether a call on two types answers a third.
     fn of_three(&mut self, alloc: Global, call: &str) -> Result<Option<bool>, AllocError> {
-        let (Some(wanted), Some(second), Some(first)) = (
-            self.types.pop(),
-            self.types.pop(),
-            self.types.pop(),
-        ) else {
+        let Some(wanted) = self.types.pop() else {
             return Ok(None);
         };
-        let made = if call == "composite" {
-            composite(alloc, &first, &second)?
-        } else {
-            usual(&first, &second)
+        let Some(second) = self.types.pop() else {
+            drop(wanted);
+            return Ok(None);
         };
-        Ok(Some(made == wanted))
+        let Some(first) = self.types.pop() else {
+            drop(second);
+            drop(wanted);
+            return Ok(None);
+        };
+        let made = made_of(alloc, call, &first, &second);
+        drop(first);
+        drop(second);
+        let Ok(made) = made else {
+            drop(wanted);
+            return Err(AllocError);
+        };
+        let same = made == wanted;
+        drop(made);
+        drop(wanted);
+        Ok(Some(same))
+    }
+
+    // Whether a type is promoted to another.
+    fn of_promoted(&mut self) -> Option<bool> {
+        let wanted = self.types.pop()?;
+        let Some(first) = self.types.pop() else {
+            drop(wanted);
+            return None;
+        };
+        let made = promote(&first, self.width);
+        drop(first);
+        let same = made == wanted;
+        drop(made);
+        drop(wanted);
+        Some(same)
     }
 
     /// The text of the last type that was read, round a name.
@@ -203,7 +249,11 @@ impl Notes {
         let Some(ty) = self.types.pop() else {
             return Ok(None);
         };
-        let text = self.laying.printed(alloc, &ty, qual_named(quals), name)?;
+        let Ok(text) = self.laying.printed(alloc, &ty, qual_named(quals), name) else {
+            drop(ty);
+            return Err(AllocError);
+        };
+        drop(ty);
         Ok(Some(text))
     }
 
@@ -233,11 +283,8 @@ impl Notes {
         if call == "size_align" {
             return Ok(self.of_size());
         }
-        let (Some(wanted), Some(first)) = (self.types.pop(), self.types.pop()) else {
-            return Ok(None);
-        };
         if call == "promote" {
-            return Ok(Some(promote(&first, self.width) == wanted));
+            return Ok(self.of_promoted());
         }
         Ok(None)
     }

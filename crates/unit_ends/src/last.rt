@@ -69,8 +69,8 @@ fn bind_all<'a>(
     Ok(())
 }
 
-/// The entities of all names that the heads of a unit declare at file scope.
-pub(crate) fn entities_at_end<'a>(
+// The entities of all names that the heads of a unit declare at file scope.
+fn entities_at_end<'a>(
     alloc: Global,
     heads: &'a [HeadMeaning],
 ) -> Result<HashMap<Name, &'a Entity>, AllocError>
@@ -140,11 +140,8 @@ fn note_entities(tags: &mut HashSet<TagId>, entities: &[Entity]) -> Result<(), A
     Ok(())
 }
 
-/// The tags that the heads of a unit complete.
-pub(crate) fn complete_tags(
-    alloc: Global,
-    heads: &[HeadMeaning],
-) -> Result<HashSet<TagId>, AllocError>
+// The tags that the heads of a unit complete.
+fn complete_tags(alloc: Global, heads: &[HeadMeaning]) -> Result<HashSet<TagId>, AllocError>
     ensures { IfOk result (λ tags. (q : Tag) → has_tag tags q ≡ spec.is_complete q heads.now) }
 {
     let mut tags = no_tags(alloc);
@@ -154,6 +151,19 @@ pub(crate) fn complete_tags(
         rest = behind;
     }
     Ok(tags)
+}
+
+/// The entities of the names of a unit, and its complete tags.
+pub(crate) fn known_at_end<'a>(
+    alloc: Global,
+    heads: &'a [HeadMeaning],
+) -> Result<(HashMap<Name, &'a Entity>, HashSet<TagId>), AllocError>
+    ensures entities { IfOk result (λ r. (q : List ℕ) → at r.0 q ≡ spec.last q heads.now) }
+    ensures tags { IfOk result (λ r. (q : Tag) → has_tag r.1 q ≡ spec.is_complete q heads.now) }
+{
+    let entities = entities_at_end(alloc, heads)?;
+    let tags = complete_tags(alloc, heads)?;
+    Ok((entities, tags))
 }
 
 pub(crate) fn has_one(linkage: Linkage) -> bool

@@ -64,8 +64,8 @@ fn note_statements(
     Ok(())
 }
 
-/// The names of all statements of a unit that are what is asked for.
-pub(crate) fn names_stated(
+// The names of all statements of a unit that are what is asked for.
+fn names_stated(
     alloc: Global,
     asked: Asked,
     heads: &[HeadMeaning],
@@ -79,6 +79,21 @@ pub(crate) fn names_stated(
         rest = behind;
     }
     Ok(names)
+}
+
+/// The names that the statements of a unit define, those that they define tentatively, and those that they define or would.
+pub(crate) fn names_given(
+    alloc: Global,
+    heads: &[HeadMeaning],
+) -> Result<(HashSet<Name>, HashSet<Name>, HashSet<Name>), AllocError>
+    ensures defined { IfOk result (λ r. (q : List ℕ) → has r.0 q ≡ spec.stated spec.defines q heads.now) }
+    ensures tentative { IfOk result (λ r. (q : List ℕ) → has r.1 q ≡ spec.stated spec.is_tentative q heads.now) }
+    ensures given { IfOk result (λ r. (q : List ℕ) → has r.2 q ≡ spec.stated spec.gives q heads.now) }
+{
+    let defined = names_stated(alloc, Asked::Defined, heads)?;
+    let tentative = names_stated(alloc, Asked::Tentative, heads)?;
+    let given = names_stated(alloc, Asked::Given, heads)?;
+    Ok((defined, tentative, given))
 }
 
 fn note_all(names: &mut HashSet<Name>, used: &[Name]) -> Result<(), AllocError>
@@ -114,8 +129,8 @@ fn note_bodies(names: &mut HashSet<Name>, bodies: &[BodyMeaning]) -> Result<(), 
     Ok(())
 }
 
-/// The names that the heads and bodies of a unit use.
-pub(crate) fn names_used(
+// The names that the heads and bodies of a unit use.
+fn names_used(
     alloc: Global,
     heads: &[HeadMeaning],
     bodies: &[BodyMeaning],
@@ -151,11 +166,8 @@ fn note_externals(names: &mut HashSet<Name>, entities: &[Entity]) -> Result<(), 
     Ok(())
 }
 
-/// The names that bodies declare with external linkage.
-pub(crate) fn names_external(
-    alloc: Global,
-    bodies: &[BodyMeaning],
-) -> Result<HashSet<Name>, AllocError>
+// The names that bodies declare with external linkage.
+fn names_external(alloc: Global, bodies: &[BodyMeaning]) -> Result<HashSet<Name>, AllocError>
     ensures { IfOk result (λ names. (q : List ℕ) → has names q ≡ spec.bodies_declare q bodies.now) }
 {
     let mut names = no_names(alloc);
@@ -165,4 +177,18 @@ pub(crate) fn names_external(
         rest = behind;
     }
     Ok(names)
+}
+
+/// The names that the heads and bodies of a unit use, and those that bodies declare with external linkage.
+pub(crate) fn names_mentioned(
+    alloc: Global,
+    heads: &[HeadMeaning],
+    bodies: &[BodyMeaning],
+) -> Result<(HashSet<Name>, HashSet<Name>), AllocError>
+    ensures used { IfOk result (λ r. (q : List ℕ) → has r.0 q ≡ spec.is_used q heads.now bodies.now) }
+    ensures external { IfOk result (λ r. (q : List ℕ) → has r.1 q ≡ spec.bodies_declare q bodies.now) }
+{
+    let used = names_used(alloc, heads, bodies)?;
+    let external = names_external(alloc, bodies)?;
+    Ok((used, external))
 }

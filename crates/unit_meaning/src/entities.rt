@@ -42,7 +42,10 @@ impl ByAnchor {
     fn put(&mut self, entity: Entity) -> Result<(), AllocError>
         ensures { OnOk result (self.new ≡ spec.put self.old entity) }
     {
-        let anchor = entity.anchor.share()?;
+        let Ok(anchor) = entity.anchor.share() else {
+            drop(entity);
+            return Err(AllocError);
+        };
         self.map.insert(anchor, entity)?;
         Ok(())
     }

@@ -73,11 +73,17 @@ impl Current {
         let code = refusal_code(&refusal);
         let name = refusal_name(&refusal);
         match refusal {
-            RenameError::NoMemory => Err(AllocError),
-            _ => match error(self.alloc, Some(id), code, name) {
-                Ok(bytes) => Ok(bytes),
-                Err(_) => Err(AllocError),
-            },
+            RenameError::NoMemory => {
+                drop(refusal);
+                Err(AllocError)
+            }
+            _ => {
+                drop(refusal);
+                match error(self.alloc, Some(id), code, name) {
+                    Ok(bytes) => Ok(bytes),
+                    Err(_) => Err(AllocError),
+                }
+            }
         }
     }
 
@@ -114,7 +120,6 @@ impl Current {
     {
         texts_stay_short();
         renames_keep_bindings();
-        let conf = self.conf_now()?;
         let found = token_at(
             &self.kept,
             &self.docs,
@@ -126,6 +131,7 @@ impl Current {
             let bytes = self.refuse_rename(id, RenameError::NoName)?;
             return Ok(bytes);
         };
+        let conf = self.conf_now()?;
         match renamed(
             &self.kept,
             &self.docs,
@@ -135,10 +141,12 @@ impl Current {
             steps,
         ) {
             Ok(edits) => {
+                drop(conf);
                 let bytes = self.edits_told(id, &edits)?;
                 Ok(bytes)
             }
             Err(refusal) => {
+                drop(conf);
                 let bytes = self.refuse_rename(id, refusal)?;
                 Ok(bytes)
             }

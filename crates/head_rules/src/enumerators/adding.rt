@@ -185,9 +185,9 @@ impl Enumerators {
         let stated = stated(value, self.value);
         let value = value_of(before, stated);
         let fault = fault_of(alloc, name, before, stated)?;
-        let entity = entity_of(name, before, value)?;
         let member = member(name, value)?;
         self.list.push(member)?;
+        let entity = entity_of(name, before, value)?;
         self.value = after(value);
         Ok(Enumerated { entity, fault })
     }

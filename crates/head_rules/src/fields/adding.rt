@@ -159,7 +159,10 @@ impl Fields {
     fn push(&mut self, member: Member, brought: &[(Name, TagId)]) -> Result<(), AllocError>
         ensures { OnOk result (self.new ≡ spec.gathered member brought.now self.old) }
     {
-        note_all(&mut self.map, brought)?;
+        let Ok(()) = note_all(&mut self.map, brought) else {
+            drop(member);
+            return Err(AllocError);
+        };
         self.list.push(member)?;
         Ok(())
     }
@@ -175,8 +178,14 @@ impl Fields {
         ensures { IfOk result (λ d. (d, self.new) ≡ spec.added parts.now brought.now fault.now self.old) }
     {
         let member = member_of(parts, fault)?;
-        let denotes = denoted(&parts.name, &member, &self.map)?;
-        self.push(member, brought)?;
+        let Ok(denotes) = denoted(&parts.name, &member, &self.map) else {
+            drop(member);
+            return Err(AllocError);
+        };
+        let Ok(()) = self.push(member, brought) else {
+            drop(denotes);
+            return Err(AllocError);
+        };
         Ok(denotes)
     }
 

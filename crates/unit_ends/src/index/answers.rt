@@ -4,9 +4,8 @@ ghost use Rattle.unit_ends.specs.Ends as spec;
 ghost use Rattle.unit_ends.specs.Last as ends;
 
 use super::Index;
-use crate::asked::Asked;
-use crate::last::{complete_tags, entities_at_end, has_one, has_tag, last, unsized_extent};
-use crate::names::{has, names_external, names_stated, names_used};
+use crate::last::{has_one, has_tag, known_at_end, last, unsized_extent};
+use crate::names::{has, names_given, names_mentioned};
 use scope_tables::{BodyMeaning, Entity, HeadMeaning, Linkage};
 use shared_text::Name;
 use std::alloc::{AllocError, Global};
@@ -21,13 +20,9 @@ impl<'a> Index<'a> {
     ) -> Result<Index<'a>, AllocError>
         ensures { IfOk result (λ index. index ≡ record { heads = heads.now; bodies = bodies.now }) }
     {
-        let defined = names_stated(alloc, Asked::Defined, heads)?;
-        let tentative = names_stated(alloc, Asked::Tentative, heads)?;
-        let given = names_stated(alloc, Asked::Given, heads)?;
-        let used = names_used(alloc, heads, bodies)?;
-        let external = names_external(alloc, bodies)?;
-        let at_end = entities_at_end(alloc, heads)?;
-        let complete = complete_tags(alloc, heads)?;
+        let (at_end, complete) = known_at_end(alloc, heads)?;
+        let (used, external) = names_mentioned(alloc, heads, bodies)?;
+        let (defined, tentative, given) = names_given(alloc, heads)?;
         Ok(Index {
             heads,
             bodies,

@@ -82,6 +82,14 @@ fn type_text(alloc: Global, ty: &CType, tags: &Tags) -> Result<String, AllocErro
     Ok(text)
 }
 
+fn push_type(alloc: Global, text: &mut String, ty: &CType, tags: &Tags) -> Result<(), AllocError>
+    ensures { OnOk result (string_bytes text.new ≡ string_bytes text.old ++ Printed.text tags.now ty.now Printed.unqualified []) }
+{
+    let shown = type_text(alloc, ty, tags)?;
+    text.push_str(shown.as_str())?;
+    Ok(())
+}
+
 pub(super) fn type_message(
     alloc: Global,
     first: &Exporter<'_>,
@@ -90,13 +98,11 @@ pub(super) fn type_message(
 ) -> Result<Name, AllocError>
     ensures { IfOk result (λ m. m ≡ spec.type_text (from_of first.now) tags.now export.now) }
 {
-    let here = type_text(alloc, &export.ty, tags)?;
-    let there = type_text(alloc, &first.export.ty, first.tags)?;
     let mut text = String::from_str(alloc, export.name.as_str())?;
     text.push_str(" is ")?;
-    text.push_str(here.as_str())?;
+    push_type(alloc, &mut text, &export.ty, tags)?;
     text.push_str(" here, ")?;
-    text.push_str(there.as_str())?;
+    push_type(alloc, &mut text, &first.export.ty, first.tags)?;
     text.push_str(" in ")?;
     text.push_str(first.path.as_str())?;
     let message = Name::from_str(alloc, text.as_str())?;

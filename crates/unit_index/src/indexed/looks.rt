@@ -40,10 +40,22 @@ impl Indexed {
     ) -> Result<Indexed, AllocError>
         ensures { IfOk result (λ u. u ≡ record { path = path; reads = reads; meaning = meaning }) }
     {
-        let (tokens, next_of_token) = chain_tokens(alloc, meaning.occs.as_slice())?;
-        let (anchors, next_of_anchor) = chain_anchors(alloc, meaning.occs.as_slice())?;
-        let entities = place_entities(alloc, meaning.entities.as_slice())?;
-        let files = files_of(alloc, meaning.occs.as_slice())?;
+        let Ok((tokens, next_of_token)) = chain_tokens(alloc, meaning.occs.as_slice()) else {
+            drop(meaning);
+            return Err(AllocError);
+        };
+        let Ok((anchors, next_of_anchor)) = chain_anchors(alloc, meaning.occs.as_slice()) else {
+            drop(meaning);
+            return Err(AllocError);
+        };
+        let Ok(entities) = place_entities(alloc, meaning.entities.as_slice()) else {
+            drop(meaning);
+            return Err(AllocError);
+        };
+        let Ok(files) = files_of(alloc, meaning.occs.as_slice()) else {
+            drop(meaning);
+            return Err(AllocError);
+        };
         Ok(Indexed {
             path,
             reads,

@@ -25,8 +25,8 @@ pub returns-in-Ok-on_message-clause-kept : goal.returns-in-Ok-on_message-clause-
 returns-in-Ok-on_message-clause-kept g c = handled_kept (state_of c.args.self.now) _ _ _ _
     (asked_handled (state_of c.args.self.now) (current_state c.ready.new.current) _ _ _ _ _ _ (c.in-Ok-ready.ensures.same ∙ ap state_of c.self.view_is) c.in-Ok.ensures c.in-Ok-message_of.ensures c.in-Ok-on_message.ensures.handled)
 
-pub returns-clause-refused : goal.returns-clause-refused
-returns-clause-refused g c = asked_refused (state_of c.args.self.now) (current_state c.ready.new.current) _ _ _ _ _ _ _ c.in-Err-on_message.error (c.in-Ok-ready.ensures.same ∙ ap state_of c.self.view_is) c.in-Ok.ensures c.in-Ok-message_of.ensures c.in-Err-on_message.ensures.refused
+pub returns-in-Err-on_message-clause-refused : goal.returns-in-Err-on_message-clause-refused
+returns-in-Err-on_message-clause-refused g c = asked_refused (state_of c.args.self.now) (current_state c.ready.new.current) _ _ _ _ _ _ _ c.in-Err-on_message.error (c.in-Ok-ready.ensures.same ∙ ap state_of c.self.view_is) c.in-Ok.ensures c.in-Ok-message_of.ensures c.in-Err-on_message.ensures.refused
 
 pub returns-in-Err-ready-clause-refused : goal.returns-in-Err-ready-clause-refused
 returns-in-Err-ready-clause-refused g c = (refl, gave_up (stays _ _))

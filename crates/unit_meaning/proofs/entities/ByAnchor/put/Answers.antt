@@ -5,7 +5,7 @@ use Rattle.unit_meaning.proofs.entities.ByAnchor.put.Goals as goal
 
 pub returns : goal.returns
 returns c =
-    let is : c.in_ok-anchor.anchor ≡ c.args.entity.anchor = search rules in
+    let is : c.in-Ok.anchor ≡ c.args.entity.anchor = search rules in
     c.in_ok-insert.ensures.entries
-    ∙ ap (λ xs. insert_entry same_anchor xs c.in_ok-anchor.anchor c.args.entity) c.self.view_is
+    ∙ ap (λ xs. insert_entry same_anchor xs c.in-Ok.anchor c.args.entity) c.self.view_is
     ∙ ap (λ a. insert_entry same_anchor c.args.self.now a c.args.entity) is
