@@ -48,25 +48,31 @@ pub(crate) fn first_at(places: &HashMap<TokId, usize>, tok: &TokId) -> Option<us
     places.get(tok).copied()
 }
 
-/// The place of a token from now on.
+/// The place of a token from now on, and the one that it had.
 #[tactic(auto, unfolding(crate::specs::Chains::at_tok))]
 pub(crate) fn put_token(
     places: &mut HashMap<TokId, usize>,
     tok: &TokId,
     place: usize,
-) -> Result<(), AllocError>
-    ensures { OnOk result ((q : Token) → spec.at_tok places.new q ≡ (if occurs.same_tok tok.now q then Some place else spec.at_tok places.old q)) }
+) -> Result<Option<usize>, AllocError>
+    ensures before { IfOk result (λ before. before ≡ spec.at_tok places.old tok.now) }
+    ensures places { OnOk result ((q : Token) → spec.at_tok places.new q ≡ (if occurs.same_tok tok.now q then Some place else spec.at_tok places.old q)) }
 {
     let tok = tok.copy()?;
-    places.insert(tok, place).map_err(AllocError::from)?;
-    Ok(())
+    let before = places.insert(tok, place).map_err(AllocError::from)?;
+    Ok(before)
 }
 
-fn note_token(places: &mut HashMap<TokId, usize>, occ: &Occ, place: usize) -> Result<(), AllocError>
-    ensures { OnOk result ((q : Token) → spec.at_tok places.new q ≡ (if occurs.is_at q occ.now then Some place else spec.at_tok places.old q)) }
+fn note_token(
+    places: &mut HashMap<TokId, usize>,
+    occ: &Occ,
+    place: usize,
+) -> Result<Option<usize>, AllocError>
+    ensures before { IfOk result (λ before. before ≡ spec.at_tok places.old occ.now.tok) }
+    ensures places { OnOk result ((q : Token) → spec.at_tok places.new q ≡ (if occurs.is_at q occ.now then Some place else spec.at_tok places.old q)) }
 {
     if !counts(occ.role) {
-        return Ok(());
+        return Ok(first_at(places, &occ.tok));
     }
     put_token(places, &occ.tok, place)
 }
@@ -86,28 +92,31 @@ pub(crate) fn first_of(places: &HashMap<Anchor, usize>, anchor: &Anchor) -> Opti
     places.get(anchor).copied()
 }
 
+// The place of an anchor from now on, and the one that it had.
 #[tactic(auto, unfolding(crate::specs::Chains::at_anchor))]
 fn put_anchor(
     places: &mut HashMap<Anchor, usize>,
     anchor: &Anchor,
     place: usize,
-) -> Result<(), AllocError>
-    ensures { OnOk result ((q : AnyAnchor) → spec.at_anchor places.new q ≡ (if occurs.same_anchor anchor.now q then Some place else spec.at_anchor places.old q)) }
+) -> Result<Option<usize>, AllocError>
+    ensures before { IfOk result (λ before. before ≡ spec.at_anchor places.old anchor.now) }
+    ensures places { OnOk result ((q : AnyAnchor) → spec.at_anchor places.new q ≡ (if occurs.same_anchor anchor.now q then Some place else spec.at_anchor places.old q)) }
 {
     let anchor = anchor.share()?;
-    places.insert(anchor, place).map_err(AllocError::from)?;
-    Ok(())
+    let before = places.insert(anchor, place).map_err(AllocError::from)?;
+    Ok(before)
 }
 
 fn note_anchor(
     places: &mut HashMap<Anchor, usize>,
     occ: &Occ,
     place: usize,
-) -> Result<(), AllocError>
-    ensures { OnOk result ((q : AnyAnchor) → spec.at_anchor places.new q ≡ (if Occurrences.is_of q occ.now then Some place else spec.at_anchor places.old q)) }
+) -> Result<Option<usize>, AllocError>
+    ensures before { IfOk result (λ before. before ≡ spec.at_anchor places.old occ.now.anchor) }
+    ensures places { OnOk result ((q : AnyAnchor) → spec.at_anchor places.new q ≡ (if Occurrences.is_of q occ.now then Some place else spec.at_anchor places.old q)) }
 {
     if !counts(occ.role) {
-        return Ok(());
+        return Ok(first_of(places, &occ.anchor));
     }
     put_anchor(places, &occ.anchor, place)
 }
@@ -124,8 +133,8 @@ pub(crate) fn chain_tokens(
     let mut next = Vec::with_capacity(alloc, occs.len())?;
     let mut rest = occs;
     'occs: while let Some((occ, before)) = rest.split_last() {
-        next.push(first_at(&first, &occ.tok))?;
-        note_token(&mut first, occ, before.len())?;
+        let behind = note_token(&mut first, occ, before.len())?;
+        next.push(behind)?;
         rest = before;
     }
     next.reverse();
@@ -144,8 +153,8 @@ pub(crate) fn chain_anchors(
     let mut next = Vec::with_capacity(alloc, occs.len())?;
     let mut rest = occs;
     'occs: while let Some((occ, before)) = rest.split_last() {
-        next.push(first_of(&first, &occ.anchor))?;
-        note_anchor(&mut first, occ, before.len())?;
+        let behind = note_anchor(&mut first, occ, before.len())?;
+        next.push(behind)?;
         rest = before;
     }
     next.reverse();

@@ -9,8 +9,8 @@ occs-init c = links_begin by_anchor is_of _ _ _ c.no_anchors-first.ensures c.in_
 
 pub occs-preserved : goal.occs-preserved
 occs-preserved c =
-    links_turn by_anchor is_of _ _ _ c.in-Some.occ.now c.in-Some.occ.now.anchor _ _ _ _ _ refl c.in-Some.ensures.cases.0 c.first_of.ensures
-    c.in_ok-push.ensures.items c.in_ok-note_anchor.ensures c.occs.invariant
+    links_turn by_anchor is_of _ _ _ c.in-Some.occ.now c.in-Some.occ.now.anchor _ _ _ _ _ refl c.in-Some.ensures.cases.0 c.in_ok-behind.ensures.before
+    c.in_ok-push.ensures.items c.in_ok-behind.ensures.places c.occs.invariant
 
 pub returns-clause-first : goal.returns-clause-first
 returns-clause-first c = (links_end by_anchor is_of _ _ _ _ c.in_default.ensures.cases c.occs.invariant).0

@@ -9,8 +9,8 @@ occs-init c = links_begin by_token is_at _ _ _ c.no_tokens-first.ensures c.in_ok
 
 pub occs-preserved : goal.occs-preserved
 occs-preserved c =
-    links_turn by_token is_at _ _ _ c.in-Some.occ.now c.in-Some.occ.now.tok _ _ _ _ _ refl c.in-Some.ensures.cases.0 c.first_at.ensures
-    c.in_ok-push.ensures.items c.in_ok-note_token.ensures c.occs.invariant
+    links_turn by_token is_at _ _ _ c.in-Some.occ.now c.in-Some.occ.now.tok _ _ _ _ _ refl c.in-Some.ensures.cases.0 c.in_ok-behind.ensures.before
+    c.in_ok-push.ensures.items c.in_ok-behind.ensures.places c.occs.invariant
 
 pub returns-clause-first : goal.returns-clause-first
 returns-clause-first c = (links_end by_token is_at _ _ _ _ c.in_default.ensures.cases c.occs.invariant).0

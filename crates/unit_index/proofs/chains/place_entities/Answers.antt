@@ -6,7 +6,7 @@ pub entities-init : goal.entities-init
 entities-init c = first_begins is_named _ _ c.no_anchors-first.ensures
 
 pub entities-preserved : goal.entities-preserved
-entities-preserved c = first_turns is_named _ _ _ c.in-Some.entity.now _ _ c.in-Some.ensures.cases.0 c.in_ok-put_anchor.ensures c.entities.invariant
+entities-preserved c = first_turns is_named _ _ _ c.in-Some.entity.now _ _ c.in-Some.ensures.cases.0 c.in_ok-put_anchor.ensures.places c.entities.invariant
 
 pub returns : goal.returns
 returns c = first_ends is_named _ _ _ c.in_default.ensures.cases c.entities.invariant

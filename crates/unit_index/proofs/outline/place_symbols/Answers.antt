@@ -6,7 +6,7 @@ pub symbols-init : goal.symbols-init
 symbols-init c = first_begins is_symbol _ _ c.no_tokens-first.ensures
 
 pub symbols-preserved : goal.symbols-preserved
-symbols-preserved c = first_turns is_symbol _ _ _ c.in-Some.symbol.now _ _ c.in-Some.ensures.cases.0 c.in_ok-put_token.ensures c.symbols.invariant
+symbols-preserved c = first_turns is_symbol _ _ _ c.in-Some.symbol.now _ _ c.in-Some.ensures.cases.0 c.in_ok-put_token.ensures.places c.symbols.invariant
 
 pub returns : goal.returns
 returns c = first_ends is_symbol _ _ _ c.in_default.ensures.cases c.symbols.invariant
