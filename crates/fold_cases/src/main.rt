@@ -1,5 +1,5 @@
 // What units mean, line by line: each line of standard input is the text of a unit without directives; behind it stands each fault, with the
-// number of its token, and how many occurrences and entities the unit has.
+// number of its token, and how many occurrences and entities the unit has. What a line's first items mean is taken over from the line before where they are the same.
 #![tactic(auto)]
 
 mod reading;
@@ -8,7 +8,7 @@ use reading::tokens_of;
 use scope_tables::UnitMeaning;
 use std::io;
 use std::io::Read;
-use stmt_checks::fold_items;
+use stmt_checks::{LastUnit, fold_items};
 use tok_data::ShownFault;
 
 /// A unit has so many tokens at most.
@@ -30,21 +30,24 @@ fn show_meaning(rt: &HostRuntime, meaning: &UnitMeaning) -> io::Result<()> {
     println!(rt; "{occs} {entities}")
 }
 
-fn show(rt: &HostRuntime, line: &str) -> io::Result<()> {
+fn show(rt: &HostRuntime, last: LastUnit, line: &str) -> io::Result<LastUnit> {
     println!(rt; "> {line}")?;
     let tokens = tokens_of(rt.alloc(), line)?;
     if MOST_TOKENS < tokens.len() {
-        return println!(rt; "too many tokens");
+        println!(rt; "too many tokens")?;
+        return Ok(last);
     }
-    let meaning = fold_items(rt.alloc(), tokens.as_slice(), &[])?;
-    show_meaning(rt, &meaning)
+    let (meaning, last) = fold_items(rt.alloc(), last, tokens, &[])?;
+    show_meaning(rt, &meaning)?;
+    Ok(last)
 }
 
 fn main(rt: HostRuntime) -> io::Result<()> {
     let mut text = String::new(rt.alloc());
     rt.stdin().read_to_string(&mut text)?;
+    let mut last = LastUnit::none(rt.alloc());
     for line in text.as_str().lines() {
-        show(&rt, line)?;
+        last = show(&rt, last, line)?;
     }
     Ok(())
 }

@@ -13,6 +13,8 @@ use include_units::{PpTokens, TextPlaces};
 use std::alloc::{AllocError, Global};
 use std::collections::BTreeMap;
 use std::marker::Model;
+use std::mem;
+use stmt_checks::LastUnit;
 use uri_paths::Path;
 
 /// The tokens of a text, and their places. A copy shares them.
@@ -63,11 +65,12 @@ fn text_before<'a>(prior: &'a PriorTexts, docs: &'a Docs, path: &Path) -> &'a st
     }
 }
 
-/// What lexing gave of some texts, by path, without the texts.
+/// What lexing gave of some texts, by path, without the texts, and the unit that was worked out last.
 #[derive(Drop)]
 pub struct KeptLexings {
     alloc: Global,
     kept: BTreeMap<Path, LexedText>,
+    last: LastUnit,
 }
 
 impl KeptLexings {
@@ -78,6 +81,7 @@ impl KeptLexings {
         KeptLexings {
             alloc,
             kept: BTreeMap::new(alloc),
+            last: LastUnit::none(alloc),
         }
     }
 
@@ -120,6 +124,7 @@ impl KeptLexings {
         KeptLexings {
             alloc,
             kept: BTreeMap::new(alloc),
+            last: LastUnit::none(alloc),
         }
     }
 
@@ -158,12 +163,13 @@ impl KeptLexings {
     }
 }
 
-/// The texts of a session, each lexed when it is first wanted. Contracts see the texts.
+/// The texts of a session, each lexed when it is first wanted, and the unit that was worked out last. Contracts see the texts.
 #[derive(Drop)]
 pub struct Lexings<'a> {
     alloc: Global,
     docs: &'a Docs,
     kept: BTreeMap<Path, LexedText>,
+    last: LastUnit,
 }
 
 impl<'a> Model for Lexings<'a> {
@@ -188,6 +194,7 @@ impl<'a> Lexings<'a> {
             alloc,
             docs,
             kept: BTreeMap::new(alloc),
+            last: LastUnit::none(alloc),
         }
     }
 
@@ -200,6 +207,7 @@ impl<'a> Lexings<'a> {
             alloc: kept.alloc,
             docs,
             kept: kept.kept,
+            last: kept.last,
         }
     }
 
@@ -225,6 +233,20 @@ impl<'a> Lexings<'a> {
         Ok(copy)
     }
 
+    /// The unit that was worked out last. None is left here.
+    pub(crate) fn take_last(&mut self) -> LastUnit
+        ensures same { self.new ≡ self.old }
+    {
+        mem::replace(&mut self.last, LastUnit::none(self.alloc))
+    }
+
+    /// This unit is the one that was worked out last.
+    pub(crate) fn put_last(&mut self, last: LastUnit)
+        ensures same { self.new ≡ self.old }
+    {
+        self.last = last;
+    }
+
     /// What was lexed, without the texts.
     pub fn into_kept(self) -> KeptLexings
         ensures { HasLexed self.entry result }
@@ -232,6 +254,7 @@ impl<'a> Lexings<'a> {
         KeptLexings {
             alloc: self.alloc,
             kept: self.kept,
+            last: self.last,
         }
     }
 }

@@ -1,5 +1,5 @@
 // What a unit means, worked out anew.
-ghost use Rattle.std.specs.Prelude.{◌≡◌, ◌+◌, ◌≤◌, ◌++◌, length, map, take, IfOk, OnOk};
+ghost use Rattle.std.specs.Prelude.{◌≡◌, ◌+◌, ◌≤◌, ◌++◌, length, map, IfOk, OnOk};
 ghost use Rattle.plain_mean.specs.Meanings as spec;
 ghost use Rattle.plain_mean.specs.Meanings.{meaning};
 ghost use Rattle.plain_mean.specs.Renewed.{IsGrounds};
@@ -18,8 +18,8 @@ use std::alloc::{AllocError, Global};
 use std::mem;
 use std::sync::ledger::Ledger;
 use steps::Steps;
-use stmt_checks::fold_items;
-use tok_data::{FileId, OutToken, PpFault, ShownFault, TokId};
+use stmt_checks::{LastUnit, fold_items};
+use tok_data::{FileId, OutToken, OutTokens, PpFault, ShownFault, TokId};
 use unit_meaning::{all_reached, moved};
 use uri_paths::Path;
 
@@ -86,35 +86,28 @@ fn shown_faults(
     Ok(shown)
 }
 
-fn front(tokens: &[OutToken], len: usize) -> &[OutToken]
-    ensures tokens { result.now ≡ take len tokens.now }
-    ensures few { length result.now ≤ len }
+fn item_tokens(tokens: OutTokens) -> Vec<OutToken>
+    ensures tokens { result.items ≡ spec.item_tokens tokens }
+    ensures few { length result.items ≤ 2000000 }
 {
-    if len <= tokens.len() {
-        return tokens.split_at(len).0;
-    }
-    tokens
-}
-
-fn item_tokens(tokens: &[OutToken]) -> &[OutToken]
-    ensures tokens { result.now ≡ spec.item_tokens tokens.now }
-    ensures few { length result.now ≤ 2000000 }
-{
-    front(tokens, MOST_TOKENS)
+    let mut all = tokens.into_vec();
+    all.truncate(MOST_TOKENS);
+    all
 }
 
 // What the items mean, and what is shown of them and of the unit's end.
 #[tactic(auto, unfolding(crate::specs::Meanings::item_meaning))]
 fn item_meaning(
     alloc: Global,
-    tokens: &[OutToken],
+    last: LastUnit,
+    tokens: OutTokens,
     entered: &[(FileId, TokId)],
-) -> Result<scope_tables::UnitMeaning, AllocError>
-    ensures { IfOk result (λ m. m ≡ spec.item_meaning tokens.now entered.now) }
+) -> Result<(scope_tables::UnitMeaning, LastUnit), AllocError>
+    ensures { IfOk result (λ m. m.0 ≡ spec.item_meaning tokens entered.now) }
 {
     readings_exist();
     let items = item_tokens(tokens);
-    match fold_items(alloc, items, entered) {
+    match fold_items(alloc, last, items, entered) {
         Ok(meaning) => Ok(meaning),
         Err(error) => Err(error),
     }
@@ -145,15 +138,17 @@ fn put_in_front(
 
 fn whole(
     alloc: Global,
-    tokens: &UnitTokens,
+    last: LastUnit,
+    faults: &[PpFault],
+    tokens: OutTokens,
     entered: &[(FileId, TokId)],
-) -> Result<scope_tables::UnitMeaning, AllocError>
-    ensures { IfOk result (λ m. m ≡ spec.whole tokens.now entered.now) }
+) -> Result<(scope_tables::UnitMeaning, LastUnit), AllocError>
+    ensures { IfOk result (λ m. m.0 ≡ spec.behind (spec.shown_faults entered.now faults.now) (spec.item_meaning tokens entered.now)) }
 {
-    let faults = shown_faults(alloc, entered, tokens.faults.as_slice())?;
-    let mut meaning = item_meaning(alloc, tokens.tokens.as_slice(), entered)?;
+    let (mut meaning, last) = item_meaning(alloc, last, tokens, entered)?;
+    let faults = shown_faults(alloc, entered, faults)?;
     put_in_front(alloc, &mut meaning, faults)?;
-    Ok(meaning)
+    Ok((meaning, last))
 }
 
 fn followed(occs: Listing<Occ>, marks: Vec<Occ>) -> Result<Listing<Occ>, AllocError>
@@ -179,19 +174,30 @@ fn put_behind(
     Ok(())
 }
 
-fn meant_by(alloc: Global, marks: Vec<Occ>, tokens: UnitTokens) -> Result<UnitMeaning, AllocError>
-    ensures { IfOk result (λ m. m ≡ spec.meant_by marks.items tokens) }
+fn meant_by(
+    alloc: Global,
+    last: LastUnit,
+    marks: Vec<Occ>,
+    tokens: UnitTokens,
+) -> Result<(UnitMeaning, LastUnit), AllocError>
+    ensures { IfOk result (λ m. m.0 ≡ spec.meant_by marks.items tokens) }
 {
-    let entered = entries(alloc, tokens.entered.as_slice())?;
-    let mut meaning = whole(alloc, &tokens, &entered)?;
+    let UnitTokens {
+        tokens,
+        faults,
+        reads,
+        spelled: _,
+        entered,
+        macros: _,
+    } = tokens;
+    let entered = entries(alloc, entered.as_slice())?;
+    let (mut meaning, last) = whole(alloc, last, faults.as_slice(), tokens, &entered)?;
     put_behind(alloc, &mut meaning, marks)?;
-    Ok(UnitMeaning {
-        meaning,
-        reads: tokens.reads,
-    })
+    Ok((UnitMeaning { meaning, reads }, last))
 }
 
-/// What a unit means over the texts of a session, worked out anew but for what was lexed, which is one step, and what that rests on. A path without a text
+/// What a unit means over the texts of a session, worked out anew but for what was lexed and for the items at its front that the unit worked out before has too,
+/// which is one step, and what that rests on. A path without a text
 /// counts as one that isn't there, and the unit's own path without a text as an empty text. It fails for want of memory, and after 2^64-1 rounds of
 /// questions, whose answers no memory holds.
 pub fn mean<L: Ledger>(
@@ -210,7 +216,8 @@ pub fn mean<L: Ledger>(
     let conf = reading.unit_conf(alloc, unit)?;
     let (tokens, asked) = tokens_over(alloc, lexings, &conf)?;
     let marks = spelled_marks(alloc, lexings, &conf, &asked, &tokens)?;
-    let meaning = meant_by(alloc, marks, tokens)?;
+    let (meaning, last) = meant_by(alloc, lexings.take_last(), marks, tokens)?;
+    lexings.put_last(last);
     Ok(Meant {
         meaning,
         grounds: Grounds { conf, asked },

@@ -54,9 +54,13 @@ pub(crate) fn tokens_over(
     let mut asked = Vec::new(alloc);
     'asks: for _ in 0..u64::MAX {
         match unit.go()? {
-            Go::Done(tokens) => return Ok((tokens, Wants::from_vec(asked))),
+            Go::Done(tokens) => {
+                drop(unit);
+                return Ok((tokens, Wants::from_vec(asked)));
+            }
             Go::Need(wants) => go_on(lexings, wants, &mut unit, &mut asked)?,
         }
     }
+    drop(unit);
     Err(AllocError)
 }

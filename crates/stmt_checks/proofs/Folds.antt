@@ -19,7 +19,7 @@ use Rattle.unit_meaning.specs.Meanings.{meaning}
 use Rattle.unit_meaning.specs.Sites.{Entry}
 use Rattle.stmt_checks.specs.declared.folding.Folding.{Folding}
 use Rattle.stmt_checks.specs.Meanings.{Means}
-use Rattle.stmt_checks.specs.Folding.{folded_of}
+use Rattle.stmt_checks.specs.Folding.{Goes, folded_of}
 use Rattle.stmt_checks.specs.Folds.{Folded, all_items, body, is_checked, nothing, unit_meaning, with_bodies, with_head, with_item}
 
 -- ---- where all is answered, the run ends
@@ -74,26 +74,19 @@ one_body r ts h hs bs bs' b e s is =
 
 -- ---- one item after another
 
-pub record Goes (tokens : List OutToken) (items : List Item) (f : Folding) (rest : List Item) : Type 0 where
-  pub known : AreBefore f.heads.items f.earlier
-  pub goes : (r : Reader) → IsReader r → all_items r tokens (folded_of f) rest ≡ all_items r tokens nothing items
+pub goes_begins : (tokens : List OutToken) (items : List Item) (f : Folding) → AreBefore f.heads.items f.earlier → Goes tokens (folded_of f) items f items
+goes_begins tokens items f known = record { known = known; goes = λ r is. refl }
 
-pub goes_begins : (tokens : List OutToken) (items : List Item) (f : Folding) → AreBefore [] f.earlier → folded_of f ≡ nothing → Goes tokens items f items
-goes_begins tokens items f known e = record {
-  known = subst (λ a. AreBefore a.heads f.earlier) (sym e) known;
-  goes = λ r is. ap (λ a. all_items r tokens a items) e;
-}
-
-pub goes_turns : {tokens : List OutToken} {items : List Item} {f g : Folding} {rest more : List Item} {item : Item} → Goes tokens items f rest → rest ≡ item ∷ more →
-    AreBefore g.heads.items g.earlier → ((r : Reader) → IsReader r → folded_of g ≡ with_item r tokens item (folded_of f)) → Goes tokens items g more
-goes_turns {tokens} {items} {f} {g} {rest} {more} {item} was e known step = record {
+pub goes_turns : {tokens : List OutToken} {a : Folded} {items : List Item} {f g : Folding} {rest more : List Item} {item : Item} → Goes tokens a items f rest → rest ≡ item ∷ more →
+    AreBefore g.heads.items g.earlier → ((r : Reader) → IsReader r → folded_of g ≡ with_item r tokens item (folded_of f)) → Goes tokens a items g more
+goes_turns {tokens} {a} {items} {f} {g} {rest} {more} {item} was e known step = record {
   known = known;
-  goes = λ r is. ap (λ a. all_items r tokens a more) (step r is) ∙ ap (λ xs. all_items r tokens (folded_of f) xs) (sym e) ∙ was.goes r is;
+  goes = λ r is. ap (λ b. all_items r tokens b more) (step r is) ∙ ap (λ xs. all_items r tokens (folded_of f) xs) (sym e) ∙ was.goes r is;
 }
 
-pub goes_ends : {tokens : List OutToken} {items : List Item} {f : Folding} {rest : List Item} → Goes tokens items f rest → rest ≡ [] → (r : Reader) → IsReader r →
-    folded_of f ≡ all_items r tokens nothing items
-goes_ends {tokens} {items} {f} {rest} was e r is = ap (λ xs. all_items r tokens (folded_of f) xs) (sym e) ∙ was.goes r is
+pub goes_ends : {tokens : List OutToken} {a : Folded} {items : List Item} {f : Folding} {rest : List Item} → Goes tokens a items f rest → rest ≡ [] → (r : Reader) → IsReader r →
+    folded_of f ≡ all_items r tokens a items
+goes_ends {tokens} {a} {items} {f} {rest} was e r is = ap (λ xs. all_items r tokens (folded_of f) xs) (sym e) ∙ was.goes r is
 
 -- ---- where a body begins
 

@@ -3,3 +3,4 @@ mod Folds
 mod Headings
 mod Lacking
 pub mod Moving
+mod TakenOver

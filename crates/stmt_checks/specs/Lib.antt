@@ -5,6 +5,7 @@ pub mod Folds
 pub mod Halts
 pub mod Heads
 pub mod Labels
+pub mod Last
 pub mod Meanings
 pub mod Moves
 pub mod Standings

@@ -35,7 +35,8 @@ fn declare(alloc: Global, names: &mut Scopes, binding: &Binding) -> Result<(), A
         return Ok(());
     }
     let copy = share_binding(alloc, binding)?;
-    names.declare(copy.space, copy.name, copy.entity)?;
+    let before = names.declare(copy.space, copy.name, copy.entity)?;
+    drop(before);
     Ok(())
 }
 
@@ -173,8 +174,8 @@ fn func(alloc: Global, around: &Around<'_>, function: &Name) -> Result<Entity, A
     ensures { IfOk result (λ e. e ≡ spec.func (context_of around.now) function.now) }
 {
     let name = Name::from_str(alloc, "__func__")?;
-    let ty = text_type(alloc, function)?;
     let tok = own_token(around, 0)?;
+    let ty = text_type(alloc, function)?;
     Ok(Entity {
         name,
         kind: EntityKind::Object,
@@ -202,9 +203,10 @@ fn declare_func(
     if names.depth() == 0 {
         return Ok(());
     }
-    let entity = func(alloc, around, function)?;
     let name = Name::from_str(alloc, "__func__")?;
-    names.declare(Space::Ordinary, name, entity)?;
+    let entity = func(alloc, around, function)?;
+    let before = names.declare(Space::Ordinary, name, entity)?;
+    drop(before);
     Ok(())
 }
 
@@ -297,9 +299,9 @@ impl Function {
         ensures ty { IfOk result (λ f. f.ty ≡ spec.type_of (spec.function_of head.now)) }
         ensures labels { IfOk result (λ f. f.labels ≡ all_labels (context_of around.now) (acts_of acts.now) (entered scope.Function [])) }
     {
-        let ty = type_of(function_of(head))?;
         let mut labels = function_scope(alloc)?;
         note_all(alloc, around, &mut labels, acts)?;
+        let ty = type_of(function_of(head))?;
         Ok(Function { ty, labels })
     }
 }

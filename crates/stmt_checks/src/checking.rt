@@ -41,8 +41,14 @@ fn take_steps(
         return Err(Halt::NoMemory);
     };
     match go(alloc, around, &function, standing, acts) {
-        Ok(()) => Ok(()),
-        Err(stop) => Err(stop),
+        Ok(()) => {
+            drop(function);
+            Ok(())
+        }
+        Err(stop) => {
+            drop(function);
+            Err(stop)
+        }
     }
 }
 
@@ -148,8 +154,14 @@ fn read_and_judge(
 {
     let reading = read(alloc, standing, around.tokens)?;
     match by_reading(alloc, around, head, standing, &reading) {
-        Ok(elab) => Ok(elab),
-        Err(error) => Err(error),
+        Ok(elab) => {
+            drop(reading);
+            Ok(elab)
+        }
+        Err(error) => {
+            drop(reading);
+            Err(error)
+        }
     }
 }
 
@@ -162,10 +174,19 @@ fn answered(
     ensures { IfOk result (λ elab. spec.MeansBehind (answers_of (told_of around.now)) (context_of around.now) head.now elab) }
 {
     let mut standing = nothing(alloc)?;
-    begin(alloc, around, head, &mut standing)?;
+    let Ok(()) = begin(alloc, around, head, &mut standing) else {
+        drop(standing);
+        return Err(AllocError);
+    };
     match read_and_judge(alloc, around, head, &mut standing) {
-        Ok(elab) => Ok(elab),
-        Err(error) => Err(error),
+        Ok(elab) => {
+            drop(standing);
+            Ok(elab)
+        }
+        Err(error) => {
+            drop(standing);
+            Err(error)
+        }
     }
 }
 

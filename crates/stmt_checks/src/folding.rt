@@ -1,11 +1,12 @@
 // The items of a unit, one after another (ISO C11 5.1.1.1, 6.9).
-ghost use Rattle.std.specs.Prelude.{◌≡◌, ◌<◌, ◌≤◌, List, [], ◌∷◌, ◌++◌, drop, take, length, IfOk, IsTrue, OnOk};
+ghost use Rattle.std.specs.Prelude.{◌≡◌, ◌<◌, ◌≤◌, List, [], ◌∷◌, ◌++◌, drop, take, length, true, false, IfOk, IsTrue, OnOk};
+ghost use Rattle.std.specs.Vec.Iter.{into_iter_items};
 ghost use Rattle.std.specs.List.{list_any};
 ghost use Rattle.earlier_items.specs.Before.{AreBefore};
 ghost use Rattle.item_cut.specs.Items.{body_at};
 ghost use Rattle.item_readings.specs.Readings.{IsReader, Reader};
 ghost use Rattle.scope_tables.specs.declared.meanings.HeadMeaning.{HeadMeaning as Meaning};
-ghost use Rattle.stmt_checks.specs.Folding.{folded_of};
+ghost use Rattle.stmt_checks.specs.Folding.{Takes, folded_of};
 ghost use Rattle.stmt_checks.specs.Folds as spec;
 
 use crate::checking::check_body;
@@ -14,19 +15,19 @@ use earlier_items::Earlier;
 use elab_state::Elab;
 use item_cut::body_start;
 use item_readings::readings_exist;
-use scope_tables::{BodyMeaning, HeadMeaning, UnitMeaning};
+use scope_tables::{BodyMeaning, HeadMeaning};
 use std::alloc::{AllocError, Global};
-use tok_data::{FileId, OutToken, TokId};
+use std::vec::IntoIter;
+use tok_data::OutToken;
 use type_data::{Fault, ItemName};
-use unit_items::{Item, items_of};
-use unit_meaning::meaning_of;
+use unit_items::Item;
 
-// What the items so far mean.
+/// What the items so far mean.
 #[derive(Drop)]
 pub(crate) struct Folding {
-    earlier: Earlier,
-    heads: Vec<HeadMeaning>,
-    bodies: Vec<BodyMeaning>,
+    pub earlier: Earlier,
+    pub heads: Vec<HeadMeaning>,
+    pub bodies: Vec<BodyMeaning>,
 }
 
 fn behind(tokens: &[OutToken], at: usize) -> &[OutToken]
@@ -49,7 +50,8 @@ fn front(tokens: &[OutToken], len: usize) -> &[OutToken]
     tokens
 }
 
-fn own<'a>(tokens: &'a [OutToken], item: &Item) -> &'a [OutToken]
+/// The tokens of an item.
+pub(crate) fn own<'a>(tokens: &'a [OutToken], item: &Item) -> &'a [OutToken]
     ensures tokens { result.now ≡ spec.own tokens.now item.now }
     ensures short { length result.now ≤ length tokens.now }
 {
@@ -157,7 +159,8 @@ fn add_body(
 }
 
 impl Folding {
-    fn new(alloc: Global) -> Folding
+    /// No item. It takes no memory.
+    pub fn new(alloc: Global) -> Folding
         ensures known { AreBefore [] result.earlier }
         ensures items { folded_of result ≡ spec.nothing }
     {
@@ -174,9 +177,47 @@ impl Folding {
         ensures heads { OnOk result (self.new.heads.items ≡ self.old.heads.items ++ head ∷ []) }
         ensures bodies { OnOk result (self.new.bodies.items ≡ self.old.bodies.items) }
     {
-        self.earlier.add(alloc, &head)?;
+        let Ok(()) = self.earlier.add(alloc, &head) else {
+            drop(head);
+            return Err(AllocError);
+        };
         self.heads.push(head)?;
         Ok(())
+    }
+
+    /// The next item, which has these tokens, as another unit has it: the next of that unit's heads, and the next of its bodies where the item has one. Whether they are
+    /// there; else nothing changes here.
+    pub fn take(
+        &mut self,
+        alloc: Global,
+        tokens: &[OutToken],
+        heads: &mut IntoIter<HeadMeaning>,
+        bodies: &mut IntoIter<BodyMeaning>,
+    ) -> Result<bool, AllocError>
+        requires known { AreBefore self.old.heads.items self.old.earlier }
+        requires size { length tokens.now ≤ 2000000 }
+        ensures known { IfOk result (λ taken. AreBefore self.new.heads.items self.new.earlier) }
+        ensures taken { IfOk result (λ taken. taken ≡ true → Takes tokens.now self.old self.new (into_iter_items heads.old) (into_iter_items heads.new) (into_iter_items bodies.old) (into_iter_items bodies.new)) }
+        ensures missing { IfOk result (λ taken. taken ≡ false → self.new ≡ self.old) }
+    {
+        let at = body_start(tokens);
+        let Some(head) = heads.next() else {
+            return Ok(false);
+        };
+        if is_checked(tokens, at, &head) {
+            let Some(body) = bodies.next() else {
+                drop(head);
+                return Ok(false);
+            };
+            let Ok(()) = self.bodies.push(body) else {
+                drop(head);
+                return Err(AllocError);
+            };
+        }
+        match self.add_head(alloc, head) {
+            Ok(()) => Ok(true),
+            Err(error) => Err(error),
+        }
     }
 
     // The next item.
@@ -196,40 +237,23 @@ impl Folding {
     }
 }
 
-// All items of a unit.
-fn fold(alloc: Global, tokens: &[OutToken], items: &[Item]) -> Result<Folding, AllocError>
-    requires size { length tokens.now ≤ 2000000 }
-    ensures { IfOk result (λ f. (r : Reader) → IsReader r → folded_of f ≡ spec.all_items r tokens.now spec.nothing items.now) }
-{
-    let mut folding = Folding::new(alloc);
-    'items: for item in items {
-        folding.add(alloc, &item.name, own(tokens, item))?;
-    }
-    Ok(folding)
-}
-
-/// What a unit means by its output tokens and the texts that it entered (ISO C11 5.1.1.1, 6.9), without what its directives show: its items in their order, each
-/// judged by what the heads in front of it declare, and then the unit's end. A body is looked at where its head was read. A unit has at most 2,000,000
-/// tokens. The cost is that of the items. It fails for want of memory alone.
-pub fn fold_items(
+/// These items of a unit, behind those that were added.
+pub(crate) fn fold(
     alloc: Global,
     tokens: &[OutToken],
-    entered: &[(FileId, TokId)],
-) -> Result<UnitMeaning, AllocError>
+    items: &[Item],
+    added: Folding,
+) -> Result<Folding, AllocError>
+    requires known { AreBefore added.heads.items added.earlier }
     requires size { length tokens.now ≤ 2000000 }
-    ensures { IfOk result (λ m. (r : Reader) → IsReader r → m ≡ spec.unit_meaning r tokens.now entered.now) }
+    ensures { IfOk result (λ f. (r : Reader) → IsReader r → folded_of f ≡ spec.all_items r tokens.now (folded_of added) items.now) }
 {
-    let items = items_of(alloc, tokens)?;
-    let folding = fold(alloc, tokens, &items)?;
-    match meaning_of(
-        alloc,
-        tokens,
-        &items,
-        entered,
-        &folding.heads,
-        &folding.bodies,
-    ) {
-        Ok(meaning) => Ok(meaning),
-        Err(error) => Err(error),
+    let mut folding = added;
+    'items: for item in items {
+        let Ok(()) = folding.add(alloc, &item.name, own(tokens, item)) else {
+            drop(folding);
+            return Err(AllocError);
+        };
     }
+    Ok(folding)
 }

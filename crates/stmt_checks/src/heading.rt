@@ -86,7 +86,11 @@ fn judge(
         }
     };
     let mut found = found(alloc, around, made, declaration)?;
-    let meaning = meaning(alloc, around, &mut found)?;
+    let Ok(meaning) = meaning(alloc, around, &mut found) else {
+        drop(found);
+        return Err(AllocError);
+    };
+    drop(found);
     Ok(Elab::Done(meaning))
 }
 
@@ -117,7 +121,11 @@ fn refuse(
     ensures { IfOk result (λ elab. means.Means (means.ending (spec.refusal (context_of around.now) rule at)) elab) }
 {
     let mut found = only(alloc, rule, at)?;
-    let meaning = meaning(alloc, around, &mut found)?;
+    let Ok(meaning) = meaning(alloc, around, &mut found) else {
+        drop(found);
+        return Err(AllocError);
+    };
+    drop(found);
     Ok(Elab::Done(meaning))
 }
 
@@ -156,8 +164,14 @@ fn read_and_judge(
 {
     let reading = read(alloc, made, around.tokens)?;
     match by_reading(alloc, around, made, &reading) {
-        Ok(elab) => Ok(elab),
-        Err(error) => Err(error),
+        Ok(elab) => {
+            drop(reading);
+            Ok(elab)
+        }
+        Err(error) => {
+            drop(reading);
+            Err(error)
+        }
     }
 }
 
@@ -189,10 +203,19 @@ fn answered(alloc: Global, around: &Around<'_>) -> Result<Elab<HeadMeaning>, All
         }
     }
     let mut made = Made::begin(alloc, ScopeKind::File, Tags::new(alloc))?;
-    note_answers(alloc, around.known, &mut made, around.tokens)?;
+    let Ok(()) = note_answers(alloc, around.known, &mut made, around.tokens) else {
+        drop(made);
+        return Err(AllocError);
+    };
     match read_and_judge(alloc, around, &mut made) {
-        Ok(elab) => Ok(elab),
-        Err(error) => Err(error),
+        Ok(elab) => {
+            drop(made);
+            Ok(elab)
+        }
+        Err(error) => {
+            drop(made);
+            Err(error)
+        }
     }
 }
 

@@ -57,7 +57,8 @@ fn bind(around: &Around<'_>, labels: &mut Scopes, name: Name, at: u32) -> Result
         return Ok(());
     }
     let entity = label(around, &name, at)?;
-    labels.declare(Space::Labels, name, entity)?;
+    let before = labels.declare(Space::Labels, name, entity)?;
+    drop(before);
     Ok(())
 }
 
@@ -135,13 +136,16 @@ fn define_first(
     ensures { OnOk result (standing.new ≡ spec.defined_first (context_of around.now) at standing.old) }
 {
     let entity = label(around, &name, at)?;
-    mark(
+    let Ok(()) = mark(
         around,
         &mut standing.made,
         at,
         &entity.anchor,
         Role::Defines,
-    )?;
+    ) else {
+        drop(entity);
+        return Err(AllocError);
+    };
     standing.made.entities.push(entity)?;
     bind(around, &mut standing.labels, name, at)
 }
@@ -183,8 +187,13 @@ pub(crate) fn label_act(
         alloc,
         standing.labels.find_here(&Space::Labels, name.as_str()),
     )?;
-    tell(standing, fault)?;
-    define(around, standing, name, at, &before)
+    let Ok(()) = tell(standing, fault) else {
+        drop(before);
+        return Err(AllocError);
+    };
+    let done = define(around, standing, name, at, &before);
+    drop(before);
+    done
 }
 
 fn use_label(

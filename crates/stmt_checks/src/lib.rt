@@ -13,7 +13,8 @@ mod meaning;
 mod standing;
 mod steps;
 mod type_names;
+mod units;
 
 pub use checking::check_body;
-pub use folding::fold_items;
 pub use heading::elab_head;
+pub use units::{LastUnit, fold_items};

@@ -86,11 +86,17 @@ pub(crate) fn meaning(
 ) -> Result<BodyMeaning, AllocError>
     ensures { IfOk result (λ m. m ≡ spec.meaning (context_of around.now) made.old) }
 {
-    let mut found = found(alloc, around, made)?;
     let item = share_item(around.item)?;
+    let mut found = found(alloc, around, made)?;
     match body_meaning(alloc, item, &mut found) {
-        Ok(meaning) => Ok(meaning),
-        Err(error) => Err(error),
+        Ok(meaning) => {
+            drop(found);
+            Ok(meaning)
+        }
+        Err(error) => {
+            drop(found);
+            Err(error)
+        }
     }
 }
 
@@ -104,9 +110,18 @@ pub(crate) fn refusal(
     ensures { IfOk result (λ m. m ≡ spec.refusal (context_of around.now) rule at) }
 {
     let mut made = Made::begin(alloc, ScopeKind::File, Tags::new(alloc))?;
-    made.faults.push(fault_at(alloc, rule, at))?;
+    let Ok(()) = made.faults.push(fault_at(alloc, rule, at)) else {
+        drop(made);
+        return Err(AllocError);
+    };
     match meaning(alloc, around, &mut made) {
-        Ok(meaning) => Ok(meaning),
-        Err(error) => Err(error),
+        Ok(meaning) => {
+            drop(made);
+            Ok(meaning)
+        }
+        Err(error) => {
+            drop(made);
+            Err(error)
+        }
     }
 }

@@ -6,7 +6,7 @@ use Rattle.item_readings.specs.Readings.{Reader, IsReader}
 use Rattle.stmt_checks.proofs.checking.answered.Goals as goal
 use Rattle.stmt_checks.specs.Meanings.{Means, body_in}
 
-pub returns-in-Ok : goal.returns-in-Ok
-returns-in-Ok c =
-    subst (λ st. (r : Reader) → IsReader r → Means (run_by (answered (told_of c.args.around.now)) (body_in r (context_of c.args.around.now) c.args.head.now st)) c.in-Ok.elab)
-    c.in_ok-begin.ensures c.in-Ok.ensures
+pub returns-in-Ok-read_and_judge : goal.returns-in-Ok-read_and_judge
+returns-in-Ok-read_and_judge c =
+    subst (λ st. (r : Reader) → IsReader r → Means (run_by (answered (told_of c.args.around.now)) (body_in r (context_of c.args.around.now) c.args.head.now st)) c.in-Ok-read_and_judge.elab)
+    c.in-Ok.ensures c.in-Ok-read_and_judge.ensures

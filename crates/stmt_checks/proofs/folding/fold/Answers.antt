@@ -8,8 +8,8 @@ use Rattle.stmt_checks.specs.Folds.{head, with_head}
 pub items-preserved : goal.items-preserved
 items-preserved c =
     let e : drop c.items.item-index c.args.items.now ≡ c.item-item.result ∷ drop (c.items.item-index + 1) c.args.items.now = search (rules, drop_more) in
-    goes_turns c.items.invariant e c.in_ok-add.ensures.known (λ r is.
-    c.in_ok-add.ensures.items r is
+    goes_turns c.items.invariant e c.in-Ok.ensures.known (λ r is.
+    c.in-Ok.ensures.items r is
     ∙ ap (λ ts. with_head r ts (head r c.item-item.result.name ts c.items.folding.heads.items) (folded_of c.items.folding)) c.own.ensures.tokens)
 
 pub returns : goal.returns

@@ -13,4 +13,4 @@ returns-in-Ok-read_and_judge c =
     let look = answered (told_of c.args.around.now) in
     let around = context_of c.args.around.now in
     from_tokens look around c.note_answers.new.made c.in-Ok-read_and_judge.elab (sym c.is_empty.ensures ∙ c.if-is_empty.false)
-    (c.in_ok-note_answers.ensures ∙ ap (λ m. with_answered look (questions around) m) (c.in_ok-made.ensures ∙ ap (λ tags. begun File tags) c.new.ensures)) c.in-Ok-read_and_judge.ensures
+    (c.in-Ok-note_answers.ensures ∙ ap (λ m. with_answered look (questions around) m) (c.in_ok-made.ensures ∙ ap (λ tags. begun File tags) c.new.ensures)) c.in-Ok-read_and_judge.ensures

@@ -22,4 +22,4 @@ pub returns : goal.returns
 returns c =
     let around = context_of c.args.around.now in
     run_then (answered (told_of c.args.around.now)) (declaration around false (heading_of c.args.head.now) c.args.made.now) (meaning_by around) (c.in-Ok.declaration, c.declare_in.new.made) c.in-Ok.ensures
-    ∙ ap (λ x. Ends x) (sym (c.in_ok-meaning.ensures ∙ ap (λ f. head_of around.item f) c.in_ok-found.ensures))
+    ∙ ap (λ x. Ends x) (sym (c.in-Ok-meaning.ensures ∙ ap (λ f. head_of around.item f) c.in_ok-found.ensures))
