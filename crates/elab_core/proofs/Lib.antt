@@ -1,4 +1,5 @@
 mod Backward
+mod Bare
 mod Downward
 mod Headings
 mod Lacking

@@ -1,10 +1,10 @@
 // Constants and string literals (ISO C11 6.4.4, 6.4.5), and integer constant expressions where one is needed (6.6).
-ghost use Rattle.std.specs.Prelude.{◌≡◌, map, IfOk, option_map};
+ghost use Rattle.std.specs.Prelude.{◌≡◌, map, slice_get, IfOk};
 ghost use Rattle.c_literals.specs.Strings;
 ghost use Rattle.elab_core.specs.Constants as spec;
 ghost use Rattle.elab_state.specs.Comes.{Comes};
 ghost use Rattle.elab_state.specs.Seen.{context_of, told_of};
-ghost use Rattle.elab_state.specs.Tokens.{spelling};
+ghost use Rattle.elab_state.specs.Tokens.{bare_tokens, spelling};
 
 use crate::rows::row;
 use c_literals::{LitError, Literal, character, integer, string_pieces};
@@ -30,10 +30,10 @@ fn by_kind(kind: PpKind, text: &str) -> Literal
     }
 }
 
-fn literal_of(token: Option<&OutToken>) -> Literal
-    ensures { result ≡ spec.literal_of (option_map (λ t. t.now) token.entry) }
+fn literal_at(tokens: &[OutToken], at: u32) -> Literal
+    ensures { result ≡ spec.literal_of (slice_get (bare_tokens tokens.now) at) }
 {
-    match token {
+    match tokens.get(at as usize) {
         Some(token) => by_kind(token.kind, token.spelling.as_str()),
         None => integer(""),
     }
@@ -48,7 +48,7 @@ pub fn constant(
 ) -> Result<Judged, Halt>
     ensures { Comes (told_of around.now) (spec.constant (context_of around.now) at made.old) (λ j. j) result made.new }
 {
-    let literal = literal_of(around.tokens.get(at as usize));
+    let literal = literal_at(around.tokens, at);
     row(alloc, around, made, at, Form::Constant(literal), &[])
 }
 
@@ -57,7 +57,7 @@ pub(crate) fn spellings(
     tokens: &[OutToken],
     numbers: &[u32],
 ) -> Result<Vec<Name>, AllocError>
-    ensures { IfOk result (λ names. names.items ≡ map (spelling tokens.now) numbers.now) }
+    ensures { IfOk result (λ names. names.items ≡ map (spelling (bare_tokens tokens.now)) numbers.now) }
 {
     let mut names = Vec::new(alloc);
     let mut rest = numbers;
@@ -80,7 +80,7 @@ fn text_form(alloc: Global, names: &[Name]) -> Result<Form, AllocError>
 }
 
 fn form_of(alloc: Global, tokens: &[OutToken], pieces: &[u32]) -> Result<Form, AllocError>
-    ensures { IfOk result (λ f. f ≡ spec.text_form (Strings.string_pieces (map (spelling tokens.now) pieces.now))) }
+    ensures { IfOk result (λ f. f ≡ spec.text_form (Strings.string_pieces (map (spelling (bare_tokens tokens.now)) pieces.now))) }
 {
     let names = spellings(alloc, tokens, pieces)?;
     text_form(alloc, names.as_slice())

@@ -67,7 +67,7 @@ fn size_by_keyword(
     at: u32,
     typed: Typed,
 ) -> Result<Judged, Halt>
-    ensures { Comes (told_of around.now) (casts.size (context_of around.now) at (is_alignment_of (spelling_of around.now.tokens.now at)) typed made.old) (λ j. j) result made.new }
+    ensures { Comes (told_of around.now) (casts.size (context_of around.now) at (is_alignment_of (spelling_of (context_of around.now).tokens at)) typed made.old) (λ j. j) result made.new }
 {
     let alignment = is_alignment(spelling(around.tokens, at));
     size(alloc, around, made, at, alignment, typed)

@@ -6,6 +6,7 @@ ghost use Rattle.elab_core.specs.declared.meaning.ExprMeaning.{ExprMeaning as Ex
 ghost use Rattle.elab_core.specs.Meanings as spec;
 ghost use Rattle.elab_state.specs.Comes.{Stops};
 ghost use Rattle.elab_state.specs.Seen.{context_of, told_of};
+ghost use Rattle.elab_state.specs.Tokens.{bare_tokens};
 ghost use Rattle.elab_state.specs.Wants.{answered, wants};
 
 use crate::ends::{first_of, last_of};
@@ -147,7 +148,7 @@ fn judged_in(
     tags: Tags,
     known: &Known,
 ) -> Result<Elab<ExprMeaning>, AllocError>
-    ensures { IfOk result (λ elab. spec.Means (run_by (answered known.now) (spec.judged_in item.now tokens.now (tree_of expr.now) scopes.now tags)) elab) }
+    ensures { IfOk result (λ elab. spec.Means (run_by (answered known.now) (spec.judged_in item.now (bare_tokens tokens.now) (tree_of expr.now) scopes.now tags)) elab) }
 {
     let file = item_file(alloc, item)?;
     let around = Around {
@@ -178,7 +179,7 @@ pub fn elab_expr(
     tags: Tags,
     known: &Known,
 ) -> Result<Elab<ExprMeaning>, AllocError>
-    ensures { IfOk result (λ elab. spec.Means (run_by (answered known.now) (spec.expr_meaning item.now tokens.now (tree_of expr.now) scopes.now tags)) elab) }
+    ensures { IfOk result (λ elab. spec.Means (run_by (answered known.now) (spec.expr_meaning item.now (bare_tokens tokens.now) (tree_of expr.now) scopes.now tags)) elab) }
 {
     let asked = unanswered(alloc, known, own_tokens(expr, tokens))?;
     if is_none(&asked) {

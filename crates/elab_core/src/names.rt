@@ -68,7 +68,7 @@ pub(crate) fn found_at(
     space: Space,
     at: u32,
 ) -> Result<Option<Entity>, Halt>
-    ensures { Comes (told_of around.now) (names.denoted (context_of around.now) space (spelling around.now.tokens.now at) made.now) (λ e. e) result made.now }
+    ensures { Comes (told_of around.now) (names.denoted (context_of around.now) space (spelling (context_of around.now).tokens at) made.now) (λ e. e) result made.now }
 {
     let Ok(name) = name_at(alloc, around.tokens, at) else {
         return Err(Halt::NoMemory);

@@ -53,7 +53,7 @@ fn operator_row(
     left: Judged,
     right: Judged,
 ) -> Result<Judged, Halt>
-    ensures { Comes (told_of around.now) (rows.row (context_of around.now) at (binary_form_of (spelling_of around.now.tokens.now at)) (left ∷ right ∷ []) made.old) (λ j. j) result made.new }
+    ensures { Comes (told_of around.now) (rows.row (context_of around.now) at (binary_form_of (spelling_of (context_of around.now).tokens at)) (left ∷ right ∷ []) made.old) (λ j. j) result made.new }
 {
     let form = binary_form(spelling(around.tokens, at));
     let parts = [left, right];

@@ -52,7 +52,7 @@ fn found_in_scope(
     made: &Made,
     at: u32,
 ) -> Result<Option<Entity>, AllocError>
-    ensures { IfOk result (λ e. e ≡ spec.in_scope (context_of around.now) (spelling_of around.now.tokens.now at) made.now) }
+    ensures { IfOk result (λ e. e ≡ spec.in_scope (context_of around.now) (spelling_of (context_of around.now).tokens at) made.now) }
 {
     let name = name_at(alloc, around.tokens, at)?;
     share(alloc, in_scope(around, made, &name))
@@ -65,7 +65,7 @@ pub(crate) fn before(
     made: &Made,
     at: u32,
 ) -> Result<Option<Entity>, Halt>
-    ensures { Comes (told_of around.now) (spec.before (context_of around.now) (spelling_of around.now.tokens.now at) made.now) (λ e. e) result made.now }
+    ensures { Comes (told_of around.now) (spec.before (context_of around.now) (spelling_of (context_of around.now).tokens at) made.now) (λ e. e) result made.now }
 {
     if is_file(made.kind()) {
         return found_at(alloc, around, made, Space::Tags, at);

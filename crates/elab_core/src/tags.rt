@@ -452,7 +452,7 @@ fn tag_found(
 }
 
 fn mentioned_at(alloc: Global, around: &Around<'_>, made: &Made, at: u32) -> Result<Mention, Halt>
-    ensures { Comes (told_of around.now) (spec.mentioned (context_of around.now) (spelling_of around.now.tokens.now at) made.now) (λ mention. mention) result made.now }
+    ensures { Comes (told_of around.now) (spec.mentioned (context_of around.now) (spelling_of (context_of around.now).tokens at) made.now) (λ mention. mention) result made.now }
 {
     let Ok(name) = name_at(alloc, around.tokens, at) else {
         return Err(Halt::NoMemory);
@@ -468,7 +468,7 @@ fn tag_behind(
     at: u32,
     mention: &Mention,
 ) -> Result<Option<Typed>, Halt>
-    ensures { Comes (told_of around.now) (spec.tag_found (context_of around.now) (spec.keyword_kind (spelling_of around.now.tokens.now keyword)) at mention.now made.old) (λ t. t) result made.new }
+    ensures { Comes (told_of around.now) (spec.tag_found (context_of around.now) (spec.keyword_kind (spelling_of (context_of around.now).tokens keyword)) at mention.now made.old) (λ t. t) result made.new }
 {
     let kind = keyword_kind(spelling(around.tokens, keyword));
     tag_found(alloc, around, made, kind, at, mention)

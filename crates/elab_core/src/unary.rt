@@ -65,7 +65,7 @@ fn prefix_row(
     at: u32,
     operand: Judged,
 ) -> Result<Judged, Halt>
-    ensures { Comes (told_of around.now) (rows.row (context_of around.now) at (prefix_form_of (spelling_of around.now.tokens.now at)) (operand ∷ []) made.old) (λ j. j) result made.new }
+    ensures { Comes (told_of around.now) (rows.row (context_of around.now) at (prefix_form_of (spelling_of (context_of around.now).tokens at)) (operand ∷ []) made.old) (λ j. j) result made.new }
 {
     let form = prefix_form(spelling(around.tokens, at));
     let parts = [operand];
@@ -95,7 +95,7 @@ fn assign_row(
     left: Judged,
     value: Judged,
 ) -> Result<Judged, Halt>
-    ensures { Comes (told_of around.now) (rows.row (context_of around.now) at (assign_form_of (spelling_of around.now.tokens.now at)) (left ∷ value ∷ []) made.old) (λ j. j) result made.new }
+    ensures { Comes (told_of around.now) (rows.row (context_of around.now) at (assign_form_of (spelling_of (context_of around.now).tokens at)) (left ∷ value ∷ []) made.old) (λ j. j) result made.new }
 {
     let form = assign_form(spelling(around.tokens, at));
     let parts = [left, value];

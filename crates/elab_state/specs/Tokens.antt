@@ -1,10 +1,18 @@
 -- The tokens of an item, which are named by their numbers in it.
-use Rattle.std.specs.Prelude.{ℕ, Bool, true, false, not, List, [], ◌∷◌, Option, Some, None, slice_get}
+use Rattle.std.specs.Prelude.{ℕ, Bool, true, false, not, List, [], ◌∷◌, Option, Some, None, map, slice_get}
 use Rattle.tok_data.specs.declared.sources.TokId.{TokId}
 use Rattle.tok_data.specs.declared.tokens.OutToken.{OutToken}
 use Rattle.tok_data.specs.declared.tokens.PpKind.{PpKind}
 use Rattle.tok_data.specs.declared.tokens.PpKind.TheVariants as pp
+use Rattle.tok_data.specs.declared.tokens.Spelt.TheVariants as place
 use Rattle.tok_data.specs.Keywords.{is_keyword}
+
+-- what an item sees of its tokens: their kinds and spellings, and not where they stand
+abbrev pub bare : OutToken → OutToken
+bare t = record t { space_before = false; spelt = place.Made; site = record { file = []; at = 0 } }
+
+abbrev pub bare_tokens : List OutToken → List OutToken
+bare_tokens = map bare
 
 abbrev pub spelled : Option OutToken → List ℕ
 spelled (Some t) = t.spelling

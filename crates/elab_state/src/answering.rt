@@ -2,6 +2,7 @@
 ghost use Rattle.std.specs.Prelude.{◌≡◌, false, is_some, OnOk, option_map};
 ghost use Rattle.elab_state.specs.Answering as spec;
 ghost use Rattle.elab_state.specs.Asked.{identifiers};
+ghost use Rattle.elab_state.specs.Tokens.{bare_tokens};
 ghost use Rattle.elab_state.specs.Wants.{answered};
 ghost use Rattle.scope_tables.specs.Scopes.{here};
 
@@ -71,7 +72,7 @@ pub fn note_answers(
     made: &mut Made,
     tokens: &[OutToken],
 ) -> Result<(), AllocError>
-    ensures { OnOk result (made.new ≡ spec.with_answered (answered known.now) (identifiers false tokens.now) made.old) }
+    ensures { OnOk result (made.new ≡ spec.with_answered (answered known.now) (identifiers false (bare_tokens tokens.now)) made.old) }
 {
     let mut tag = false;
     let mut rest = tokens;

@@ -3,6 +3,7 @@ ghost use Rattle.std.specs.Prelude.{◌≡◌, false, [], IfOk, OnOk};
 ghost use Rattle.asking.specs.LookUps.{unanswered as lacking};
 ghost use Rattle.elab_state.specs.Asked as spec;
 ghost use Rattle.elab_state.specs.Same.{same_wanted};
+ghost use Rattle.elab_state.specs.Tokens.{bare_tokens};
 ghost use Rattle.elab_state.specs.Wants.{answered, wants};
 ghost use Rattle.indexmap.specs.IndexSet.{insert_key};
 
@@ -87,7 +88,7 @@ fn note(known: &Known, asked: &mut Asked, one: Wanted) -> Result<(), AllocError>
 }
 
 fn note_all(known: &Known, asked: &mut Asked, tokens: &[OutToken]) -> Result<(), AllocError>
-    ensures { OnOk result (asked.new ≡ spec.all_noted (answered known.now) asked.old (spec.identifiers false tokens.now)) }
+    ensures { OnOk result (asked.new ≡ spec.all_noted (answered known.now) asked.old (spec.identifiers false (bare_tokens tokens.now))) }
 {
     let mut tag = false;
     let mut rest = tokens;
@@ -122,7 +123,7 @@ pub fn unanswered(
     known: &Known,
     tokens: &[OutToken],
 ) -> Result<Listing<Wanted>, AllocError>
-    ensures { IfOk result (λ list. list ≡ lacking wants (answered known.now) (spec.identifiers false tokens.now)) }
+    ensures { IfOk result (λ list. list ≡ lacking wants (answered known.now) (spec.identifiers false (bare_tokens tokens.now))) }
 {
     let mut asked = Asked::new(alloc);
     note_all(known, &mut asked, tokens)?;

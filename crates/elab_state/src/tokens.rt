@@ -8,7 +8,7 @@ use tok_data::{FileId, OutToken, PpKind, TokId, is_keyword};
 
 /// The spelling of a token; empty where there is none of this number.
 pub fn spelling(tokens: &[OutToken], at: u32) -> &str
-    ensures { result.now ≡ spec.spelling tokens.now at }
+    ensures { result.now ≡ spec.spelling (spec.bare_tokens tokens.now) at }
 {
     match tokens.get(at as usize) {
         Some(token) => token.spelling.as_str(),
@@ -18,7 +18,7 @@ pub fn spelling(tokens: &[OutToken], at: u32) -> &str
 
 /// The spelling of a token as a name; empty where there is no token of this number.
 pub fn name_at(alloc: Global, tokens: &[OutToken], at: u32) -> Result<Name, AllocError>
-    ensures { IfOk result (λ name. name ≡ spec.spelling tokens.now at) }
+    ensures { IfOk result (λ name. name ≡ spec.spelling (spec.bare_tokens tokens.now) at) }
 {
     match tokens.get(at as usize) {
         Some(token) => token.spelling.share(),

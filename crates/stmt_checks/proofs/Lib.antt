@@ -1,3 +1,5 @@
+mod Alike
+mod Bare
 mod Bodies
 mod Folds
 mod Headings

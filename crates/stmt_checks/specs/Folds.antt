@@ -4,6 +4,7 @@ use Rattle.std.specs.Prelude.{ℕ, ◌+◌, ◌-◌, ◌==◌, ◌&&◌, ◌||�
 use Rattle.std.specs.List.{list_any}
 use Rattle.asking.specs.LookUps.{result_of}
 use Rattle.earlier_items.specs.Before.{before}
+use Rattle.elab_state.specs.Tokens.{bare_tokens}
 use Rattle.item_cut.specs.Items.{body_at}
 use Rattle.item_readings.specs.Readings.{Reader}
 use Rattle.scope_tables.specs.declared.meanings.BodyMeaning.{BodyMeaning}
@@ -30,13 +31,13 @@ head_tokens ts = take (body_at ts + 1) ts
 abbrev pub body_tokens : List OutToken → List OutToken
 body_tokens ts = drop (body_at ts) ts
 
--- ---- its head, and its body where it has one behind a head that was read
+-- ---- its head, and its body where it has one behind a head that was read, whatever stands round its tokens and wherever they are spelt
 
 abbrev pub head_of : Reader → ItemName → List OutToken → List HeadMeaning → HeadMeaning
-head_of r name ts hs = result_of (before hs) (head_meaning r (context name ts 0))
+head_of r name ts hs = result_of (before hs) (head_meaning r (context name (bare_tokens ts) 0))
 
 abbrev pub body_of : Reader → ItemName → List OutToken → ℕ → HeadMeaning → List HeadMeaning → BodyMeaning
-body_of r name ts base h hs = result_of (before hs) (body_meaning r (context name ts base) h)
+body_of r name ts base h hs = result_of (before hs) (body_meaning r (context name (bare_tokens ts) base) h)
 
 abbrev pub head : Reader → ItemName → List OutToken → List HeadMeaning → HeadMeaning
 head r name ts hs = head_of r name (head_tokens ts) hs

@@ -2,6 +2,7 @@
 ghost use Rattle.std.specs.Prelude.{◌≡◌, IfOk, OnOk};
 ghost use Rattle.asking.specs.LookUps.{run_by};
 ghost use Rattle.elab_state.specs.Seen.{context_of, told_of};
+ghost use Rattle.elab_state.specs.Tokens.{bare_tokens};
 ghost use Rattle.elab_state.specs.Wants.{answered as answers_of};
 ghost use Rattle.item_readings.specs.Readings.{IsReader, Reader, ReadsBody};
 ghost use Rattle.item_readings.specs.Seen.{body_seen};
@@ -133,7 +134,7 @@ fn begin(
 }
 
 fn read(alloc: Global, standing: &Standing, tokens: &[OutToken]) -> Result<BodyReading, AllocError>
-    ensures { IfOk result (λ x. ReadsBody (names_of standing.now.made.names tokens.now) tokens.now (body_seen x)) }
+    ensures { IfOk result (λ x. ReadsBody (names_of standing.now.made.names (bare_tokens tokens.now)) (bare_tokens tokens.now) (body_seen x)) }
 {
     let names = type_names(alloc, &standing.made.names, tokens)?;
     let names = NameSet::from_vec(names);
@@ -220,7 +221,7 @@ pub fn check_body(
     head: &HeadMeaning,
     known: &Known,
 ) -> Result<Elab<BodyMeaning>, AllocError>
-    ensures { IfOk result (λ elab. spec.MeansBody (answers_of known.now) (spec.context head.now.item tokens.now base) head.now elab) }
+    ensures { IfOk result (λ elab. spec.MeansBody (answers_of known.now) (spec.context head.now.item (bare_tokens tokens.now) base) head.now elab) }
 {
     let file = item_file(alloc, &head.item)?;
     let outer = Scopes::new(alloc);

@@ -1,5 +1,5 @@
 // The items of a unit, one after another (ISO C11 5.1.1.1, 6.9).
-ghost use Rattle.std.specs.Prelude.{◌≡◌, ◌<◌, ◌≤◌, List, [], ◌∷◌, ◌++◌, drop, take, length, true, false, IfOk, IsTrue, OnOk};
+ghost use Rattle.std.specs.Prelude.{◌≡◌, ◌<◌, ◌≤◌, List, [], ◌∷◌, ◌++◌, drop, take, length, true, false, is_some, IfOk, IfSome, IsTrue, OnOk};
 ghost use Rattle.std.specs.Vec.Iter.{into_iter_items};
 ghost use Rattle.std.specs.List.{list_any};
 ghost use Rattle.earlier_items.specs.Before.{AreBefore};
@@ -8,6 +8,7 @@ ghost use Rattle.item_readings.specs.Readings.{IsReader, Reader};
 ghost use Rattle.scope_tables.specs.declared.meanings.HeadMeaning.{HeadMeaning as Meaning};
 ghost use Rattle.stmt_checks.specs.Folding.{Takes, folded_of};
 ghost use Rattle.stmt_checks.specs.Folds as spec;
+ghost use Rattle.stmt_checks.specs.Last.{if_any};
 
 use crate::checking::check_body;
 use crate::heading::elab_head;
@@ -119,6 +120,14 @@ fn is_checked(tokens: &[OutToken], at: usize, head: &HeadMeaning) -> bool
     at < tokens.len() && is_read(head)
 }
 
+/// The tokens of an item's head, up to and with the `{` of a body.
+pub(crate) fn head_part(tokens: &[OutToken]) -> &[OutToken]
+    requires size { length tokens.now ≤ 2000000 }
+    ensures tokens { result.now ≡ spec.head_tokens tokens.now }
+{
+    front(tokens, body_start(tokens) + 1)
+}
+
 // The body of an item, behind this head and at this token of the item.
 fn body_at(
     alloc: Global,
@@ -158,6 +167,33 @@ fn add_body(
     Ok(())
 }
 
+/// What the items of another unit mean that weren't taken over.
+#[derive(Drop)]
+pub(crate) struct Left {
+    pub heads: IntoIter<HeadMeaning>,
+    pub bodies: IntoIter<BodyMeaning>,
+}
+
+impl Left {
+    // The next of the heads, and the next of the bodies where the item with these tokens has one.
+    fn next(&mut self, tokens: &[OutToken]) -> Option<(HeadMeaning, Option<BodyMeaning>)>
+        requires size { length tokens.now ≤ 2000000 }
+        ensures heads { IfSome result (λ n. into_iter_items self.old.heads ≡ n.0 ∷ into_iter_items self.new.heads) }
+        ensures bodies { IfSome result (λ n. into_iter_items self.old.bodies ≡ if_any n.1 ++ into_iter_items self.new.bodies) }
+        ensures body { IfSome result (λ n. is_some n.1 ≡ spec.is_checked tokens.now n.0) }
+    {
+        let head = self.heads.next()?;
+        if !is_checked(tokens, body_start(tokens), &head) {
+            return Some((head, None));
+        }
+        let Some(body) = self.bodies.next() else {
+            drop(head);
+            return None;
+        };
+        Some((head, Some(body)))
+    }
+}
+
 impl Folding {
     /// No item. It takes no memory.
     pub fn new(alloc: Global) -> Folding
@@ -185,35 +221,60 @@ impl Folding {
         Ok(())
     }
 
-    /// The next item, which has these tokens, as another unit has it: the next of that unit's heads, and the next of its bodies where the item has one. Whether they are
+    /// The next item, which has the same tokens as one of another unit: with the next of that unit's heads, and of its bodies where the item has one. Whether they are
     /// there; else nothing changes here.
     pub fn take(
         &mut self,
         alloc: Global,
         tokens: &[OutToken],
-        heads: &mut IntoIter<HeadMeaning>,
-        bodies: &mut IntoIter<BodyMeaning>,
+        left: &mut Left,
     ) -> Result<bool, AllocError>
         requires known { AreBefore self.old.heads.items self.old.earlier }
         requires size { length tokens.now ≤ 2000000 }
         ensures known { IfOk result (λ taken. AreBefore self.new.heads.items self.new.earlier) }
-        ensures taken { IfOk result (λ taken. taken ≡ true → Takes tokens.now self.old self.new (into_iter_items heads.old) (into_iter_items heads.new) (into_iter_items bodies.old) (into_iter_items bodies.new)) }
+        ensures taken { IfOk result (λ taken. taken ≡ true → Takes tokens.now tokens.now self.old self.new (into_iter_items left.old.heads) (into_iter_items left.new.heads) (into_iter_items left.old.bodies) (into_iter_items left.new.bodies)) }
         ensures missing { IfOk result (λ taken. taken ≡ false → self.new ≡ self.old) }
     {
-        let at = body_start(tokens);
-        let Some(head) = heads.next() else {
+        let Some((head, body)) = left.next(tokens) else {
             return Ok(false);
         };
-        if is_checked(tokens, at, &head) {
-            let Some(body) = bodies.next() else {
-                drop(head);
-                return Ok(false);
-            };
+        if let Some(body) = body {
             let Ok(()) = self.bodies.push(body) else {
                 drop(head);
                 return Err(AllocError);
             };
         }
+        match self.add_head(alloc, head) {
+            Ok(()) => Ok(true),
+            Err(error) => Err(error),
+        }
+    }
+
+    /// The next item, which has the head of one with other tokens of another unit, and a body of its own. Whether that unit's next head, and its next body where the other
+    /// item has one, are there; else nothing changes here.
+    pub fn take_head(
+        &mut self,
+        alloc: Global,
+        others: &[OutToken],
+        tokens: &[OutToken],
+        left: &mut Left,
+    ) -> Result<bool, AllocError>
+        requires known { AreBefore self.old.heads.items self.old.earlier }
+        requires others { length others.now ≤ 2000000 }
+        requires size { length tokens.now ≤ 2000000 }
+        ensures known { IfOk result (λ taken. AreBefore self.new.heads.items self.new.earlier) }
+        ensures taken { IfOk result (λ taken. taken ≡ true → Takes others.now tokens.now self.old self.new (into_iter_items left.old.heads) (into_iter_items left.new.heads) (into_iter_items left.old.bodies) (into_iter_items left.new.bodies)) }
+        ensures missing { IfOk result (λ taken. taken ≡ false → self.new ≡ self.old) }
+    {
+        let Some((head, body)) = left.next(others) else {
+            return Ok(false);
+        };
+        drop(body);
+        let at = body_start(tokens);
+        let Ok(()) = add_body(alloc, &mut self.bodies, tokens, at, &head, &self.earlier) else {
+            drop(head);
+            return Err(AllocError);
+        };
         match self.add_head(alloc, head) {
             Ok(()) => Ok(true),
             Err(error) => Err(error),

@@ -3,6 +3,7 @@ ghost use Rattle.std.specs.Prelude.{◌≡◌, [], IfOk};
 ghost use Rattle.asking.specs.LookUps.{run_by};
 ghost use Rattle.elab_state.specs.Doings.{fault};
 ghost use Rattle.elab_state.specs.Seen.{context_of, told_of};
+ghost use Rattle.elab_state.specs.Tokens.{bare, bare_tokens};
 ghost use Rattle.elab_state.specs.Wants.{answered as answers_of};
 ghost use Rattle.item_readings.specs.Readings.{IsReader, Reader, ReadsHead};
 ghost use Rattle.item_readings.specs.Seen.{head_seen};
@@ -144,7 +145,7 @@ fn by_reading(
 }
 
 fn read(alloc: Global, made: &Made, tokens: &[OutToken]) -> Result<HeadReading, AllocError>
-    ensures { IfOk result (λ x. ReadsHead (names_of made.now.names tokens.now) tokens.now (head_seen x)) }
+    ensures { IfOk result (λ x. ReadsHead (names_of made.now.names (bare_tokens tokens.now)) (bare_tokens tokens.now) (head_seen x)) }
 {
     let names = type_names(alloc, &made.names, tokens)?;
     let names = NameSet::from_vec(names);
@@ -177,14 +178,14 @@ fn read_and_judge(
 
 #[tactic(auto, unfolding(crate::specs::Heads::is_semicolon))]
 fn is_semicolon(token: &OutToken) -> bool
-    ensures { result ≡ spec.is_semicolon token.now }
+    ensures { result ≡ spec.is_semicolon (bare token.now) }
 {
     token.spelling.as_str() == ";"
 }
 
 // A `;` alone.
 fn is_empty(tokens: &[OutToken]) -> bool
-    ensures { result ≡ spec.is_empty tokens.now }
+    ensures { result ≡ spec.is_empty (bare_tokens tokens.now) }
 {
     match tokens {
         [token] => is_semicolon(token),
@@ -244,7 +245,7 @@ pub fn elab_head(
     tokens: &[OutToken],
     known: &Known,
 ) -> Result<Elab<HeadMeaning>, AllocError>
-    ensures { IfOk result (λ elab. spec.MeansHead (answers_of known.now) (means.context item.now tokens.now 0) elab) }
+    ensures { IfOk result (λ elab. spec.MeansHead (answers_of known.now) (means.context item.now (bare_tokens tokens.now) 0) elab) }
 {
     let file = item_file(alloc, item)?;
     let outer = Scopes::new(alloc);

@@ -16,7 +16,7 @@ use type_data::{CType, Node, Qual, Space};
 
 // The label whose name this token is.
 fn label(around: &Around<'_>, name: &Name, at: u32) -> Result<Entity, AllocError>
-    requires name { name.now ≡ spelling_of around.now.tokens.now at }
+    requires name { name.now ≡ spelling_of (context_of around.now).tokens at }
     ensures { IfOk result (λ e. e ≡ spec.label (context_of around.now) at) }
 {
     let name = name.share()?;
@@ -50,7 +50,7 @@ fn share(alloc: Global, entity: Option<&Entity>) -> Result<Option<Entity>, Alloc
 }
 
 fn bind(around: &Around<'_>, labels: &mut Scopes, name: Name, at: u32) -> Result<(), AllocError>
-    requires name { name ≡ spelling_of around.now.tokens.now at }
+    requires name { name ≡ spelling_of (context_of around.now).tokens at }
     ensures { OnOk result (labels.new ≡ spec.declared_label (context_of around.now) at labels.old) }
 {
     if labels.depth() == 0 {
@@ -132,7 +132,7 @@ fn define_first(
     name: Name,
     at: u32,
 ) -> Result<(), AllocError>
-    requires name { name ≡ spelling_of around.now.tokens.now at }
+    requires name { name ≡ spelling_of (context_of around.now).tokens at }
     ensures { OnOk result (standing.new ≡ spec.defined_first (context_of around.now) at standing.old) }
 {
     let entity = label(around, &name, at)?;
@@ -157,7 +157,7 @@ fn define(
     at: u32,
     before: &Option<Entity>,
 ) -> Result<(), AllocError>
-    requires name { name ≡ spelling_of around.now.tokens.now at }
+    requires name { name ≡ spelling_of (context_of around.now).tokens at }
     ensures { OnOk result (standing.new ≡ spec.defined (context_of around.now) at before.now standing.old) }
 {
     match before {

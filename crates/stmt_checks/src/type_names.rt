@@ -1,5 +1,6 @@
 // The typedef names among the identifiers of a head or a body, as they are at its front (ISO C11 6.7.8).
 ghost use Rattle.std.specs.Prelude.{◌≡◌, IfOk, option_map};
+ghost use Rattle.elab_state.specs.Tokens.{bare_tokens};
 ghost use Rattle.stmt_checks.specs.TypeNames as spec;
 
 use elab_state::is_identifier;
@@ -47,7 +48,7 @@ pub(crate) fn type_names(
     names: &Scopes,
     tokens: &[OutToken],
 ) -> Result<Vec<Name>, AllocError>
-    ensures { IfOk result (λ v. v.items ≡ spec.type_names names.now tokens.now) }
+    ensures { IfOk result (λ v. v.items ≡ spec.type_names names.now (bare_tokens tokens.now)) }
 {
     let mut made = Vec::new(alloc);
     let mut rest = tokens;

@@ -1,11 +1,13 @@
 // The items of a unit behind those of the unit that was worked out last (ISO C11 5.1.1.1, 6.9).
-ghost use Rattle.std.specs.Prelude.{◌≡◌, ◌≤◌, length, IfOk, IsTrue};
+ghost use Rattle.std.specs.Prelude.{◌≡◌, ◌≤◌, true, false, length, IfOk, IsTrue};
+ghost use Rattle.std.specs.Vec.Iter.{into_iter_items};
+ghost use Rattle.earlier_items.specs.Before.{AreBefore};
 ghost use Rattle.item_readings.specs.Readings.{IsReader, Reader};
-ghost use Rattle.stmt_checks.specs.Folding.{Goes, folded_of};
+ghost use Rattle.stmt_checks.specs.Folding.{Goes, TakesItem, folded_of};
 ghost use Rattle.stmt_checks.specs.Folds as spec;
-ghost use Rattle.stmt_checks.specs.Last.{IsSame};
+ghost use Rattle.stmt_checks.specs.Last.{AreAlike};
 
-use crate::folding::{Folding, fold, own};
+use crate::folding::{Folding, Left, fold, head_part, own};
 use scope_tables::{BodyMeaning, HeadMeaning, UnitMeaning};
 use std::alloc::{AllocError, Global};
 use std::marker::Model;
@@ -13,8 +15,8 @@ use tok_data::{FileId, OutToken, TokId};
 use unit_items::{Item, items_of};
 use unit_meaning::meaning_of;
 
-/// The unit that was worked out last: its items, and what they mean. Another unit takes over what the items at its front mean that are the same, since items are judged by
-/// those before them. Contracts see how many items there are.
+/// The unit that was worked out last: its items, and what they mean. Another unit takes over what the items at its front mean that have the same names and heads, since items
+/// are judged by the heads before them. Contracts see how many items there are.
 #[derive(Drop)]
 pub struct LastUnit {
     tokens: Vec<OutToken>,
@@ -25,19 +27,20 @@ pub struct LastUnit {
 
 impl Model for LastUnit {
     ghost use Rattle.std.specs.Prelude.{ℕ, length};
-    ghost use Rattle.stmt_checks.specs.Folds.{nothing};
-    ghost use Rattle.stmt_checks.specs.Last.{AreMeant};
+    ghost use Rattle.stmt_checks.specs.Last.{IsLast};
 
     ghost Value = { ℕ };
 
     ghost view = { λ l. length l.items.items };
 
-    ghost invariant = { λ l. AreMeant l.tokens.items nothing l.items.items l.heads.items l.bodies.items };
+    ghost invariant = { λ l. IsLast l.tokens.items l.items.items l.heads.items l.bodies.items };
 }
 
 impl LastUnit {
     /// No unit was worked out. It takes no memory.
-    pub fn none(alloc: Global) -> LastUnit {
+    pub fn none(alloc: Global) -> LastUnit
+        ensures { result ≡ 0 }
+    {
         LastUnit {
             tokens: Vec::new(alloc),
             items: Vec::new(alloc),
@@ -47,14 +50,55 @@ impl LastUnit {
     }
 }
 
-// Whether two items, each with its tokens, are the same.
-fn is_same(item: &Item, tokens: &[OutToken], other: &Item, others: &[OutToken]) -> bool
-    ensures { IsTrue result → IsSame item.now tokens.now other.now others.now }
+// Whether tokens have the same kinds and spellings, wherever they stand.
+fn are_alike(tokens: &[OutToken], others: &[OutToken]) -> bool
+    ensures { IsTrue result → AreAlike tokens.now others.now }
 {
-    item.name == other.name && tokens == others
+    let mut rest = tokens;
+    let mut left = others;
+    'tokens: while let Some((token, behind)) = rest.split_first() {
+        let Some((other, more)) = left.split_first() else {
+            return false;
+        };
+        if token.kind != other.kind || token.spelling != other.spelling {
+            return false;
+        }
+        rest = behind;
+        left = more;
+    }
+    left.is_empty()
 }
 
-// What the items at the front of a unit mean, as far as they are the same as those of the last one, and the items behind them.
+// Adds an item as the unit before has another one with the same name, if their heads are alike: with its body too where they are alike as a whole. Whether it was added.
+fn take_item(
+    alloc: Global,
+    folding: &mut Folding,
+    item: &Item,
+    tokens: &[OutToken],
+    other: &Item,
+    others: &[OutToken],
+    left: &mut Left,
+) -> Result<bool, AllocError>
+    requires known { AreBefore folding.old.heads.items folding.old.earlier }
+    requires size { length tokens.now ≤ 2000000 }
+    requires others { length others.now ≤ 2000000 }
+    ensures known { IfOk result (λ taken. AreBefore folding.new.heads.items folding.new.earlier) }
+    ensures taken { IfOk result (λ taken. taken ≡ true → TakesItem item.now tokens.now other.now others.now folding.old folding.new (into_iter_items left.old.heads) (into_iter_items left.new.heads) (into_iter_items left.old.bodies) (into_iter_items left.new.bodies)) }
+    ensures missing { IfOk result (λ taken. taken ≡ false → folding.new ≡ folding.old) }
+{
+    if item.name != other.name {
+        return Ok(false);
+    }
+    if are_alike(tokens, others) {
+        return folding.take(alloc, others, left);
+    }
+    if are_alike(head_part(tokens), head_part(others)) {
+        return folding.take_head(alloc, others, tokens, left);
+    }
+    Ok(false)
+}
+
+// What the items at the front of a unit mean, as far as the last one has them too, and the items behind them.
 fn taken_over<'a>(
     alloc: Global,
     last: LastUnit,
@@ -70,8 +114,11 @@ fn taken_over<'a>(
         heads,
         bodies,
     } = last;
-    let mut heads = heads.into_iter();
-    let mut bodies = bodies.into_iter();
+    let before = tokens_before.as_slice();
+    let mut left = Left {
+        heads: heads.into_iter(),
+        bodies: bodies.into_iter(),
+    };
     let mut folding = Folding::new(alloc);
     let mut rest = items;
     let mut others = items_before.as_slice();
@@ -79,11 +126,15 @@ fn taken_over<'a>(
         let Some((other, more)) = others.split_first() else {
             return Ok((folding, rest));
         };
-        let tokens = own(tokens, item);
-        if !is_same(item, tokens, other, own(&tokens_before, other)) {
-            return Ok((folding, rest));
-        }
-        let taken = folding.take(alloc, tokens, &mut heads, &mut bodies)?;
+        let taken = take_item(
+            alloc,
+            &mut folding,
+            item,
+            own(tokens, item),
+            other,
+            own(before, other),
+            &mut left,
+        )?;
         if !taken {
             return Ok((folding, rest));
         }

@@ -86,22 +86,22 @@ expressions::paren-returns t c =
 
 pub expressions::size_of_type-returns-in-Err : goal.expressions::size_of_type-returns-in-Err
 expressions::size_of_type-returns-in-Err t c =
-    off (answered (told_of c.args.around.now)) (spec.type_name (context_of c.args.around.now) spec.unevaluated (seen.type_of c.args.name.now) c.args.made.now) (λ x now. casts.size (context_of c.args.around.now) c.args.at (operators.is_alignment (tokens.spelling c.args.around.now.tokens.now c.args.at)) x now) c.in-Err.halt c.in-Err.ensures
+    off (answered (told_of c.args.around.now)) (spec.type_name (context_of c.args.around.now) spec.unevaluated (seen.type_of c.args.name.now) c.args.made.now) (λ x now. casts.size (context_of c.args.around.now) c.args.at (operators.is_alignment (tokens.spelling (context_of c.args.around.now).tokens c.args.at)) x now) c.in-Err.halt c.in-Err.ensures
 
 pub expressions::size_of_type-returns : goal.expressions::size_of_type-returns
 expressions::size_of_type-returns t c =
-    comes_as (told_of c.args.around.now) (spec.judge (context_of c.args.around.now) c.args.place (trees.Of_type c.args.at 0 (seen.type_of c.args.name.now) 0) c.args.made.now) (casts.size (context_of c.args.around.now) c.args.at (operators.is_alignment (tokens.spelling c.args.around.now.tokens.now c.args.at)) c.in-Ok.done c.type_name.new.made) (λ j. j) c.size_by_keyword.result c.size_by_keyword.new.made
-    (on (answered (told_of c.args.around.now)) (spec.type_name (context_of c.args.around.now) spec.unevaluated (seen.type_of c.args.name.now) c.args.made.now) (λ x now. casts.size (context_of c.args.around.now) c.args.at (operators.is_alignment (tokens.spelling c.args.around.now.tokens.now c.args.at)) x now) (c.in-Ok.done) (c.type_name.new.made) c.in-Ok.ensures)
+    comes_as (told_of c.args.around.now) (spec.judge (context_of c.args.around.now) c.args.place (trees.Of_type c.args.at 0 (seen.type_of c.args.name.now) 0) c.args.made.now) (casts.size (context_of c.args.around.now) c.args.at (operators.is_alignment (tokens.spelling (context_of c.args.around.now).tokens c.args.at)) c.in-Ok.done c.type_name.new.made) (λ j. j) c.size_by_keyword.result c.size_by_keyword.new.made
+    (on (answered (told_of c.args.around.now)) (spec.type_name (context_of c.args.around.now) spec.unevaluated (seen.type_of c.args.name.now) c.args.made.now) (λ x now. casts.size (context_of c.args.around.now) c.args.at (operators.is_alignment (tokens.spelling (context_of c.args.around.now).tokens c.args.at)) x now) (c.in-Ok.done) (c.type_name.new.made) c.in-Ok.ensures)
     c.size_by_keyword.ensures
 
 pub postfix::operand-returns-in-Err : goal.postfix::operand-returns-in-Err
 postfix::operand-returns-in-Err t c =
-    off (answered (told_of c.args.around.now)) (spec.judge (context_of c.args.around.now) c.args.place (seen.tree_of c.args.right.now) c.args.made.now) (λ x now. rows.row (context_of c.args.around.now) c.args.at (operators.binary_form (tokens.spelling c.args.around.now.tokens.now c.args.at)) (c.args.left ∷ x ∷ []) now) c.in-Err.halt c.in-Err.ensures
+    off (answered (told_of c.args.around.now)) (spec.judge (context_of c.args.around.now) c.args.place (seen.tree_of c.args.right.now) c.args.made.now) (λ x now. rows.row (context_of c.args.around.now) c.args.at (operators.binary_form (tokens.spelling (context_of c.args.around.now).tokens c.args.at)) (c.args.left ∷ x ∷ []) now) c.in-Err.halt c.in-Err.ensures
 
 pub postfix::operand-returns : goal.postfix::operand-returns
 postfix::operand-returns t c =
-    comes_as (told_of c.args.around.now) (spec.behind (context_of c.args.around.now) c.args.place (trees.Operand_of c.args.at (seen.tree_of c.args.right.now)) c.args.left c.args.made.now) (rows.row (context_of c.args.around.now) c.args.at (operators.binary_form (tokens.spelling c.args.around.now.tokens.now c.args.at)) (c.args.left ∷ c.in-Ok.done ∷ []) c.judged.new.made) (λ j. j) c.operator_row.result c.operator_row.new.made
-    (on (answered (told_of c.args.around.now)) (spec.judge (context_of c.args.around.now) c.args.place (seen.tree_of c.args.right.now) c.args.made.now) (λ x now. rows.row (context_of c.args.around.now) c.args.at (operators.binary_form (tokens.spelling c.args.around.now.tokens.now c.args.at)) (c.args.left ∷ x ∷ []) now) (c.in-Ok.done) (c.judged.new.made) c.in-Ok.ensures)
+    comes_as (told_of c.args.around.now) (spec.behind (context_of c.args.around.now) c.args.place (trees.Operand_of c.args.at (seen.tree_of c.args.right.now)) c.args.left c.args.made.now) (rows.row (context_of c.args.around.now) c.args.at (operators.binary_form (tokens.spelling (context_of c.args.around.now).tokens c.args.at)) (c.args.left ∷ c.in-Ok.done ∷ []) c.judged.new.made) (λ j. j) c.operator_row.result c.operator_row.new.made
+    (on (answered (told_of c.args.around.now)) (spec.judge (context_of c.args.around.now) c.args.place (seen.tree_of c.args.right.now) c.args.made.now) (λ x now. rows.row (context_of c.args.around.now) c.args.at (operators.binary_form (tokens.spelling (context_of c.args.around.now).tokens c.args.at)) (c.args.left ∷ x ∷ []) now) (c.in-Ok.done) (c.judged.new.made) c.in-Ok.ensures)
     c.operator_row.ensures
 
 pub postfix::index-returns-in-Err : goal.postfix::index-returns-in-Err
@@ -686,7 +686,7 @@ naming::parameters-returns-in-Ok-function_step-2 t c =
 
 pub naming::specifier-returns-in-Ok : goal.naming::specifier-returns-in-Ok
 naming::specifier-returns-in-Ok t c =
-    let last : (c.add_word.new.gathered, c.add_word.new.made) ≡ specifiers.with_word (words.word_of (tokens.spelling c.args.around.now.tokens.now c.in-Word.at)) c.in-Word.at c.args.gathered.now c.args.made.now = search rules in
+    let last : (c.add_word.new.gathered, c.add_word.new.made) ≡ specifiers.with_word (words.word_of (tokens.spelling (context_of c.args.around.now).tokens c.in-Word.at)) c.in-Word.at c.args.gathered.now c.args.made.now = search rules in
     ap (λ x. run_by (answered (told_of c.args.around.now)) (spec.specifier (context_of c.args.around.now) c.args.place x c.args.gathered.now c.args.made.now)) (layers.specifier_word c.args.specifier.now c.in-Word.at c.in-Word.is)
     ∙ ap (λ r. Ends r) (sym last)
 

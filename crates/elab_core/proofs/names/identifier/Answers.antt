@@ -12,9 +12,9 @@ use Rattle.elab_core.specs.Names.{used_row}
 use Rattle.elab_core.proofs.names.identifier.Goals as goal
 
 pub returns-in-Err : goal.returns-in-Err
-returns-in-Err c = stops_on (answered (told_of c.args.around.now)) (denoted (context_of c.args.around.now) space.Ordinary (spelling c.args.around.now.tokens.now c.args.at) c.args.made.now) (λ r. used_row (context_of c.args.around.now) c.args.counted c.args.at r.0 r.1) c.in-Err.halt c.in-Err.ensures
+returns-in-Err c = stops_on (answered (told_of c.args.around.now)) (denoted (context_of c.args.around.now) space.Ordinary (spelling (context_of c.args.around.now).tokens c.args.at) c.args.made.now) (λ r. used_row (context_of c.args.around.now) c.args.counted c.args.at r.0 r.1) c.in-Err.halt c.in-Err.ensures
 
 pub returns : goal.returns
 returns c =
-    let first : run_by (answered (told_of c.args.around.now)) (denoted (context_of c.args.around.now) space.Ordinary (spelling c.args.around.now.tokens.now c.args.at) c.args.made.now) ≡ Ends (c.in-Ok.entity, c.args.made.now) = search rules in
-    comes_on (told_of c.args.around.now) (denoted (context_of c.args.around.now) space.Ordinary (spelling c.args.around.now.tokens.now c.args.at) c.args.made.now) (λ r. used_row (context_of c.args.around.now) c.args.counted c.args.at r.0 r.1) (λ j. j) (c.in-Ok.entity, c.args.made.now) c.used_row.result c.used_row.new.made first c.used_row.ensures
+    let first : run_by (answered (told_of c.args.around.now)) (denoted (context_of c.args.around.now) space.Ordinary (spelling (context_of c.args.around.now).tokens c.args.at) c.args.made.now) ≡ Ends (c.in-Ok.entity, c.args.made.now) = search rules in
+    comes_on (told_of c.args.around.now) (denoted (context_of c.args.around.now) space.Ordinary (spelling (context_of c.args.around.now).tokens c.args.at) c.args.made.now) (λ r. used_row (context_of c.args.around.now) c.args.counted c.args.at r.0 r.1) (λ j. j) (c.in-Ok.entity, c.args.made.now) c.used_row.result c.used_row.new.made first c.used_row.ensures

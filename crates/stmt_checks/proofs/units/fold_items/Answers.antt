@@ -4,7 +4,7 @@ use Rattle.stmt_checks.proofs.TakenOver.{can_be_taken}
 use Rattle.stmt_checks.proofs.units.fold_items.Goals as goal
 
 pub invariant_of-last : goal.invariant_of-last
-invariant_of-last c = can_be_taken c.args.tokens.items c.in_ok-items.items.items c.in_ok-earlier.field-0 (λ r is. search rules)
+invariant_of-last c = can_be_taken c.args.tokens.items c.in_ok-items.items.items c.in_ok-earlier.field-0 (search rules) (λ r is. search rules)
 
 pub returns : goal.returns
 returns c = λ r is.
