@@ -1,4 +1,3 @@
 mod Fronts
-mod Longer
 mod Looking
 mod Turns

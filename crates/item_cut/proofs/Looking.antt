@@ -1,5 +1,5 @@
 -- What is kept while the `{` that opens the body is looked for.
-use Rattle.std.proofs.Common.{◌≡◌, refl, ap, sym, ◌∙◌, subst, ℕ, Bool, true, false, ◌+◌, ◌<◌, ◌≤◌, List, [], ◌∷◌, ◌++◌, length, arith, length-append, if◌then◌else◌}
+use Rattle.std.proofs.Common.{◌≡◌, refl, ap, sym, ◌∙◌, ℕ, Bool, true, false, ◌+◌, ◌<◌, ◌≤◌, List, [], ◌∷◌, ◌++◌, length, arith, length-append, if◌then◌else◌}
 use Rattle.tok_data.specs.declared.tokens.OutToken.{OutToken}
 use Rattle.item_cut.specs.declared.progress.Progress.{Progress}
 use Rattle.item_cut.specs.Items.{body_at, body_from, depth_from, opens_body}

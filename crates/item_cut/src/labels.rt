@@ -32,7 +32,7 @@ fn begins_end(tokens: &[OutToken]) -> bool
 fn is_label(token: &OutToken, behind: &[OutToken]) -> bool
     ensures { result ≡ (spec.is_name token.now && spec.begins_end behind.now) }
 {
-    is_name(token) && begins_end(behind)
+    begins_end(behind) && is_name(token)
 }
 
 /// The label of an item: the spelling of its first identifier, no keyword, that `(`, `[`, `=`, `,`, `;` or `{` follows

@@ -1,12 +1,10 @@
 // What the cut keeps of the front of an item.
-ghost use Rattle.std.specs.Prelude.{◌≡◌, ◌<◌, []};
+ghost use Rattle.std.specs.Prelude.{not, ◌≡◌, ◌&&◌, ◌==◌, ◌<◌, []};
 ghost use Rattle.item_cut.specs.Items as spec;
 ghost use Rattle.item_cut.specs.Progress.{progress_of};
 ghost use Rattle.item_cut.specs.Progress as steps;
 
-use crate::marks::{
-    is_close_brace, is_close_paren, is_closing, is_equals, is_open_brace, is_opening, is_semicolon,
-};
+use crate::marks::{Mark, mark_of};
 
 #[derive(Clone, Copy, Debug, PartialEq, Eq, Hash, Drop)]
 pub(crate) struct Progress {
@@ -18,20 +16,6 @@ pub(crate) struct Progress {
     pub assigned: bool,
     // A body was opened.
     pub body: bool,
-}
-
-#[tactic(auto, unfolding(crate::specs::Items::depth_after))]
-fn depth_after(depth: usize, text: &str) -> usize
-    requires { depth < 2000000 }
-    ensures { result ≡ spec.depth_after depth text.now }
-{
-    if is_opening(text) {
-        return depth + 1;
-    }
-    if is_closing(text) {
-        return depth.saturating_sub(1);
-    }
-    depth
 }
 
 impl Progress {
@@ -47,36 +31,53 @@ impl Progress {
         }
     }
 
+    // A `{` would open the body here.
+    fn awaits_body(&self) -> bool
+        ensures { result ≡ (self.now.depth == 0 && self.now.closed && not self.now.assigned) }
+    {
+        self.depth == 0 && self.closed && !self.assigned
+    }
+
     #[tactic(auto, unfolding(crate::specs::Progress::opens))]
     pub fn opens(&self, text: &str) -> bool
         ensures { result ≡ steps.opens self.now text.now }
     {
-        is_open_brace(text) && self.depth == 0 && self.closed && !self.assigned
+        self.awaits_body() && matches!(mark_of(text), Mark::OpenBrace)
     }
 
-    #[tactic(auto, unfolding(crate::specs::Progress::after))]
+    #[tactic(auto, unfolding(crate::specs::Progress::after, crate::specs::Progress::opens, crate::specs::Items::depth_after))]
     pub fn after(&self, text: &str) -> Progress
         requires { self.now.depth < 2000000 }
         ensures { result ≡ steps.after self.now text.now }
     {
-        // (no mark is as long as most words are)
-        if text.len() > 2 {
-            return Progress {
-                depth: self.depth,
-                closed: false,
-                assigned: self.assigned,
-                body: self.body,
-            };
-        }
-        let depth = depth_after(self.depth, text);
-        let closed = is_close_paren(text);
-        let assigned = self.assigned || (is_equals(text) && self.depth == 0);
-        let body = self.body || self.opens(text);
-        Progress {
-            depth,
-            closed,
-            assigned,
-            body,
+        let same = Progress {
+            closed: false,
+            ..*self
+        };
+        match mark_of(text) {
+            Mark::OpenParen | Mark::OpenBracket => Progress {
+                depth: self.depth + 1,
+                ..same
+            },
+            Mark::OpenBrace => Progress {
+                depth: self.depth + 1,
+                body: self.body || self.awaits_body(),
+                ..same
+            },
+            Mark::CloseParen => Progress {
+                depth: self.depth.saturating_sub(1),
+                closed: true,
+                ..same
+            },
+            Mark::CloseBracket | Mark::CloseBrace => Progress {
+                depth: self.depth.saturating_sub(1),
+                ..same
+            },
+            Mark::Equals => Progress {
+                assigned: self.assigned || self.depth == 0,
+                ..same
+            },
+            Mark::Semicolon | Mark::Comma | Mark::Other => same,
         }
     }
 
@@ -85,6 +86,10 @@ impl Progress {
     pub fn ends(&self, text: &str) -> bool
         ensures { result ≡ steps.ends self.now text.now }
     {
-        self.depth == 0 && (is_semicolon(text) || is_close_brace(text) && self.body)
+        match mark_of(text) {
+            Mark::Semicolon => self.depth == 0,
+            Mark::CloseBrace => self.depth == 0 && self.body,
+            _ => false,
+        }
     }
 }

@@ -1,4 +1,4 @@
-use Rattle.item_cut.proofs.Looking.{is_shallow, looking_ends, looking_starts, looking_stops, looking_turns}
+use Rattle.item_cut.proofs.Looking.{is_shallow, looking_stops, looking_turns}
 use Rattle.item_cut.proofs.openings.body_start.Goals as goal
 
 pub after-progress-requires : goal.after-progress-requires
