@@ -188,9 +188,10 @@ impl<'a> Sources<'a> {
     pub fn occurrence(&self, occ: &Occ) -> Result<Occ, AllocError>
         ensures { IfOk result (λ r. r ≡ spec.occurrence self.now.tokens self.now.items occ.now) }
     {
-        let tok = self.source(&occ.tok)?;
+        let token = self.output(&occ.tok);
+        let tok = source(token, &occ.tok)?;
         let anchor = self.anchor(&occ.anchor)?;
-        let role = role_of(self.output(&occ.tok), occ.role);
+        let role = role_of(token, occ.role);
         Ok(Occ { tok, anchor, role })
     }
 }
