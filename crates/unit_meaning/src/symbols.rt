@@ -1,11 +1,11 @@
 // The symbols of a unit.
 ghost use Rattle.std.specs.Prelude.{◌≡◌, ◌++◌, IfOk, OnOk, option_map};
+ghost use Rattle.unit_items.specs.Sources.{output};
 ghost use Rattle.unit_meaning.specs.Symbols as spec;
 
-use crate::sites::token_in;
-use scope_tables::{HeadMeaning, HeadSymbol, Symbol, SymbolKind};
+use scope_tables::{HeadMeaning, HeadSymbol, Symbol, SymbolKind, item_file};
 use std::alloc::{AllocError, Global};
-use tok_data::{OutToken, Spelt};
+use tok_data::{FileId, OutToken, Spelt, TokId};
 use type_data::ItemName;
 use unit_items::Sources;
 
@@ -31,15 +31,16 @@ fn of_token(token: Option<&OutToken>, kind: SymbolKind) -> Result<Option<Symbol>
     }
 }
 
+// `file` names the tokens of the symbol's item.
 fn symbol(
-    alloc: Global,
     sources: &Sources<'_>,
-    item: &ItemName,
+    file: &FileId,
     told: &HeadSymbol,
 ) -> Result<Option<Symbol>, AllocError>
-    ensures { IfOk result (λ r. r ≡ spec.symbol sources.now item.now told.now) }
+    ensures { IfOk result (λ r. r ≡ spec.of_token (output sources.now.tokens sources.now.items (record { file = file.now; at = told.now.at })) told.now.kind) }
 {
-    let tok = token_in(alloc, item, told.at)?;
+    let file = file.copy()?;
+    let tok = TokId { file, at: told.at };
     let symbol = of_token(sources.output(&tok), told.kind)?;
     Ok(symbol)
 }
@@ -53,10 +54,11 @@ fn add_item(
 ) -> Result<(), AllocError>
     ensures { OnOk result (out.new.items ≡ out.old.items ++ spec.of_item sources.now item.now declared.now) }
 {
+    let file = item_file(alloc, item)?;
     let mut rest = declared;
     'declared: while let Some((told, behind)) = rest.split_first() {
         rest = behind;
-        let one = symbol(alloc, sources, item, told)?;
+        let one = symbol(sources, &file, told)?;
         let Some(one) = one else {
             continue;
         };
