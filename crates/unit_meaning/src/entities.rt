@@ -4,6 +4,7 @@ ghost use Rattle.std.specs.Map.{values_of};
 ghost use Rattle.unit_meaning.specs.Entities as spec;
 
 use crate::order::{part_bodies, part_heads};
+use crate::room;
 use indexmap::IndexMap;
 use scope_tables::{Anchor, BodyMeaning, Entity, HeadMeaning};
 use std::alloc::{AllocError, Global};
@@ -31,12 +32,11 @@ impl Model for ByAnchor {
 }
 
 impl ByAnchor {
-    fn new(alloc: Global) -> ByAnchor
-        ensures { result ≡ [] }
+    fn with_capacity(alloc: Global, capacity: usize) -> Result<ByAnchor, AllocError>
+        ensures { IfOk result (λ all. all ≡ []) }
     {
-        ByAnchor {
-            map: IndexMap::new(alloc),
-        }
+        let map = IndexMap::with_capacity(alloc, capacity)?;
+        Ok(ByAnchor { map })
     }
 
     fn put(&mut self, entity: Entity) -> Result<(), AllocError>
@@ -128,7 +128,7 @@ fn with_items(
 ) -> Result<ByAnchor, AllocError>
     ensures { IfOk result (λ all. all ≡ spec.with_items sources.now [] items.now heads.now bodies.now) }
 {
-    let mut all = ByAnchor::new(alloc);
+    let mut all = ByAnchor::with_capacity(alloc, room::of_entities(heads, bodies))?;
     let mut later_heads = heads;
     let mut later_bodies = bodies;
     let mut rest = items;

@@ -10,6 +10,7 @@ mod kept;
 mod meaning;
 mod occurrences;
 mod order;
+mod room;
 mod sites;
 mod statements;
 mod symbols;

@@ -4,6 +4,7 @@ ghost use Rattle.unit_items.specs.Sources.{occurrence};
 ghost use Rattle.unit_meaning.specs.Occurrences as spec;
 
 use crate::order::{part_bodies, part_heads};
+use crate::room;
 use scope_tables::{BodyMeaning, HeadMeaning, Occ};
 use std::alloc::{AllocError, Global};
 use unit_items::{Item, Sources};
@@ -63,7 +64,7 @@ pub(crate) fn in_items(
 ) -> Result<Vec<Occ>, AllocError>
     ensures { IfOk result (λ out. out.items ≡ spec.in_items items.now heads.now bodies.now) }
 {
-    let mut out = Vec::new(alloc);
+    let mut out = Vec::with_capacity(alloc, room::of_occs(heads, bodies))?;
     let mut later_heads = heads;
     let mut later_bodies = bodies;
     let mut rest = items;

@@ -3,6 +3,7 @@ ghost use Rattle.std.specs.Prelude.{◌≡◌, ◌++◌, IfOk, OnOk, option_map}
 ghost use Rattle.unit_items.specs.Sources.{output};
 ghost use Rattle.unit_meaning.specs.Symbols as spec;
 
+use crate::room;
 use scope_tables::{HeadMeaning, HeadSymbol, Symbol, SymbolKind, item_file};
 use std::alloc::{AllocError, Global};
 use tok_data::{FileId, OutToken, Spelt, TokId};
@@ -75,7 +76,7 @@ pub(crate) fn symbols(
 ) -> Result<Vec<Symbol>, AllocError>
     ensures { IfOk result (λ out. out.items ≡ spec.symbols sources.now heads.now) }
 {
-    let mut out = Vec::new(alloc);
+    let mut out = Vec::with_capacity(alloc, room::of_symbols(heads))?;
     let mut rest = heads;
     'heads: while let Some((head, behind)) = rest.split_first() {
         rest = behind;
