@@ -37,11 +37,8 @@ pub(crate) fn note(
 ) -> Result<(), AllocError>
     ensures { OnOk result ((q : List ℕ) → at map.new q ≡ option_or (at map.old q) (given (pointwise nat_eq name.now q) tok)) }
 {
-    if map.contains_key(name) {
-        return Ok(());
-    }
     let name = name.share()?;
-    map.insert(name, tok).map_err(AllocError::from)?;
+    map.entry(name)?.or_insert(tok);
     Ok(())
 }
 
