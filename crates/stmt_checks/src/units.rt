@@ -160,7 +160,8 @@ fn folded(
 
 /// What a unit means by its output tokens and the texts that it entered (ISO C11 5.1.1.1, 6.9), without what its directives show: its items in their order, each
 /// judged by what the heads in front of it declare, and then the unit's end. A body is looked at where its head was read. A unit has at most 2,000,000
-/// tokens. The cost is that of the items that aren't taken over, and of a comparison of those that are. It fails for want of memory alone.
+/// tokens. The cost is that of the items that aren't taken over, and linear in the tokens and in what the items mean: the cut, a comparison of the items that are taken
+/// over, and the unit's own lists. It fails for want of memory alone.
 pub fn fold_items(
     alloc: Global,
     last: LastUnit,

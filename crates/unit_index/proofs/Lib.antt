@@ -10,6 +10,7 @@ pub mod MatchLemmas
 pub mod MemberLemmas
 pub mod NeedLemmas
 pub mod OrderLemmas
+pub mod PlaceLemmas
 pub mod PlacingLemmas
 pub mod SharedLemmas
 pub mod SightLemmas

@@ -1,47 +1,29 @@
--- What is kept of a unit leads to the occurrences of a key.
+-- The place of the first occurrence of a key leads to all of them.
 use Rattle.std.proofs.Common.{◌≡◌, ℕ, ◌+◌, ◌++◌, Bool, true, false, List, [], ◌∷◌, length, Option, Some, None, refl, sym, ap, subst, ◌∙◌, append_assoc, length-append}
 use Rattle.std.specs.Prelude.{if◌then◌else◌}
 use Rattle.std.specs.List.{filter, find, slice_get}
 use Rattle.tok_data.specs.declared.sources.TokId.{TokId}
 use Rattle.scope_tables.specs.declared.entities.Anchor.{Anchor}
 use Rattle.scope_tables.specs.declared.entities.Occ.{Occ}
-use Rattle.scope_tables.specs.declared.units.UnitMeaning.{UnitMeaning}
-use Rattle.unit_index.specs.Chains.{first_from, nexts, left, by_token, by_anchor}
-use Rattle.unit_index.specs.Kept.{IsKept}
+use Rattle.unit_index.specs.declared.chains.By.TheVariants as by
+use Rattle.unit_index.specs.Chains.{first_from, left}
 use Rattle.scope_tables.specs.Occurrences.{is_at}
 use Rattle.unit_index.specs.Occurrences.{is_of}
-use Rattle.unit_index.specs.Walks.{IsOnTheWay, Stands}
-use Rattle.unit_index.proofs.WalkLemmas.{leads, is_token, is_anchor, slice_at}
+use Rattle.unit_index.specs.Walks.{Stands}
+use Rattle.unit_index.proofs.PlaceLemmas.{slice_at}
+use Rattle.unit_index.proofs.WalkLemmas.{leads, is_token, is_anchor}
 
-pub tokens_lead : {m : UnitMeaning} {at : TokId → Option ℕ} {next_at : List (Option ℕ)} {of : Anchor → Option ℕ} {next_of : List (Option ℕ)} {named : Anchor → Option ℕ} {in_file : List ℕ → Bool} →
-    IsKept m at next_at of next_of named in_file → (os : List Occ) (next : List (Option ℕ)) (q : TokId) (o : Option ℕ)
-    → os ≡ m.occs → next ≡ next_at → o ≡ at q → IsOnTheWay by_token os next o
-tokens_lead {m} kept os next q o here links is =
-    let stands : Stands by_token m.occs o = subst (Stands by_token m.occs) (sym (is ∙ kept.tokens q)) (leads by_token (is_at q) m.occs [] m.occs 0 (is_token q) refl refl).0 in
-    record {
-      links = links ∙ kept.next_tokens ∙ ap (nexts by_token 0) (sym here);
-      stands = subst (λ zs. Stands by_token zs o) (sym here) stands;
-    }
+pub tokens_stand : (os : List Occ) (q : TokId) (o : Option ℕ) → o ≡ first_from (is_at q) 0 os → Stands by.Token os o
+tokens_stand os q o is = subst (Stands by.Token os) (sym is) (leads by.Token (is_at q) os [] os 0 (is_token q) refl refl).0
 
-pub tokens_left : {m : UnitMeaning} {at : TokId → Option ℕ} {next_at : List (Option ℕ)} {of : Anchor → Option ℕ} {next_of : List (Option ℕ)} {named : Anchor → Option ℕ} {in_file : List ℕ → Bool} →
-    IsKept m at next_at of next_of named in_file → (os : List Occ) (q : TokId) (o : Option ℕ) → os ≡ m.occs → o ≡ at q → left by_token os o ≡ filter (is_at q) m.occs
-tokens_left {m} kept os q o here is =
-    ap (λ zs. left by_token zs o) here ∙ ap (left by_token m.occs) (is ∙ kept.tokens q) ∙ (leads by_token (is_at q) m.occs [] m.occs 0 (is_token q) refl refl).1
+pub tokens_left : (os : List Occ) (q : TokId) (o : Option ℕ) → o ≡ first_from (is_at q) 0 os → left by.Token os o ≡ filter (is_at q) os
+tokens_left os q o is = ap (left by.Token os) is ∙ (leads by.Token (is_at q) os [] os 0 (is_token q) refl refl).1
 
-pub anchors_lead : {m : UnitMeaning} {at : TokId → Option ℕ} {next_at : List (Option ℕ)} {of : Anchor → Option ℕ} {next_of : List (Option ℕ)} {named : Anchor → Option ℕ} {in_file : List ℕ → Bool} →
-    IsKept m at next_at of next_of named in_file → (os : List Occ) (next : List (Option ℕ)) (q : Anchor) (o : Option ℕ)
-    → os ≡ m.occs → next ≡ next_of → o ≡ of q → IsOnTheWay by_anchor os next o
-anchors_lead {m} kept os next q o here links is =
-    let stands : Stands by_anchor m.occs o = subst (Stands by_anchor m.occs) (sym (is ∙ kept.anchors q)) (leads by_anchor (is_of q) m.occs [] m.occs 0 (is_anchor q) refl refl).0 in
-    record {
-      links = links ∙ kept.next_anchors ∙ ap (nexts by_anchor 0) (sym here);
-      stands = subst (λ zs. Stands by_anchor zs o) (sym here) stands;
-    }
+pub anchors_stand : (os : List Occ) (q : Anchor) (o : Option ℕ) → o ≡ first_from (is_of q) 0 os → Stands by.Anchor os o
+anchors_stand os q o is = subst (Stands by.Anchor os) (sym is) (leads by.Anchor (is_of q) os [] os 0 (is_anchor q) refl refl).0
 
-pub anchors_left : {m : UnitMeaning} {at : TokId → Option ℕ} {next_at : List (Option ℕ)} {of : Anchor → Option ℕ} {next_of : List (Option ℕ)} {named : Anchor → Option ℕ} {in_file : List ℕ → Bool} →
-    IsKept m at next_at of next_of named in_file → (os : List Occ) (q : Anchor) (o : Option ℕ) → os ≡ m.occs → o ≡ of q → left by_anchor os o ≡ filter (is_of q) m.occs
-anchors_left {m} kept os q o here is =
-    ap (λ zs. left by_anchor zs o) here ∙ ap (left by_anchor m.occs) (is ∙ kept.anchors q) ∙ (leads by_anchor (is_of q) m.occs [] m.occs 0 (is_anchor q) refl refl).1
+pub anchors_left : (os : List Occ) (q : Anchor) (o : Option ℕ) → o ≡ first_from (is_of q) 0 os → left by.Anchor os o ≡ filter (is_of q) os
+anchors_left os q o is = ap (left by.Anchor os) is ∙ (leads by.Anchor (is_of q) os [] os 0 (is_anchor q) refl refl).1
 
 -- ---- the first one
 
@@ -61,6 +43,6 @@ find_is p all front (x ∷ xs) n split place =
     (ap (λ zs. slice_get zs n) (sym split) ∙ ap (λ k. slice_get (front ++ x ∷ xs) k) (sym place) ∙ slice_at front x xs)
     (find_is p all (front ++ x ∷ []) xs (n + 1) (append_assoc front (x ∷ []) xs ∙ split) (length-append front (x ∷ []) ∙ ap (λ k. k + 1) place))
 
--- what a map has at a key
-pub found : {A K : Type 0} (p : K → A → Bool) (xs : List A) (at : K → Option ℕ) → ((q : K) → at q ≡ first_from (p q) 0 xs) → (q : K) (o : Option ℕ) → o ≡ at q → at_place xs o ≡ find (p q) xs
-found p xs at kept q o is = ap (at_place xs) (is ∙ kept q) ∙ find_is (p q) xs [] xs 0 refl refl
+-- what stands at the first place
+pub found : {A : Type 0} (p : A → Bool) (xs : List A) (o : Option ℕ) → o ≡ first_from p 0 xs → at_place xs o ≡ find p xs
+found p xs o is = ap (at_place xs) is ∙ find_is p xs [] xs 0 refl refl

@@ -1,5 +1,5 @@
 -- The warnings across units are those without tokens, each on the token that its name has.
-use Rattle.std.proofs.Common.{◌≡◌, ℕ, zero, suc, ◌+◌, Bool, true, false, cond, is_some, bytes_eq, List, [], ◌∷◌, ◌++◌, Option, Some, None, option_map, option_and_then, map, refl, sym, ap, ◌∙◌, append_assoc, append-nil, drop, length, arith}
+use Rattle.std.proofs.Common.{◌≡◌, ℕ, suc, ◌+◌, Bool, true, false, cond, is_some, bytes_eq, List, [], ◌∷◌, ◌++◌, Option, Some, None, option_map, option_and_then, map, refl, sym, ap, ◌∙◌, append_assoc, append-nil, drop, arith}
 use Rattle.std.specs.Cmp.Lexicographic.{pointwise}
 use Rattle.std.specs.Prelude.{nat_eq, ◌&&◌}
 use Rattle.std.specs.List.{flat_map, slice_get}
@@ -16,8 +16,8 @@ use Rattle.unit_index.specs.Exported.{From, Shown, does_it, first, first_in, fro
 use Rattle.unit_index.specs.Firsts.{first_some, given, or_else}
 use Rattle.unit_index.specs.Handles.{Tagging}
 use Rattle.unit_index.specs.Matching.{Test}
-use Rattle.unit_index.proofs.FirstLemmas.{empty, rest_here, rest_none}
-use Rattle.unit_index.specs.Crossing.{Seen, Sight, all_crossings, all_placed, on_token, token_of, crossing, crossings, defined, definition_told, differs, does_seen, first_seen, on_name, on_names, one_seen, origin, placed, seen, seen_in, sight, twice, typed, types_told}
+use Rattle.unit_index.proofs.FirstLemmas.{rest_here, rest_none}
+use Rattle.unit_index.specs.Crossing.{Sight, all_crossings, all_placed, on_token, token_of, crossing, crossings, defined, definition_told, differs, does_seen, first_seen, on_name, on_names, one_seen, origin, placed, seen, seen_in, sight, twice, typed, types_told}
 
 -- ---- who is first
 

@@ -1,17 +1,21 @@
 -- A way along a chain leads from one occurrence of a key to the next.
-use Rattle.std.proofs.Common.{arith, rules, ◌≡◌, ◌<◌, ℕ, zero, suc, ◌+◌, ◌++◌, Bool, true, false, ◌&&◌, List, [], ◌∷◌, length, drop, get_or, Option, Some, None, refl, sym, ap, subst, ◌∙◌, append_assoc, length-append}
+use Rattle.std.proofs.Common.{arith, rules, ◌≡◌, ◌<◌, ℕ, zero, suc, ◌+◌, ◌++◌, Bool, true, false, ◌&&◌, List, [], ◌∷◌, length, drop, get_or, Option, Some, refl, sym, ap, subst, ◌∙◌, append_assoc, length-append}
 use Rattle.std.specs.Prelude.{if◌then◌else◌}
 use Rattle.std.specs.Bool.{Decides}
 use Rattle.std.specs.List.{filter, slice_get}
 use Rattle.tok_data.specs.declared.sources.TokId.{TokId}
 use Rattle.scope_tables.specs.declared.entities.Anchor.{Anchor}
+use Rattle.scope_tables.specs.declared.entities.Entity.{Entity}
 use Rattle.scope_tables.specs.declared.entities.Occ.{Occ}
 use Rattle.unit_index.specs.declared.chains.By.{By}
 use Rattle.unit_index.specs.declared.chains.By.TheVariants as by
 use Rattle.scope_tables.specs.Occurrences.{same_tok, same_anchor, counts, is_at}
 use Rattle.unit_index.specs.Occurrences.{is_of}
-use Rattle.unit_index.specs.Chains.{first_from, nexts, alike, chained, left, by_token, by_anchor}
+use Rattle.unit_index.specs.Chains.{first_from, alike, chained, left}
+use Rattle.unit_index.specs.Codes.{token_code, anchor_code, by_token, by_anchor, by_name}
+use Rattle.unit_index.specs.Speaking.{is_named}
 use Rattle.unit_index.specs.Walks.{IsThere, Stands, IsOnTheWay}
+use Rattle.unit_index.proofs.PlaceLemmas.{slice_at, drop_at, dropped, cut_at}
 
 -- ---- keys
 
@@ -30,11 +34,21 @@ both false b e = absurd (cc e)
 abbrev pub IsKey : By → (Occ → Bool) → Type 0
 IsKey b p = (x : Occ) → p x ≡ true → alike b x ≡ p
 
-pub is_token : (t : TokId) → IsKey by_token (is_at t)
+pub is_token : (t : TokId) → IsKey by.Token (is_at t)
 is_token t x e = ap is_at ((tok_exact x.tok t).0 (both (counts x.role) (same_tok x.tok t) e).1)
 
-pub is_anchor : (a : Anchor) → IsKey by_anchor (is_of a)
+pub is_anchor : (a : Anchor) → IsKey by.Anchor (is_of a)
 is_anchor a x e = ap is_of ((anchor_exact x.anchor a).0 (both (counts x.role) (same_anchor x.anchor a) e).1)
+
+-- occurrences of a key have its number
+pub token_number : (t : TokId) (x : Occ) → is_at t x ≡ true → by_token x ≡ token_code t
+token_number t x e = ap token_code ((tok_exact x.tok t).0 (both (counts x.role) (same_tok x.tok t) e).1)
+
+pub anchor_number : (a : Anchor) (x : Occ) → is_of a x ≡ true → by_anchor x ≡ anchor_code a
+anchor_number a x e = ap anchor_code ((anchor_exact x.anchor a).0 (both (counts x.role) (same_anchor x.anchor a) e).1)
+
+pub name_number : (a : Anchor) (x : Entity) → is_named a x ≡ true → by_name x ≡ anchor_code a
+name_number a x e = ap anchor_code ((anchor_exact x.anchor a).0 e)
 
 pub is_alike : (b : By) (x : Occ) → IsKey b (alike b x)
 is_alike by.Token x = is_token x.tok
@@ -42,30 +56,8 @@ is_alike by.Anchor x = is_anchor x.anchor
 
 -- ---- places
 
-pub slice_at : {A : Type 0} (front : List A) (x : A) (xs : List A) → slice_get (front ++ x ∷ xs) (length front) ≡ Some x
-slice_at [] x xs = refl
-slice_at (y ∷ front) x xs = slice_at front x xs
-
-drop_at : {A : Type 0} (front xs : List A) → drop (length front) (front ++ xs) ≡ xs
-drop_at [] xs = refl
-drop_at (y ∷ front) xs = drop_at front xs
-
 shorter : {A : Type 0} (front : List A) (x : A) (xs : List A) → length front < length (front ++ x ∷ xs)
 shorter front x xs = let e = length-append front (x ∷ xs) in omega (arith, e)
-
--- a list in two parts, of which the second begins at a place
-pub record IsCut {A : Type 0} (all : List A) (i : ℕ) (x : A) : Type 0 where
-  pub front : List A
-  pub rest : List A
-  pub split : front ++ x ∷ rest ≡ all
-  pub place : length front ≡ i
-
-pub cut_at : {A : Type 0} (all : List A) (i : ℕ) (x : A) → slice_get all i ≡ Some x → IsCut all i x
-cut_at [] i x e = absurd (cc e)
-cut_at (y ∷ ys) zero x e = let same : y ≡ x = cc e in record { front = []; rest = ys; split = ap (λ z. z ∷ ys) (sym same); place = refl }
-cut_at (y ∷ ys) (suc i) x e =
-    let more = cut_at ys i x e in
-    record { front = y ∷ more.front; rest = more.rest; split = ap (λ zs. y ∷ zs) more.split; place = ap suc more.place }
 
 -- ---- the first place of a key
 
@@ -100,61 +92,38 @@ leads b p all front (x ∷ xs) n key split place =
 
 -- ---- the next place of a key
 
-next_at : (b : By) (n : ℕ) (front : List Occ) (x : Occ) (xs : List Occ) →
-    slice_get (nexts b n (front ++ x ∷ xs)) (length front) ≡ Some (first_from (alike b x) (n + length front + 1) xs)
-next_at b n [] x xs = let e : n + 1 ≡ n + 0 + 1 = omega arith in ap (λ k. Some (first_from (alike b x) k xs)) e
-next_at b n (y ∷ front) x xs =
-    let e : n + 1 + length front + 1 ≡ n + length (y ∷ front) + 1 = omega arith in
-    next_at b (n + 1) front x xs ∙ ap (λ k. Some (first_from (alike b x) k xs)) e
-
 -- one step
 pub record IsStep (b : By) (all : List Occ) (i : ℕ) (x : Occ) (next : Option ℕ) : Type 0 where
   pub stands : Stands b all next
   pub goes : left b all (Some i) ≡ x ∷ left b all next
 
-some : {A : Type 0} (a b : A) → Some a ≡ Some b → a ≡ b
-some a b e = cc e
-
-pub steps : (b : By) (all : List Occ) (next : List (Option ℕ)) (i : ℕ) (x : Occ) (o : Option ℕ) → IsOnTheWay b all next (Some i) → slice_get all i ≡ Some x → slice_get next i ≡ Some o
-    → IsStep b all i x o
-steps b all next i x o way found linked =
+pub steps : (b : By) (all : List Occ) (codes : List ℕ) (i : ℕ) (x : Occ) (o : Option ℕ) → IsOnTheWay b all codes (Some i) → slice_get all i ≡ Some x
+    → o ≡ first_from (alike b x) (i + 1) (drop (i + 1) all) → IsStep b all i x o
+steps b all codes i x o way found next =
     let cut = cut_at all i x found in
     let holds : alike b x x ≡ true = subst (IsThere b all) found way.stands.1 in
     let key = is_alike b x in
-    let place : 0 + length cut.front + 1 ≡ i + 1 = let p = cut.place in omega (arith, p) in
-    let to : o ≡ first_from (alike b x) (i + 1) cut.rest =
-    some _ _ (sym linked ∙ ap (λ l. slice_get l i) way.links ∙ ap (λ zs. slice_get (nexts b 0 zs) i) (sym cut.split)
-    ∙ ap (λ k. slice_get (nexts b 0 (cut.front ++ x ∷ cut.rest)) k) (sym cut.place) ∙ next_at b 0 cut.front x cut.rest
-    ∙ ap (λ k. Some (first_from (alike b x) k cut.rest)) place) in
+    let split : (cut.front ++ x ∷ []) ++ cut.rest ≡ all = append_assoc cut.front (x ∷ []) cut.rest ∙ cut.split in
+    let place : length (cut.front ++ x ∷ []) ≡ i + 1 = length-append cut.front (x ∷ []) ∙ ap (λ k. k + 1) cut.place in
+    let to : o ≡ first_from (alike b x) (i + 1) cut.rest = next ∙ ap (first_from (alike b x) (i + 1)) (dropped all (cut.front ++ x ∷ []) cut.rest (i + 1) split place) in
     let here = leads_here b (alike b x) all cut.front cut.rest x i key cut.split cut.place holds in
-    let there = leads b (alike b x) all (cut.front ++ x ∷ []) cut.rest (i + 1) key (append_assoc cut.front (x ∷ []) cut.rest ∙ cut.split)
-    (length-append cut.front (x ∷ []) ∙ ap (λ k. k + 1) cut.place) in
+    let there = leads b (alike b x) all (cut.front ++ x ∷ []) cut.rest (i + 1) key split place in
     record {
       stands = subst (Stands b all) (sym to) there.0;
       goes = here.1 ∙ ap (λ os. x ∷ os) (sym there.1 ∙ ap (left b all) (sym to));
     }
-
-length_nexts : (b : By) (n : ℕ) (os : List Occ) → length (nexts b n os) ≡ length os
-length_nexts b n [] = refl
-length_nexts b n (x ∷ os) = ap suc (length_nexts b (n + 1) os)
-
-pub as_many : (b : By) (all : List Occ) (next : List (Option ℕ)) (at : Option ℕ) → IsOnTheWay b all next at → length next ≡ length all
-as_many b all next at way = ap length way.links ∙ length_nexts b 0 all
 
 get_at : {A : Type 0} (xs : List A) (i : ℕ) (d : A) → i < length xs → slice_get xs i ≡ Some (get_or xs i d)
 get_at [] i d l = let bad : ⊥ = omega (arith, l) in absurd bad
 get_at (x ∷ xs) zero d l = refl
 get_at (x ∷ xs) (suc i) d l = get_at xs i d (omega (arith, l))
 
-pub next_is_there : (b : By) (all : List Occ) (next : List (Option ℕ)) (at : Option ℕ) (i : ℕ) → at ≡ Some i → IsOnTheWay b all next at → i < length next
-next_is_there b all next at i is way =
-    let stands = subst (Stands b all) is way.stands in
-    subst (λ n. i < n) (sym (as_many b all next at way)) stands.0
+pub stands_there : (b : By) (all : List Occ) (codes : List ℕ) (at : Option ℕ) (i : ℕ) (x : Occ) → at ≡ Some i → x ≡ get_or all i x → IsOnTheWay b all codes at → slice_get all i ≡ Some x
+stands_there b all codes at i x is there way =
+    let here = subst (IsOnTheWay b all codes) is way in
+    get_at all i x here.stands.0 ∙ ap Some (sym there)
 
-pub step_is : (b : By) (all : List Occ) (next : List (Option ℕ)) (at : Option ℕ) (i : ℕ) (x : Occ) → at ≡ Some i → x ≡ get_or all i x → IsOnTheWay b all next at
-    → IsStep b all i x (get_or next i None)
-step_is b all next at i x is there way =
-    let here = subst (IsOnTheWay b all next) is way in
-    steps b all next i x (get_or next i None) here
-    (get_at all i x here.stands.0 ∙ ap Some (sym there))
-    (get_at next i None (next_is_there b all next at i is way))
+pub step_is : (b : By) (all : List Occ) (codes : List ℕ) (at : Option ℕ) (i : ℕ) (x : Occ) (o : Option ℕ) → at ≡ Some i → x ≡ get_or all i x → IsOnTheWay b all codes at
+    → o ≡ first_from (alike b x) (i + 1) (drop (i + 1) all) → IsStep b all i x o
+step_is b all codes at i x o is there way next =
+    steps b all codes i x o (subst (IsOnTheWay b all codes) is way) (stands_there b all codes at i x is there way) next

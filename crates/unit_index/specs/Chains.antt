@@ -1,13 +1,13 @@
--- Occurrences of one key, chained: the place of the first one, and of each the place of the next.
-use Rattle.std.specs.Prelude.{ℕ, ◌+◌, Bool, List, [], ◌∷◌, drop, Option, Some, None, if◌then◌else◌}
+-- Occurrences of one key: the place of the first one, and of each the place of the next.
+use Rattle.std.specs.Prelude.{◌≡◌, ℕ, ◌+◌, Bool, List, [], ◌∷◌, drop, Option, Some, None, if◌then◌else◌}
 use Rattle.std.specs.List.{filter, slice_get}
 use Rattle.std.specs.HashMap.{HashMap, get}
 use Rattle.tok_data.specs.declared.sources.TokId.{TokId}
-use Rattle.scope_tables.specs.declared.entities.Anchor.{Anchor}
 use Rattle.scope_tables.specs.declared.entities.Occ.{Occ}
 use Rattle.unit_index.specs.declared.chains.By.{By}
 use Rattle.unit_index.specs.declared.chains.By.TheVariants as by
-use Rattle.scope_tables.specs.Occurrences.{same_tok, same_anchor, is_at}
+use Rattle.scope_tables.specs.Occurrences.{same_tok, is_at}
+use Rattle.unit_index.specs.Codes.{by_token, by_anchor}
 use Rattle.unit_index.specs.Occurrences.{is_of}
 
 -- the place of the first that passes, the list's own first being at n
@@ -20,24 +20,24 @@ abbrev pub alike : By → Occ → Occ → Bool
 alike by.Token x = is_at x.tok
 alike by.Anchor x = is_of x.anchor
 
--- the keys, by name
-abbrev pub by_token : By
-by_token = by.Token
+-- the number of a key
+abbrev pub code_by : By → Occ → ℕ
+code_by by.Token = by_token
+code_by by.Anchor = by_anchor
 
-abbrev pub by_anchor : By
-by_anchor = by.Anchor
+-- the first that passes from a place on
+abbrev pub from_place : {A : Type 0} → (A → Bool) → Option ℕ → List A → Option ℕ
+from_place p None xs = None
+from_place p (Some n) xs = first_from p n (drop n xs)
 
--- of each occurrence, the place of the next one of its key
-abbrev pub nexts : By → ℕ → List Occ → List (Option ℕ)
-nexts b n [] = []
-nexts b n (x ∷ xs) = first_from (alike b x) (n + 1) xs ∷ nexts b (n + 1) xs
+-- this number stands at the place
+abbrev pub HasCode : ℕ → List ℕ → Option ℕ → Type 0
+HasCode code codes None = Unit
+HasCode code codes (Some n) = slice_get codes n ≡ Some code
 
 -- the place that a map has at a key
 unfoldable pub at_tok : {S : Type 0} → HashMap TokId ℕ S → TokId → Option ℕ
 at_tok map t = get same_tok map t
-
-unfoldable pub at_anchor : {S : Type 0} → HashMap Anchor ℕ S → Anchor → Option ℕ
-at_anchor map a = get same_anchor map a
 
 -- what is left of a chain that goes on at a place
 abbrev pub chained : By → List Occ → Option Occ → ℕ → List Occ

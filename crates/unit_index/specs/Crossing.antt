@@ -1,5 +1,5 @@
 -- The warnings across units without their tokens, by what units see of one another: so they stay while the tokens of a unit move.
-use Rattle.std.specs.Prelude.{◌≡◌, ℕ, ◌+◌, Bool, true, ◌&&◌, nat_eq, is_some, bytes_eq, List, [], ◌∷◌, ◌++◌, codes, Option, Some, None, map, option_and_then, if◌then◌else◌}
+use Rattle.std.specs.Prelude.{ℕ, ◌+◌, Bool, true, ◌&&◌, nat_eq, is_some, bytes_eq, List, [], ◌∷◌, ◌++◌, codes, Option, Some, None, map, option_and_then, if◌then◌else◌}
 use Rattle.std.specs.Bool.{beq}
 use Rattle.std.specs.Cmp.Lexicographic.{pointwise}
 use Rattle.std.specs.List.{flat_map, slice_get}

@@ -1,5 +1,6 @@
 pub mod Chains
 pub mod Closing
+pub mod Codes
 pub mod Cross
 pub mod Crossing
 pub mod Definition
@@ -18,6 +19,7 @@ pub mod Members
 pub mod Needs
 pub mod Occurrences
 pub mod Pairs
+pub mod Places
 pub mod References
 pub mod Seen
 pub mod Sets

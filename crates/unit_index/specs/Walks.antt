@@ -1,9 +1,9 @@
 -- A way along a chain.
-use Rattle.std.specs.Prelude.{◌≡◌, ◌<◌, ℕ, true, List, [], ◌∷◌, length, Option, Some, None}
+use Rattle.std.specs.Prelude.{◌≡◌, ◌<◌, ℕ, true, List, [], ◌∷◌, length, map, Option, Some, None}
 use Rattle.std.specs.List.{slice_get}
 use Rattle.scope_tables.specs.declared.entities.Occ.{Occ}
 use Rattle.unit_index.specs.declared.chains.By.{By}
-use Rattle.unit_index.specs.Chains.{alike, nexts}
+use Rattle.unit_index.specs.Chains.{alike, code_by}
 
 -- an occurrence in front of others, where there is one
 abbrev pub after : Option Occ → List Occ → List Occ
@@ -19,6 +19,6 @@ abbrev pub Stands : By → List Occ → Option ℕ → Type 0
 Stands b os None = Unit
 Stands b os (Some i) = (i < length os) × IsThere b os (slice_get os i)
 
-pub record IsOnTheWay (b : By) (os : List Occ) (next : List (Option ℕ)) (at : Option ℕ) : Type 0 where
-  pub links : next ≡ nexts b 0 os
+pub record IsOnTheWay (b : By) (os : List Occ) (numbers : List ℕ) (at : Option ℕ) : Type 0 where
+  pub codes : numbers ≡ map (code_by b) os
   pub stands : Stands b os at

@@ -1,15 +1,15 @@
 // Which occurrences of a unit have the same key.
-ghost use Rattle.std.specs.Prelude.{◌≡◌, ℕ, List, None, Some, if◌then◌else◌, IfOk, OnOk};
-ghost use Rattle.tok_data.specs.declared.sources.TokId.{TokId as Token};
-ghost use Rattle.scope_tables.specs.declared.entities.Anchor.{Anchor as AnyAnchor};
+ghost use Rattle.std.specs.Prelude.{◌≡◌, ◌+◌, Some, drop, map, option_map};
+ghost use Rattle.std.specs.List.{slice_get};
 ghost use Rattle.unit_index.specs.Chains as spec;
+ghost use Rattle.unit_index.specs.Codes as coded;
 ghost use Rattle.scope_tables.specs.Occurrences as occurs;
 ghost use Rattle.unit_index.specs.Occurrences;
 ghost use Rattle.unit_index.specs.Speaking;
 
+use crate::codes::{anchor_code, token_code};
+use crate::places::Places;
 use scope_tables::{Anchor, Entity, Occ, Role};
-use std::alloc::{AllocError, Global};
-use std::collections::HashMap;
 use tok_data::TokId;
 
 /// What the key of an occurrence is.
@@ -32,147 +32,139 @@ pub(crate) fn counts(role: Role) -> bool
     }
 }
 
-/// No places of tokens.
-#[tactic(auto, unfolding(crate::specs::Chains::at_tok))]
-pub(crate) fn no_tokens(alloc: Global) -> HashMap<TokId, usize>
-    ensures { (q : Token) → spec.at_tok result q ≡ None }
+fn is_at(tok: &TokId, occ: &Occ) -> bool
+    ensures { result ≡ occurs.is_at tok.now occ.now }
 {
-    HashMap::new(alloc)
+    counts(occ.role) && occ.tok == *tok
 }
 
-/// The place of a token's first occurrence.
-#[tactic(auto, unfolding(crate::specs::Chains::at_tok))]
-pub(crate) fn first_at(places: &HashMap<TokId, usize>, tok: &TokId) -> Option<usize>
-    ensures { result ≡ spec.at_tok places.now tok.now }
+fn is_of(anchor: &Anchor, occ: &Occ) -> bool
+    ensures { result ≡ Occurrences.is_of anchor.now occ.now }
 {
-    places.get(tok).copied()
+    counts(occ.role) && occ.anchor == *anchor
 }
 
-/// The place of a token from now on, and the one that it had.
-#[tactic(auto, unfolding(crate::specs::Chains::at_tok))]
-pub(crate) fn put_token(
-    places: &mut HashMap<TokId, usize>,
-    tok: &TokId,
-    place: usize,
-) -> Result<Option<usize>, AllocError>
-    ensures before { IfOk result (λ before. before ≡ spec.at_tok places.old tok.now) }
-    ensures places { OnOk result ((q : Token) → spec.at_tok places.new q ≡ (if occurs.same_tok tok.now q then Some place else spec.at_tok places.old q)) }
+fn is_named(anchor: &Anchor, entity: &Entity) -> bool
+    ensures { result ≡ Speaking.is_named anchor.now entity.now }
 {
-    let tok = tok.copy()?;
-    let before = places.insert(tok, place).map_err(AllocError::from)?;
-    Ok(before)
+    entity.anchor == *anchor
 }
 
-fn note_token(
-    places: &mut HashMap<TokId, usize>,
+/// The occurrence at a place.
+pub(crate) fn occ_at(occs: &[Occ], place: usize) -> Option<&Occ>
+    ensures { option_map (λ o. o.now) result ≡ slice_get occs.now place }
+{
+    occs.get(place)
+}
+
+/// The entity at a place.
+pub(crate) fn entity_at(entities: &[Entity], place: usize) -> Option<&Entity>
+    ensures { option_map (λ e. e.now) result ≡ slice_get entities.now place }
+{
+    entities.get(place)
+}
+
+// The first occurrence of a token, from a place of its number on.
+fn seek_token(places: &Places, occs: &[Occ], tok: &TokId, from: Option<usize>) -> Option<usize>
+    requires codes { places.now ≡ map coded.by_token occs.now }
+    requires from { spec.HasCode (coded.token_code tok.now) places.now from }
+    ensures { result ≡ spec.from_place (occurs.is_at tok.now) from occs.now }
+{
+    let mut at = from;
+    'places: while let Some(place) = at {
+        let Some(occ) = occ_at(occs, place) else {
+            return None;
+        };
+        if is_at(tok, occ) {
+            return at;
+        }
+        at = places.next(place);
+    }
+    None
+}
+
+// The first occurrence of what has an anchor, from a place of the anchor's number on.
+fn seek_anchor(places: &Places, occs: &[Occ], anchor: &Anchor, from: Option<usize>) -> Option<usize>
+    requires codes { places.now ≡ map coded.by_anchor occs.now }
+    requires from { spec.HasCode (coded.anchor_code anchor.now) places.now from }
+    ensures { result ≡ spec.from_place (Occurrences.is_of anchor.now) from occs.now }
+{
+    let mut at = from;
+    'places: while let Some(place) = at {
+        let Some(occ) = occ_at(occs, place) else {
+            return None;
+        };
+        if is_of(anchor, occ) {
+            return at;
+        }
+        at = places.next(place);
+    }
+    None
+}
+
+/// The place of the first occurrence of a token.
+pub(crate) fn first_of_token(places: &Places, occs: &[Occ], tok: &TokId) -> Option<usize>
+    requires { places.now ≡ map coded.by_token occs.now }
+    ensures { result ≡ spec.first_from (occurs.is_at tok.now) 0 occs.now }
+{
+    seek_token(places, occs, tok, places.first(token_code(tok)))
+}
+
+/// The place of the first occurrence of what has an anchor.
+pub(crate) fn first_of_anchor(places: &Places, occs: &[Occ], anchor: &Anchor) -> Option<usize>
+    requires { places.now ≡ map coded.by_anchor occs.now }
+    ensures { result ≡ spec.first_from (Occurrences.is_of anchor.now) 0 occs.now }
+{
+    seek_anchor(places, occs, anchor, places.first(anchor_code(anchor)))
+}
+
+/// The place of the next occurrence of the key that the one at a place has.
+pub(crate) fn next_alike(
+    by: By,
+    places: &Places,
+    occs: &[Occ],
     occ: &Occ,
     place: usize,
-) -> Result<Option<usize>, AllocError>
-    ensures before { IfOk result (λ before. before ≡ spec.at_tok places.old occ.now.tok) }
-    ensures places { OnOk result ((q : Token) → spec.at_tok places.new q ≡ (if occurs.is_at q occ.now then Some place else spec.at_tok places.old q)) }
+) -> Option<usize>
+    requires codes { places.now ≡ map (spec.code_by by) occs.now }
+    requires there { slice_get occs.now place ≡ Some occ.now }
+    ensures { result ≡ spec.first_from (spec.alike by occ.now) (place + 1) (drop (place + 1) occs.now) }
 {
-    if !counts(occ.role) {
-        return Ok(first_at(places, &occ.tok));
+    let next = places.next(place);
+    match by {
+        By::Token => seek_token(places, occs, &occ.tok, next),
+        By::Anchor => seek_anchor(places, occs, &occ.anchor, next),
     }
-    put_token(places, &occ.tok, place)
 }
 
-#[tactic(auto, unfolding(crate::specs::Chains::at_anchor))]
-fn no_anchors(alloc: Global) -> HashMap<Anchor, usize>
-    ensures { (q : AnyAnchor) → spec.at_anchor result q ≡ None }
-{
-    HashMap::new(alloc)
-}
-
-/// The place of an anchor's first occurrence, or of its entity.
-#[tactic(auto, unfolding(crate::specs::Chains::at_anchor))]
-pub(crate) fn first_of(places: &HashMap<Anchor, usize>, anchor: &Anchor) -> Option<usize>
-    ensures { result ≡ spec.at_anchor places.now anchor.now }
-{
-    places.get(anchor).copied()
-}
-
-// The place of an anchor from now on, and the one that it had.
-#[tactic(auto, unfolding(crate::specs::Chains::at_anchor))]
-fn put_anchor(
-    places: &mut HashMap<Anchor, usize>,
-    anchor: &Anchor,
-    place: usize,
-) -> Result<Option<usize>, AllocError>
-    ensures before { IfOk result (λ before. before ≡ spec.at_anchor places.old anchor.now) }
-    ensures places { OnOk result ((q : AnyAnchor) → spec.at_anchor places.new q ≡ (if occurs.same_anchor anchor.now q then Some place else spec.at_anchor places.old q)) }
-{
-    let anchor = anchor.share()?;
-    let before = places.insert(anchor, place).map_err(AllocError::from)?;
-    Ok(before)
-}
-
-fn note_anchor(
-    places: &mut HashMap<Anchor, usize>,
-    occ: &Occ,
-    place: usize,
-) -> Result<Option<usize>, AllocError>
-    ensures before { IfOk result (λ before. before ≡ spec.at_anchor places.old occ.now.anchor) }
-    ensures places { OnOk result ((q : AnyAnchor) → spec.at_anchor places.new q ≡ (if Occurrences.is_of q occ.now then Some place else spec.at_anchor places.old q)) }
-{
-    if !counts(occ.role) {
-        return Ok(first_of(places, &occ.anchor));
-    }
-    put_anchor(places, &occ.anchor, place)
-}
-
-/// The place of the first occurrence of each token, and for each occurrence that of the next one of its token.
-pub(crate) fn chain_tokens(
-    alloc: Global,
-    occs: &[Occ],
-) -> Result<(HashMap<TokId, usize>, Vec<Option<usize>>), AllocError>
-    ensures first { IfOk result (λ r. (q : Token) → spec.at_tok r.0 q ≡ spec.first_from (occurs.is_at q) 0 occs.now) }
-    ensures next { IfOk result (λ r. r.1.items ≡ spec.nexts spec.by_token 0 occs.now) }
-{
-    let mut first = no_tokens(alloc);
-    let mut next = Vec::with_capacity(alloc, occs.len())?;
-    let mut rest = occs;
-    'occs: while let Some((occ, before)) = rest.split_last() {
-        let behind = note_token(&mut first, occ, before.len())?;
-        next.push(behind)?;
-        rest = before;
-    }
-    next.reverse();
-    Ok((first, next))
-}
-
-/// The place of the first occurrence of each anchor, and for each occurrence that of the next one of its anchor.
-pub(crate) fn chain_anchors(
-    alloc: Global,
-    occs: &[Occ],
-) -> Result<(HashMap<Anchor, usize>, Vec<Option<usize>>), AllocError>
-    ensures first { IfOk result (λ r. (q : AnyAnchor) → spec.at_anchor r.0 q ≡ spec.first_from (Occurrences.is_of q) 0 occs.now) }
-    ensures next { IfOk result (λ r. r.1.items ≡ spec.nexts spec.by_anchor 0 occs.now) }
-{
-    let mut first = no_anchors(alloc);
-    let mut next = Vec::with_capacity(alloc, occs.len())?;
-    let mut rest = occs;
-    'occs: while let Some((occ, before)) = rest.split_last() {
-        let behind = note_anchor(&mut first, occ, before.len())?;
-        next.push(behind)?;
-        rest = before;
-    }
-    next.reverse();
-    Ok((first, next))
-}
-
-/// The place of the first entity of each anchor.
-pub(crate) fn place_entities(
-    alloc: Global,
+// The first entity with an anchor, from a place of its number on.
+fn seek_named(
+    places: &Places,
     entities: &[Entity],
-) -> Result<HashMap<Anchor, usize>, AllocError>
-    ensures { IfOk result (λ r. (q : AnyAnchor) → spec.at_anchor r q ≡ spec.first_from (Speaking.is_named q) 0 entities.now) }
+    anchor: &Anchor,
+    from: Option<usize>,
+) -> Option<usize>
+    requires codes { places.now ≡ map coded.by_name entities.now }
+    requires from { spec.HasCode (coded.anchor_code anchor.now) places.now from }
+    ensures { result ≡ spec.from_place (Speaking.is_named anchor.now) from entities.now }
 {
-    let mut first = no_anchors(alloc);
-    let mut rest = entities;
-    'entities: while let Some((entity, before)) = rest.split_last() {
-        put_anchor(&mut first, &entity.anchor, before.len())?;
-        rest = before;
+    let mut at = from;
+    'places: while let Some(place) = at {
+        let Some(entity) = entity_at(entities, place) else {
+            return None;
+        };
+        if is_named(anchor, entity) {
+            return at;
+        }
+        at = places.next(place);
     }
-    Ok(first)
+    None
+}
+
+/// The place of the first entity with an anchor.
+pub(crate) fn first_named(places: &Places, entities: &[Entity], anchor: &Anchor) -> Option<usize>
+    requires { places.now ≡ map coded.by_name entities.now }
+    ensures { result ≡ spec.first_from (Speaking.is_named anchor.now) 0 entities.now }
+{
+    seek_named(places, entities, anchor, places.first(anchor_code(anchor)))
 }

@@ -1,10 +1,10 @@
 // What is known of a unit, with an index.
+use crate::places::Places;
 use indexmap::IndexSet;
-use scope_tables::{Anchor, UnitMeaning};
+use scope_tables::UnitMeaning;
 use shared_list::Listing;
-use std::collections::HashMap;
 use std::marker::Model;
-use tok_data::{FileId, TokId};
+use tok_data::FileId;
 use uri_paths::Path;
 
 mod looks;
@@ -16,11 +16,10 @@ pub(crate) struct Indexed {
     path: Path,
     reads: Listing<Path>,
     meaning: UnitMeaning,
-    tokens: HashMap<TokId, usize>,
-    next_of_token: Vec<Option<usize>>,
-    anchors: HashMap<Anchor, usize>,
-    next_of_anchor: Vec<Option<usize>>,
-    entities: HashMap<Anchor, usize>,
+    // The places of occurrences by their tokens and by their anchors, and those of entities by theirs.
+    tokens: Places,
+    anchors: Places,
+    entities: Places,
     // The texts in which it defines or declares something.
     files: IndexSet<FileId>,
 }
@@ -34,11 +33,10 @@ impl Model for Indexed {
 
     ghost coded = { Prim.hlevel (codes, types.the_row.coded) };
 
-    ghost use Rattle.unit_index.specs.Chains.{at_tok, at_anchor};
     ghost use Rattle.unit_index.specs.Files.{has_file};
     ghost use Rattle.unit_index.specs.Kept.{IsKept};
 
     ghost view = { λ u. record { path = u.path; reads = u.reads; meaning = u.meaning } };
 
-    ghost invariant = { λ u. IsKept u.meaning (at_tok u.tokens) u.next_of_token.items (at_anchor u.anchors) u.next_of_anchor.items (at_anchor u.entities) (has_file u.files) };
+    ghost invariant = { λ u. IsKept u.meaning u.tokens u.anchors u.entities (has_file u.files) };
 }

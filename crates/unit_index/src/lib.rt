@@ -4,6 +4,7 @@
 mod across;
 mod answers;
 mod chains;
+mod codes;
 mod crossing;
 mod exported;
 mod files;
@@ -17,6 +18,7 @@ mod members;
 mod needs;
 mod outline;
 mod pairs;
+mod places;
 mod sets;
 mod shared;
 mod under;

@@ -1,5 +1,5 @@
 // What a file declares at file scope.
-ghost use Rattle.std.specs.Prelude.{◌≡◌, ◌&&◌, ◌||◌, ℕ, List, map, bytes_eq, option_map, IfOk, OnOk};
+ghost use Rattle.std.specs.Prelude.{◌≡◌, ◌&&◌, ◌||◌, ℕ, List, None, Some, map, bytes_eq, option_map, if◌then◌else◌, IfOk, OnOk};
 ghost use Rattle.std.specs.List.{filter, find, list_any, slice_get};
 ghost use Rattle.tok_data.specs.declared.sources.TokId.{TokId as Token};
 ghost use Rattle.unit_index.specs.Chains.{at_tok, first_from};
@@ -8,7 +8,6 @@ ghost use Rattle.unit_index.specs.Sets as sets;
 ghost use Rattle.unit_index.specs.Symbols as spec;
 ghost use Rattle.unit_index.specs.Tokens.{in_order};
 
-use crate::chains::{first_at, no_tokens as no_places, put_token};
 use crate::sets::{add_token, no_tokens};
 use crate::shared::listed;
 use crate::unit::IndexedUnit;
@@ -92,6 +91,34 @@ fn in_file(alloc: Global, symbols: &[Symbol], path: &Path) -> Result<Vec<TokId>,
     let tokens = tokens_in(alloc, symbols, path)?;
     let list = listed(alloc, tokens)?;
     Ok(list)
+}
+
+#[tactic(auto, unfolding(crate::specs::Chains::at_tok))]
+fn no_places(alloc: Global) -> HashMap<TokId, usize>
+    ensures { (q : Token) → at_tok result q ≡ None }
+{
+    HashMap::new(alloc)
+}
+
+#[tactic(auto, unfolding(crate::specs::Chains::at_tok))]
+fn first_at(places: &HashMap<TokId, usize>, tok: &TokId) -> Option<usize>
+    ensures { result ≡ at_tok places.now tok.now }
+{
+    places.get(tok).copied()
+}
+
+// The place of a token from now on.
+#[tactic(auto, unfolding(crate::specs::Chains::at_tok))]
+fn put_token(
+    places: &mut HashMap<TokId, usize>,
+    tok: &TokId,
+    place: usize,
+) -> Result<(), AllocError>
+    ensures places { OnOk result ((q : Token) → at_tok places.new q ≡ (if same_tok tok.now q then Some place else at_tok places.old q)) }
+{
+    let tok = tok.copy()?;
+    places.insert(tok, place).map_err(AllocError::from)?;
+    Ok(())
 }
 
 // The place of the first symbol of each token.

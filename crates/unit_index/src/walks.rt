@@ -3,7 +3,8 @@ ghost use Rattle.std.specs.Prelude.{◌≡◌, option_map};
 ghost use Rattle.unit_index.specs.Chains as spec;
 ghost use Rattle.unit_index.specs.Walks.{after, IsOnTheWay};
 
-use crate::chains::By;
+use crate::chains::{By, next_alike};
+use crate::places::Places;
 use scope_tables::Occ;
 use std::marker::Model;
 
@@ -12,7 +13,7 @@ use std::marker::Model;
 pub(crate) struct Walk<'a> {
     by: By,
     occs: &'a [Occ],
-    next: &'a [Option<usize>],
+    places: &'a Places,
     at: Option<usize>,
 }
 
@@ -26,21 +27,21 @@ impl<'a> Model for Walk<'a> {
 
     ghost view = { λ w. left w.by w.occs.now w.at };
 
-    ghost invariant = { λ w. IsOnTheWay w.by w.occs.now w.next.now w.at };
+    ghost invariant = { λ w. IsOnTheWay w.by w.occs.now w.places.now w.at };
 }
 
 impl<'a> Walk<'a> {
     /// The occurrences from this place on of the key that the one there has.
-    pub(crate) fn new(
-        by: By,
-        occs: &'a [Occ],
-        next: &'a [Option<usize>],
-        at: Option<usize>,
-    ) -> Walk<'a>
-        requires { IsOnTheWay by occs.now next.now at }
+    pub(crate) fn new(by: By, occs: &'a [Occ], places: &'a Places, at: Option<usize>) -> Walk<'a>
+        requires { IsOnTheWay by occs.now places.now at }
         ensures { result ≡ spec.left by occs.now at }
     {
-        Walk { by, occs, next, at }
+        Walk {
+            by,
+            occs,
+            places,
+            at,
+        }
     }
 
     /// The next one, and goes on.
@@ -51,7 +52,7 @@ impl<'a> Walk<'a> {
             return None;
         };
         let occ = &self.occs[at];
-        self.at = self.next[at];
+        self.at = next_alike(self.by, self.places, self.occs, occ, at);
         Some(occ)
     }
 }

@@ -1,6 +1,7 @@
 // What a unit is made of, and what it says of a token or an anchor.
-ghost use Rattle.std.specs.Prelude.{◌≡◌, ℕ, List, option_map, IfOk};
-ghost use Rattle.std.specs.List.{filter, find, list_any, slice_get};
+ghost use Rattle.std.specs.Prelude.{◌≡◌, ℕ, List, map, option_map, IfOk};
+ghost use Rattle.std.specs.List.{filter, find, list_any};
+ghost use Rattle.unit_index.specs.Codes as coded;
 ghost use Rattle.unit_index.specs.Files.{introduces_in};
 ghost use Rattle.unit_index.specs.Groups.{same_file};
 ghost use Rattle.scope_tables.specs.Occurrences.{is_at};
@@ -8,8 +9,10 @@ ghost use Rattle.unit_index.specs.Occurrences as spec;
 ghost use Rattle.unit_index.specs.Speaking.{is_named};
 
 use super::Indexed;
-use crate::chains::{By, chain_anchors, chain_tokens, first_at, first_of, place_entities};
+use crate::chains::{By, entity_at, first_named, first_of_anchor, first_of_token, occ_at};
+use crate::codes::{anchor_codes, entity_codes, token_codes};
 use crate::files::files_of;
+use crate::places::Places;
 use crate::walks::Walk;
 use scope_tables::{Anchor, Entity, Occ, UnitMeaning};
 use shared_list::Listing;
@@ -17,16 +20,28 @@ use std::alloc::{AllocError, Global};
 use tok_data::{FileId, TokId};
 use uri_paths::Path;
 
-fn occ_at(occs: &[Occ], place: usize) -> Option<&Occ>
-    ensures { option_map (λ o. o.now) result ≡ slice_get occs.now place }
+fn token_places(alloc: Global, occs: &[Occ]) -> Result<Places, AllocError>
+    ensures { IfOk result (λ p. p ≡ map coded.by_token occs.now) }
 {
-    occs.get(place)
+    let codes = token_codes(alloc, occs)?;
+    let places = Places::of(alloc, codes)?;
+    Ok(places)
 }
 
-fn entity_at(entities: &[Entity], place: usize) -> Option<&Entity>
-    ensures { option_map (λ e. e.now) result ≡ slice_get entities.now place }
+fn anchor_places(alloc: Global, occs: &[Occ]) -> Result<Places, AllocError>
+    ensures { IfOk result (λ p. p ≡ map coded.by_anchor occs.now) }
 {
-    entities.get(place)
+    let codes = anchor_codes(alloc, occs)?;
+    let places = Places::of(alloc, codes)?;
+    Ok(places)
+}
+
+fn entity_places(alloc: Global, entities: &[Entity]) -> Result<Places, AllocError>
+    ensures { IfOk result (λ p. p ≡ map coded.by_name entities.now) }
+{
+    let codes = entity_codes(alloc, entities)?;
+    let places = Places::of(alloc, codes)?;
+    Ok(places)
 }
 
 impl Indexed {
@@ -40,15 +55,15 @@ impl Indexed {
     ) -> Result<Indexed, AllocError>
         ensures { IfOk result (λ u. u ≡ record { path = path; reads = reads; meaning = meaning }) }
     {
-        let Ok((tokens, next_of_token)) = chain_tokens(alloc, meaning.occs.as_slice()) else {
+        let Ok(tokens) = token_places(alloc, meaning.occs.as_slice()) else {
             drop(meaning);
             return Err(AllocError);
         };
-        let Ok((anchors, next_of_anchor)) = chain_anchors(alloc, meaning.occs.as_slice()) else {
+        let Ok(anchors) = anchor_places(alloc, meaning.occs.as_slice()) else {
             drop(meaning);
             return Err(AllocError);
         };
-        let Ok(entities) = place_entities(alloc, meaning.entities.as_slice()) else {
+        let Ok(entities) = entity_places(alloc, meaning.entities.as_slice()) else {
             drop(meaning);
             return Err(AllocError);
         };
@@ -61,9 +76,7 @@ impl Indexed {
             reads,
             meaning,
             tokens,
-            next_of_token,
             anchors,
-            next_of_anchor,
             entities,
             files,
         })
@@ -94,11 +107,12 @@ impl Indexed {
     pub(crate) fn at(&self, tok: &TokId) -> Walk<'_>
         ensures { result ≡ filter (is_at tok.now) self.now.meaning.occs }
     {
+        let occs = self.meaning.occs.as_slice();
         Walk::new(
             By::Token,
-            self.meaning.occs.as_slice(),
-            self.next_of_token.as_slice(),
-            first_at(&self.tokens, tok),
+            occs,
+            &self.tokens,
+            first_of_token(&self.tokens, occs, tok),
         )
     }
 
@@ -106,11 +120,12 @@ impl Indexed {
     pub(crate) fn of_anchor(&self, anchor: &Anchor) -> Walk<'_>
         ensures { result ≡ filter (spec.is_of anchor.now) self.now.meaning.occs }
     {
+        let occs = self.meaning.occs.as_slice();
         Walk::new(
             By::Anchor,
-            self.meaning.occs.as_slice(),
-            self.next_of_anchor.as_slice(),
-            first_of(&self.anchors, anchor),
+            occs,
+            &self.anchors,
+            first_of_anchor(&self.anchors, occs, anchor),
         )
     }
 
@@ -118,8 +133,9 @@ impl Indexed {
     pub(crate) fn first(&self, tok: &TokId) -> Option<&Occ>
         ensures { option_map (λ o. o.now) result ≡ find (is_at tok.now) self.now.meaning.occs }
     {
-        match first_at(&self.tokens, tok) {
-            Some(place) => occ_at(self.meaning.occs.as_slice(), place),
+        let occs = self.meaning.occs.as_slice();
+        match first_of_token(&self.tokens, occs, tok) {
+            Some(place) => occ_at(occs, place),
             None => None,
         }
     }
@@ -135,8 +151,9 @@ impl Indexed {
     pub(crate) fn entity(&self, anchor: &Anchor) -> Option<&Entity>
         ensures { option_map (λ e. e.now) result ≡ find (is_named anchor.now) self.now.meaning.entities }
     {
-        match first_of(&self.entities, anchor) {
-            Some(place) => entity_at(self.meaning.entities.as_slice(), place),
+        let entities = self.meaning.entities.as_slice();
+        match first_named(&self.entities, entities, anchor) {
+            Some(place) => entity_at(entities, place),
             None => None,
         }
     }

@@ -3,7 +3,7 @@ use Rattle.unit_index.proofs.ChainLemmas.{first_begins, first_turns, first_ends}
 use Rattle.unit_index.proofs.outline.place_symbols.Goals as goal
 
 pub symbols-init : goal.symbols-init
-symbols-init c = first_begins is_symbol _ _ c.no_tokens-first.ensures
+symbols-init c = first_begins is_symbol _ _ c.no_places-first.ensures
 
 pub symbols-preserved : goal.symbols-preserved
 symbols-preserved c = first_turns is_symbol _ _ _ c.in-Some.symbol.now _ _ c.in-Some.ensures.cases.0 c.in_ok-put_token.ensures.places c.symbols.invariant

@@ -1,5 +1,5 @@
 use Rattle.std.proofs.Common.{◌≡◌, ◌-◌, ◌++◌, drop, map}
-use Rattle.unit_index.specs.Crossing.{all_crossings, crossings, sight}
+use Rattle.unit_index.specs.Crossing.{crossings, sight}
 use Rattle.unit_index.specs.Matching.{IsTest, Test}
 use Rattle.unit_index.proofs.across.Index.all_crossings.Given as goal
 

@@ -1,13 +1,13 @@
-use Rattle.std.proofs.Common.{ap, ◌∙◌}
+use Rattle.std.proofs.Common.{ap, map, sym, ◌∙◌}
 use Rattle.std.specs.List.{filter}
 use Rattle.scope_tables.specs.Occurrences.{is_at}
-use Rattle.unit_index.proofs.LookLemmas.{tokens_lead, tokens_left}
+use Rattle.unit_index.specs.Codes.{by_token}
+use Rattle.unit_index.proofs.LookLemmas.{tokens_stand, tokens_left}
 use Rattle.unit_index.proofs.indexed.Indexed.at.Goals as goal
 
 pub new-requires : goal.new-requires
-new-requires c = tokens_lead c.self.invariant _ _ c.args.tok.now _ c.as_slice.ensures c.as_slice-2.ensures.value c.first_at.ensures
+new-requires c = record { codes = c.self.invariant.tokens ∙ ap (map by_token) (sym c.as_slice-occs.ensures); stands = tokens_stand _ c.args.tok.now _ c.first_of_token.ensures }
 
 pub returns : goal.returns
-returns c =
-    c.new.ensures ∙ tokens_left c.self.invariant _ c.args.tok.now _ c.as_slice.ensures c.first_at.ensures
-    ∙ ap (λ u. filter (is_at c.args.tok.now) u.meaning.occs) c.self.view_is
+returns c = c.new.ensures ∙ tokens_left _ c.args.tok.now _ c.first_of_token.ensures
+    ∙ ap (filter (is_at c.args.tok.now)) c.as_slice-occs.ensures ∙ ap (λ u. filter (is_at c.args.tok.now) u.meaning.occs) c.self.view_is
