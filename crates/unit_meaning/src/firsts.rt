@@ -1,5 +1,5 @@
 // The first token that denotes each name with external linkage.
-ghost use Rattle.std.specs.Prelude.{◌≡◌, ℕ, nat_eq, List, None, IfOk, OnOk, option_map};
+ghost use Rattle.std.specs.Prelude.{◌≡◌, ℕ, nat_eq, List, None, map, IfOk, OnOk, option_map};
 ghost use Rattle.std.specs.Cmp.Lexicographic.{pointwise};
 ghost use Rattle.std.specs.Option.{option_or};
 ghost use Rattle.unit_meaning.specs.Exports as spec;
@@ -67,13 +67,11 @@ fn note_occ(map: &mut HashMap<Name, TokId>, occ: &Occ) -> Result<(), AllocError>
 }
 
 /// The first token of each name with external linkage, as its item tells it.
-pub(crate) fn first_tokens(alloc: Global, occs: &[Occ]) -> Result<HashMap<Name, TokId>, AllocError>
-    ensures { IfOk result (λ firsts. (q : List ℕ) → at firsts q ≡ spec.first_token q occs.now) }
+pub(crate) fn first_tokens(alloc: Global, occs: &[&Occ]) -> Result<HashMap<Name, TokId>, AllocError>
+    ensures { IfOk result (λ firsts. (q : List ℕ) → at firsts q ≡ spec.first_token q (map (λ o. o.now) occs.now)) }
 {
     let mut firsts = no_names(alloc);
-    let mut rest = occs;
-    'occs: while let Some((occ, behind)) = rest.split_first() {
-        rest = behind;
+    'occs: for occ in occs {
         note_occ(&mut firsts, occ)?;
     }
     Ok(firsts)

@@ -1,5 +1,5 @@
 // What a unit says of its names, found at a constant cost.
-ghost use Rattle.std.specs.Prelude.{◌≡◌, IfOk, is_some, option_map};
+ghost use Rattle.std.specs.Prelude.{◌≡◌, IfOk, is_some, map, option_map};
 ghost use Rattle.unit_meaning.specs.Exports as spec;
 
 use crate::firsts::{first_tokens, token_of};
@@ -16,7 +16,7 @@ use type_rel::is_bad;
 /// The occurrences and heads of a unit, of which each question on a name is answered at a constant cost. Contracts see these.
 #[derive(Drop)]
 pub(crate) struct Kept<'a> {
-    occs: &'a [Occ],
+    occs: &'a [&'a Occ],
     heads: &'a [HeadMeaning],
     firsts: HashMap<Name, TokId>,
     defined: HashMap<Name, TokId>,
@@ -27,6 +27,7 @@ pub(crate) struct Kept<'a> {
 
 impl<'a> Model for Kept<'a> {
     ghost use Rattle.std.specs.Coded.{codes};
+    ghost use Rattle.std.specs.Prelude.{map};
     ghost use Rattle.type_data.specs.contracts.types.CType as types;
     ghost use Rattle.unit_meaning.specs.Kept.{AreKept, Named, at};
 
@@ -34,18 +35,18 @@ impl<'a> Model for Kept<'a> {
 
     ghost coded = { Prim.hlevel (codes, types.the_row.coded) };
 
-    ghost view = { λ k. record { occs = k.occs.now; heads = k.heads.now } };
+    ghost view = { λ k. record { occs = map (λ o. o.now) k.occs.now; heads = k.heads.now } };
 
-    ghost invariant = { λ k. AreKept (record { occs = k.occs.now; heads = k.heads.now }) (at k.firsts) (at k.defined) (at k.tentative) (at k.refused) (at k.outside) };
+    ghost invariant = { λ k. AreKept (record { occs = map (λ o. o.now) k.occs.now; heads = k.heads.now }) (at k.firsts) (at k.defined) (at k.tentative) (at k.refused) (at k.outside) };
 }
 
 impl<'a> Kept<'a> {
     pub(crate) fn new(
         alloc: Global,
-        occs: &'a [Occ],
+        occs: &'a [&'a Occ],
         heads: &'a [HeadMeaning],
     ) -> Result<Kept<'a>, AllocError>
-        ensures { IfOk result (λ k. k ≡ record { occs = occs.now; heads = heads.now }) }
+        ensures { IfOk result (λ k. k ≡ record { occs = map (λ o. o.now) occs.now; heads = heads.now }) }
     {
         let firsts = first_tokens(alloc, occs)?;
         let outside = outside(alloc, heads)?;

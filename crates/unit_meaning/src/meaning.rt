@@ -1,5 +1,5 @@
 // What a unit means.
-ghost use Rattle.std.specs.Prelude.{◌≡◌, IfOk};
+ghost use Rattle.std.specs.Prelude.{◌≡◌, map, IfOk};
 ghost use Rattle.unit_meaning.specs.Entities.{entities as declared};
 ghost use Rattle.unit_meaning.specs.Exports as shown;
 ghost use Rattle.unit_meaning.specs.Meanings as spec;
@@ -51,10 +51,10 @@ fn faults(alloc: Global, unit: &Elaborated<'_>, tags: &Tags) -> Result<Vec<Shown
 fn exported(
     alloc: Global,
     unit: &Elaborated<'_>,
-    occs: &[Occ],
+    occs: &[&Occ],
     entities: &[Entity],
 ) -> Result<Vec<Export>, AllocError>
-    ensures { IfOk result (λ r. r.items ≡ shown.names (elaborated_of unit.now).unit (elaborated_of unit.now).reached occs.now (elaborated_of unit.now).heads entities.now) }
+    ensures { IfOk result (λ r. r.items ≡ shown.names (elaborated_of unit.now).unit (elaborated_of unit.now).reached (map (λ o. o.now) occs.now) (elaborated_of unit.now).heads entities.now) }
 {
     let kept = Kept::new(alloc, occs, unit.heads)?;
     let names = names(alloc, unit.sources, unit.reached, &kept, entities)?;
@@ -66,9 +66,9 @@ fn exported(
 fn declarations(
     alloc: Global,
     unit: &Elaborated<'_>,
-    occs: &[Occ],
+    occs: &[&Occ],
 ) -> Result<(Vec<Entity>, Vec<Export>), AllocError>
-    requires { occs.now ≡ denoted.in_items (elaborated_of unit.now).unit.items (elaborated_of unit.now).heads (elaborated_of unit.now).bodies }
+    requires { map (λ o. o.now) occs.now ≡ denoted.in_items (elaborated_of unit.now).unit.items (elaborated_of unit.now).heads (elaborated_of unit.now).bodies }
     ensures entities { IfOk result (λ r. r.0.items ≡ declared (elaborated_of unit.now).unit (elaborated_of unit.now).heads (elaborated_of unit.now).bodies) }
     ensures names { IfOk result (λ r. r.1.items ≡ (spec.exports (elaborated_of unit.now)).names) }
 {

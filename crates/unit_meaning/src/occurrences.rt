@@ -9,32 +9,19 @@ use scope_tables::{BodyMeaning, HeadMeaning, Occ};
 use std::alloc::{AllocError, Global};
 use unit_items::{Item, Sources};
 
-fn share_occ(occ: &Occ) -> Result<Occ, AllocError>
-    ensures { IfOk result (λ copy. copy ≡ occ.now) }
-{
-    let tok = occ.tok.copy()?;
-    let anchor = occ.anchor.share()?;
-    Ok(Occ {
-        tok,
-        anchor,
-        role: occ.role,
-    })
-}
-
-fn add_all(out: &mut Vec<Occ>, occs: &[Occ]) -> Result<(), AllocError>
-    ensures { OnOk result (out.new.items ≡ out.old.items ++ occs.now) }
+fn add_all<'a>(out: &mut Vec<&'a Occ>, occs: &'a [Occ]) -> Result<(), AllocError>
+    ensures { OnOk result (map (λ o. o.now) out.new.items ≡ map (λ o. o.now) out.old.items ++ occs.now) }
 {
     let mut rest = occs;
     'occs: while let Some((occ, behind)) = rest.split_first() {
         rest = behind;
-        let copy = share_occ(occ)?;
-        out.push(copy)?;
+        out.push(occ)?;
     }
     Ok(())
 }
 
-fn add_heads(out: &mut Vec<Occ>, heads: &[HeadMeaning]) -> Result<(), AllocError>
-    ensures { OnOk result (out.new.items ≡ out.old.items ++ spec.in_heads heads.now) }
+fn add_heads<'a>(out: &mut Vec<&'a Occ>, heads: &'a [HeadMeaning]) -> Result<(), AllocError>
+    ensures { OnOk result (map (λ o. o.now) out.new.items ≡ map (λ o. o.now) out.old.items ++ spec.in_heads heads.now) }
 {
     let mut rest = heads;
     'heads: while let Some((head, behind)) = rest.split_first() {
@@ -44,8 +31,8 @@ fn add_heads(out: &mut Vec<Occ>, heads: &[HeadMeaning]) -> Result<(), AllocError
     Ok(())
 }
 
-fn add_bodies(out: &mut Vec<Occ>, bodies: &[BodyMeaning]) -> Result<(), AllocError>
-    ensures { OnOk result (out.new.items ≡ out.old.items ++ spec.in_bodies bodies.now) }
+fn add_bodies<'a>(out: &mut Vec<&'a Occ>, bodies: &'a [BodyMeaning]) -> Result<(), AllocError>
+    ensures { OnOk result (map (λ o. o.now) out.new.items ≡ map (λ o. o.now) out.old.items ++ spec.in_bodies bodies.now) }
 {
     let mut rest = bodies;
     'bodies: while let Some((body, behind)) = rest.split_first() {
@@ -55,14 +42,14 @@ fn add_bodies(out: &mut Vec<Occ>, bodies: &[BodyMeaning]) -> Result<(), AllocErr
     Ok(())
 }
 
-/// The occurrences in the items of a unit, as these tell them, in the order of output tokens.
-pub(crate) fn in_items(
+/// The occurrences in the items of a unit, as these tell them, in the order of output tokens. They are lent.
+pub(crate) fn in_items<'a>(
     alloc: Global,
     items: &[Item],
-    heads: &[HeadMeaning],
-    bodies: &[BodyMeaning],
-) -> Result<Vec<Occ>, AllocError>
-    ensures { IfOk result (λ out. out.items ≡ spec.in_items items.now heads.now bodies.now) }
+    heads: &'a [HeadMeaning],
+    bodies: &'a [BodyMeaning],
+) -> Result<Vec<&'a Occ>, AllocError>
+    ensures { IfOk result (λ out. map (λ o. o.now) out.items ≡ spec.in_items items.now heads.now bodies.now) }
 {
     let mut out = Vec::with_capacity(alloc, room::of_occs(heads, bodies))?;
     let mut later_heads = heads;
@@ -84,14 +71,12 @@ pub(crate) fn in_items(
 pub(crate) fn of_unit(
     alloc: Global,
     sources: &Sources<'_>,
-    occs: &[Occ],
+    occs: &[&Occ],
 ) -> Result<Vec<Occ>, AllocError>
-    ensures { IfOk result (λ out. out.items ≡ spec.of_unit sources.now occs.now) }
+    ensures { IfOk result (λ out. out.items ≡ spec.of_unit sources.now (map (λ o. o.now) occs.now)) }
 {
     let mut out = Vec::with_capacity(alloc, occs.len())?;
-    let mut rest = occs;
-    'occs: while let Some((occ, behind)) = rest.split_first() {
-        rest = behind;
+    'occs: for occ in occs {
         let occ = sources.occurrence(occ)?;
         out.push(occ)?;
     }
