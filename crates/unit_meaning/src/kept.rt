@@ -3,11 +3,11 @@ ghost use Rattle.std.specs.Prelude.{◌≡◌, IfOk, is_some, map, option_map};
 ghost use Rattle.unit_meaning.specs.Exports as spec;
 
 use crate::firsts::{first_tokens, token_of};
-use crate::statements::{all_first_stated, outside};
+use crate::statements::{all_first_stated, is_among, outside};
 use scope_tables::{HeadMeaning, Occ};
 use shared_text::Name;
 use std::alloc::{AllocError, Global};
-use std::collections::HashMap;
+use std::collections::{HashMap, HashSet};
 use std::marker::Model;
 use tok_data::TokId;
 use type_data::CType;
@@ -22,14 +22,14 @@ pub(crate) struct Kept<'a> {
     defined: HashMap<Name, TokId>,
     tentative: HashMap<Name, TokId>,
     refused: HashMap<Name, TokId>,
-    outside: HashMap<Name, TokId>,
+    outside: HashSet<Name>,
 }
 
 impl<'a> Model for Kept<'a> {
     ghost use Rattle.std.specs.Coded.{codes};
     ghost use Rattle.std.specs.Prelude.{map};
     ghost use Rattle.type_data.specs.contracts.types.CType as types;
-    ghost use Rattle.unit_meaning.specs.Kept.{AreKept, Named, at};
+    ghost use Rattle.unit_meaning.specs.Kept.{AreKept, Named, at, has};
 
     ghost Value = { Named };
 
@@ -37,7 +37,7 @@ impl<'a> Model for Kept<'a> {
 
     ghost view = { λ k. record { occs = map (λ o. o.now) k.occs.now; heads = k.heads.now } };
 
-    ghost invariant = { λ k. AreKept (record { occs = map (λ o. o.now) k.occs.now; heads = k.heads.now }) (at k.firsts) (at k.defined) (at k.tentative) (at k.refused) (at k.outside) };
+    ghost invariant = { λ k. AreKept (record { occs = map (λ o. o.now) k.occs.now; heads = k.heads.now }) (at k.firsts) (at k.defined) (at k.tentative) (at k.refused) (has k.outside) };
 }
 
 impl<'a> Kept<'a> {
@@ -79,7 +79,7 @@ impl<'a> Kept<'a> {
     fn is_outside(&self, name: &Name) -> bool
         ensures { result ≡ is_some (spec.outside name.now self.now.heads) }
     {
-        token_of(&self.outside, name).is_some()
+        is_among(&self.outside, name)
     }
 
     fn either(&self, name: &Name) -> Option<&TokId>

@@ -1,24 +1,22 @@
-// The first statement of each name that is what is asked for.
-ghost use Rattle.std.specs.Prelude.{◌≡◌, ◌&&◌, ℕ, nat_eq, List, None, IfOk, OnOk};
+// The first statement of each name that is what is asked for, and the names that some head states without `inline`, or with `extern`.
+ghost use Rattle.std.specs.Prelude.{◌≡◌, ◌&&◌, ◌||◌, ℕ, nat_eq, false, is_some, List, IfOk, OnOk};
 ghost use Rattle.std.specs.Cmp.Lexicographic.{pointwise};
 ghost use Rattle.std.specs.Option.{option_or};
 ghost use Rattle.unit_meaning.specs.Exports as spec;
-ghost use Rattle.unit_meaning.specs.Kept.{asks, at};
+ghost use Rattle.unit_meaning.specs.Kept.{asks, at, has};
 
 use crate::firsts::{no_names, note};
 use crate::sites::token_in;
 use scope_tables::{HeadMeaning, How, Stated};
 use shared_text::Name;
 use std::alloc::{AllocError, Global};
-use std::collections::HashMap;
+use std::collections::{HashMap, HashSet};
 use tok_data::TokId;
 use type_data::ItemName;
 
 /// What is asked of a statement.
 #[derive(Clone, Copy, Drop)]
 pub(crate) enum Asked {
-    /// Nothing: it states the name.
-    Any,
     Defined,
     Tentative,
     Refused,
@@ -61,7 +59,6 @@ fn is_asked(asked: Asked, how: How) -> bool
     ensures { result ≡ asks asked how }
 {
     match asked {
-        Asked::Any => true,
         Asked::Defined => defines(how),
         Asked::Tentative => is_tentative(how),
         Asked::Refused => is_refused(how),
@@ -140,31 +137,59 @@ pub(crate) fn all_first_stated(
     Ok((defined, tentative, refused))
 }
 
-fn note_outside(
-    alloc: Global,
-    map: &mut HashMap<Name, TokId>,
-    head: &HeadMeaning,
-) -> Result<(), AllocError>
-    ensures { OnOk result ((q : List ℕ) → at map.new q ≡ option_or (at map.old q) (spec.outside_in q head.now)) }
+#[tactic(auto, unfolding(crate::specs::Kept::has))]
+fn none(alloc: Global) -> HashSet<Name>
+    ensures { (q : List ℕ) → has result q ≡ false }
+{
+    HashSet::new(alloc)
+}
+
+/// The name is among these.
+#[tactic(auto, unfolding(crate::specs::Kept::has))]
+pub(crate) fn is_among(names: &HashSet<Name>, name: &Name) -> bool
+    ensures { result ≡ has names.now name.now }
+{
+    names.contains(name)
+}
+
+#[tactic(auto, unfolding(crate::specs::Kept::has))]
+fn add(names: &mut HashSet<Name>, name: &Name) -> Result<(), AllocError>
+    ensures { OnOk result ((q : List ℕ) → has names.new q ≡ (pointwise nat_eq name.now q || has names.old q)) }
+{
+    let name = name.share()?;
+    names.insert(name)?;
+    Ok(())
+}
+
+fn add_stated(names: &mut HashSet<Name>, list: &[Stated]) -> Result<(), AllocError>
+    ensures { OnOk result ((item : ItemName) (q : List ℕ) → has names.new q ≡ (has names.old q || is_some (spec.first_in spec.any q item list.now))) }
+{
+    let mut rest = list;
+    'stated: while let Some((stated, behind)) = rest.split_first() {
+        rest = behind;
+        add(names, &stated.name)?;
+    }
+    Ok(())
+}
+
+fn add_outside(names: &mut HashSet<Name>, head: &HeadMeaning) -> Result<(), AllocError>
+    ensures { OnOk result ((q : List ℕ) → has names.new q ≡ (has names.old q || is_some (spec.outside_in q head.now))) }
 {
     if head.inline {
         return Ok(());
     }
-    note_item(alloc, map, Asked::Any, &head.item, head.stated.as_slice())
+    add_stated(names, head.stated.as_slice())
 }
 
-/// Of each name that some head states without `inline`, or with `extern`, a token that does.
-pub(crate) fn outside(
-    alloc: Global,
-    heads: &[HeadMeaning],
-) -> Result<HashMap<Name, TokId>, AllocError>
-    ensures { IfOk result (λ map. (q : List ℕ) → at map q ≡ spec.outside q heads.now) }
+/// The names that some head states without `inline`, or with `extern`.
+pub(crate) fn outside(alloc: Global, heads: &[HeadMeaning]) -> Result<HashSet<Name>, AllocError>
+    ensures { IfOk result (λ names. (q : List ℕ) → has names q ≡ is_some (spec.outside q heads.now)) }
 {
-    let mut map = no_names(alloc);
+    let mut names = none(alloc);
     let mut rest = heads;
     'heads: while let Some((head, behind)) = rest.split_first() {
         rest = behind;
-        note_outside(alloc, &mut map, head)?;
+        add_outside(&mut names, head)?;
     }
-    Ok(map)
+    Ok(names)
 }
