@@ -33,10 +33,10 @@ impl<'a> Model for Sources<'a> {
 }
 
 #[tactic(auto, unfolding(crate::specs::Maps::start_at))]
-fn none(alloc: Global) -> HashMap<FileId, u32>
-    ensures { (q : List ℕ) → start_at result q ≡ None }
+fn none(alloc: Global, capacity: usize) -> Result<HashMap<FileId, u32>, AllocError>
+    ensures { IfOk result (λ starts. (q : List ℕ) → start_at starts q ≡ None) }
 {
-    HashMap::new(alloc)
+    HashMap::with_capacity(alloc, capacity)
 }
 
 // An item counts where its text has none before it.
@@ -44,10 +44,7 @@ fn none(alloc: Global) -> HashMap<FileId, u32>
 fn put(starts: &mut HashMap<FileId, u32>, file: FileId, start: u32) -> Result<(), AllocError>
     ensures { OnOk result ((q : List ℕ) → start_at starts.new q ≡ option_or (start_at starts.old q) (if bytes_eq file q then Some start else None)) }
 {
-    if starts.contains_key(&file) {
-        return Ok(());
-    }
-    starts.insert(file, start).map_err(AllocError::from)?;
+    starts.entry(file)?.or_insert(start);
     Ok(())
 }
 
@@ -55,7 +52,7 @@ fn put(starts: &mut HashMap<FileId, u32>, file: FileId, start: u32) -> Result<()
 fn starts_of(alloc: Global, items: &[Item]) -> Result<HashMap<FileId, u32>, AllocError>
     ensures { IfOk result (λ starts. (q : List ℕ) → start_at starts q ≡ spec.start_of items.now q) }
 {
-    let mut starts = none(alloc);
+    let mut starts = none(alloc, items.len())?;
     let mut rest = items;
     'turn: while let Some((item, behind)) = rest.split_first() {
         rest = behind;
