@@ -10,7 +10,7 @@ use Rattle.unit_index.specs.Chains.{first_from, left}
 use Rattle.scope_tables.specs.Occurrences.{is_at}
 use Rattle.unit_index.specs.Occurrences.{is_of}
 use Rattle.unit_index.specs.Walks.{Stands}
-use Rattle.unit_index.proofs.PlaceLemmas.{slice_at}
+use Rattle.unit_index.proofs.PlaceLemmas.{there}
 use Rattle.unit_index.proofs.WalkLemmas.{leads, is_token, is_anchor}
 
 pub tokens_stand : (os : List Occ) (q : TokId) (o : Option ℕ) → o ≡ first_from (is_at q) 0 os → Stands by.Token os o
@@ -40,7 +40,7 @@ pub find_is : {A : Type 0} (p : A → Bool) (all front xs : List A) (n : ℕ) �
 find_is p all front [] n split place = refl
 find_is p all front (x ∷ xs) n split place =
     find_by p all xs x n (p x)
-    (ap (λ zs. slice_get zs n) (sym split) ∙ ap (λ k. slice_get (front ++ x ∷ xs) k) (sym place) ∙ slice_at front x xs)
+    (there all front xs x n split place)
     (find_is p all (front ++ x ∷ []) xs (n + 1) (append_assoc front (x ∷ []) xs ∙ split) (length-append front (x ∷ []) ∙ ap (λ k. k + 1) place))
 
 -- what stands at the first place

@@ -1,10 +1,11 @@
 -- Places that are linked by remainders lead to those of a number, and these to those of a key.
 use Rattle.std.proofs.Common.{arith, ◌≡◌, ◌<◌, ◌≤◌, ℕ, zero, suc, ◌+◌, ◌-◌, ◌%◌, ◌++◌, Bool, true, false, List, [], ◌∷◌, length, drop, map, get_or, reverse, nat_eq, Option, Some, None, refl, sym, ap, subst, ◌∙◌, append_assoc, length-append}
-use Rattle.std.proofs.lemmas.List.{append-nil, reverse-append, get_or-set_same, get_or-set_other, drop-map}
+use Rattle.std.proofs.lemmas.List.{append-nil, reverse-append, length-map, length-set, map-append, get_or-set_same, get_or-set_other, drop-map}
 use Rattle.std.proofs.lemmas.Option.{slice_get-map, slice_get-get_or, slice_get_within}
 use Rattle.std.proofs.lemmas.Bool.{eqb-true, eq-eqb}
 use Rattle.std.proofs.Math.ListN.{set}
 use Rattle.std.proofs.Math.Nat.{mod-lt}
+use Rattle.std.proofs.Math.Seq.{drop-append_seam}
 use Rattle.std.specs.Prelude.{if◌then◌else◌, option_map}
 use Rattle.std.specs.List.{slice_get}
 use Rattle.unit_index.specs.Chains.{first_from, from_place, HasCode}
@@ -17,10 +18,6 @@ use Rattle.unit_index.proofs.FirstLemmas.{rest_none}
 pub slice_at : {A : Type 0} (front : List A) (x : A) (xs : List A) → slice_get (front ++ x ∷ xs) (length front) ≡ Some x
 slice_at [] x xs = refl
 slice_at (y ∷ front) x xs = slice_at front x xs
-
-pub drop_at : {A : Type 0} (front xs : List A) → drop (length front) (front ++ xs) ≡ xs
-drop_at [] xs = refl
-drop_at (y ∷ front) xs = drop_at front xs
 
 -- a list in two parts, of which the second begins at a place
 pub record IsCut {A : Type 0} (all : List A) (i : ℕ) (x : A) : Type 0 where
@@ -38,7 +35,7 @@ cut_at (y ∷ ys) (suc i) x e =
 
 -- what stands from a place on
 pub dropped : {A : Type 0} (all front xs : List A) (n : ℕ) → front ++ xs ≡ all → length front ≡ n → drop n all ≡ xs
-dropped all front xs n split place = ap (drop n) (sym split) ∙ ap (λ k. drop k (front ++ xs)) (sym place) ∙ drop_at front xs
+dropped all front xs n split place = ap (drop n) (sym split) ∙ ap (λ k. drop k (front ++ xs)) (sym place) ∙ drop-append_seam front xs
 
 -- what stands at one
 pub there : {A : Type 0} (all front xs : List A) (x : A) (n : ℕ) → front ++ x ∷ xs ≡ all → length front ≡ n → slice_get all n ≡ Some x
@@ -295,12 +292,6 @@ put_by firsts r k place true is short =
     ap (λ i. get_or (set firsts i place) r 0) (sym same) ∙ get_or-set_same firsts r place 0 short
 put_by firsts r k place false not short = get_or-set_other firsts k r place 0 (λ same. cc (sym (eq-eqb r k same) ∙ not))
 
-length_set : (firsts : List ℕ) (k place : ℕ) → length (set firsts k place) ≡ length firsts
-length_set [] zero place = refl
-length_set [] (suc k) place = refl
-length_set (x ∷ firsts) zero place = refl
-length_set (x ∷ firsts) (suc k) place = ap suc (length_set firsts k place)
-
 pub so_far_turns : (count x : ℕ) (codes rest before firsts firsts' nexts nexts' : List ℕ) → rest ≡ before ++ x ∷ [] → firsts' ≡ set firsts (x % count) (length before)
     → nexts' ≡ nexts ++ get_or firsts (x % count) 0 ∷ [] → x % count < count
     → AreSoFar count codes rest firsts nexts → AreSoFar count codes before firsts' nexts'
@@ -311,7 +302,7 @@ so_far_turns count x codes rest before firsts firsts' nexts nexts' is put pushed
     record {
       behind = x ∷ was.behind;
       split = sym (append_assoc before (x ∷ []) was.behind) ∙ ap (λ xs. xs ++ was.behind) (sym is) ∙ was.split;
-      width = ap length put ∙ length_set firsts (x % count) (length before) ∙ was.width;
+      width = ap length put ∙ length-set firsts (x % count) (length before) ∙ was.width;
       firsts = λ r l.
           ap (λ fs. get_or fs r 0) put ∙ put_by firsts r (x % count) (length before) (nat_eq r (x % count)) refl (subst (λ n. r < n) (sym was.width) l)
           ∙ ap (λ v. if leaves count r x then length before else v) (later r l);
@@ -331,14 +322,6 @@ so_far_ends count codes rest firsts nexts some none was =
     }
 
 -- ---- the places of a key among those of its number
-
-map_parts : {A : Type 0} (f : A → ℕ) (xs ys : List A) → map f xs ++ map f ys ≡ map f (xs ++ ys)
-map_parts f [] ys = refl
-map_parts f (x ∷ xs) ys = ap (λ zs. f x ∷ zs) (map_parts f xs ys)
-
-length_map : {A : Type 0} (f : A → ℕ) (xs : List A) → length (map f xs) ≡ length xs
-length_map f [] = refl
-length_map f (x ∷ xs) = ap suc (length_map f xs)
 
 first_by : {A : Type 0} (p q : A → Bool) (all xs : List A) (x : A) (n : ℕ) (c : Bool) → q x ≡ c → (q x ≡ false → p x ≡ false) → drop n all ≡ x ∷ xs
     → first_from p (n + 1) xs ≡ from_place p (first_from q (n + 1) xs) all
@@ -422,7 +405,7 @@ next_code p f all codes code place x o are here is next =
     let to : o ≡ first_from (nat_eq code) (place + 1) (drop (place + 1) codes) = next ∙ ap (λ c. next_from c place codes) number in
     let numbers : drop (place + 1) codes ≡ map f cut.rest = ap (drop (place + 1)) are.codes ∙ drop-map f (place + 1) all ∙ ap (map f) rest in (
       code_by code (place + 1) codes (map f (cut.front ++ x ∷ [])) (map f cut.rest) o
-          (map_parts f (cut.front ++ x ∷ []) cut.rest ∙ ap (map f) split ∙ sym are.codes) (length_map f (cut.front ++ x ∷ []) ∙ more)
+          (sym (map-append f (cut.front ++ x ∷ []) cut.rest) ∙ ap (map f) split ∙ sym are.codes) (length-map (cut.front ++ x ∷ []) f ∙ more)
           (ap (first_from (nat_eq code) (place + 1)) (sym numbers) ∙ sym to),
       ap (λ r. from_place p r all) (to ∙ ap (first_from (nat_eq code) (place + 1)) numbers ∙ first_map f (nat_eq code) (place + 1) cut.rest)
           ∙ sym (leads_to p (has f code) (to_number p f code are.within) all (cut.front ++ x ∷ []) cut.rest (place + 1) split more)
@@ -508,4 +491,4 @@ pub key_nears : {A : Type 0} (f : A → ℕ) (all : List A) (codes : List ℕ) (
 key_nears f all codes code place at next are is has to =
     let here : slice_get codes place ≡ Some code = subst (HasCode code codes) is has in
     subst (λ o. to_go (length all) next < to_go (length all) o) (sym is)
-    (next_by codes place code next (length all) here (sym (ap length are ∙ length_map f all)) to)
+    (next_by codes place code next (length all) here (sym (ap length are ∙ length-map all f)) to)

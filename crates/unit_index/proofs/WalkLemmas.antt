@@ -1,5 +1,6 @@
 -- A way along a chain leads from one occurrence of a key to the next.
-use Rattle.std.proofs.Common.{arith, rules, ◌≡◌, ◌<◌, ℕ, zero, suc, ◌+◌, ◌++◌, Bool, true, false, ◌&&◌, List, [], ◌∷◌, length, drop, get_or, Option, Some, refl, sym, ap, subst, ◌∙◌, append_assoc, length-append}
+use Rattle.std.proofs.Common.{arith, rules, ◌≡◌, ◌<◌, ℕ, ◌+◌, ◌++◌, Bool, true, false, ◌&&◌, List, [], ◌∷◌, length, drop, get_or, Option, Some, refl, sym, ap, subst, ◌∙◌, append_assoc, length-append}
+use Rattle.std.proofs.lemmas.Option.{slice_get-get_or}
 use Rattle.std.specs.Prelude.{if◌then◌else◌}
 use Rattle.std.specs.Bool.{Decides}
 use Rattle.std.specs.List.{filter, slice_get}
@@ -15,7 +16,7 @@ use Rattle.unit_index.specs.Chains.{first_from, alike, chained, left}
 use Rattle.unit_index.specs.Codes.{token_code, anchor_code, by_token, by_anchor, by_name}
 use Rattle.unit_index.specs.Speaking.{is_named}
 use Rattle.unit_index.specs.Walks.{IsThere, Stands, IsOnTheWay}
-use Rattle.unit_index.proofs.PlaceLemmas.{slice_at, drop_at, dropped, cut_at}
+use Rattle.unit_index.proofs.PlaceLemmas.{dropped, there, cut_at}
 
 -- ---- keys
 
@@ -69,8 +70,8 @@ leads_here : (b : By) (p : Occ → Bool) (all front xs : List Occ) (x : Occ) (n 
     → Leads b p all (Some n) (x ∷ filter p xs)
 leads_here b p all front xs x n key split place holds =
     let same : alike b x ≡ p = key x holds in
-    let found : slice_get all n ≡ Some x = ap (λ zs. slice_get zs n) (sym split) ∙ ap (λ k. slice_get (front ++ x ∷ xs) k) (sym place) ∙ slice_at front x xs in
-    let behind : drop n all ≡ x ∷ xs = ap (λ zs. drop n zs) (sym split) ∙ ap (λ k. drop k (front ++ x ∷ xs)) (sym place) ∙ drop_at front (x ∷ xs) in
+    let found = there all front xs x n split place in
+    let behind = dropped all front (x ∷ xs) n split place in
     let within : n < length all = subst (λ zs. n < length zs) split (subst (λ k. k < length (front ++ x ∷ xs)) place (shorter front x xs)) in
     let here : filter p (x ∷ xs) ≡ x ∷ filter p xs = ap (λ c. if c then x ∷ filter p xs else filter p xs) holds in (
       (within, subst (IsThere b all) (sym found) (ap (λ f. f x) same ∙ holds)),
@@ -107,23 +108,18 @@ steps b all codes i x o way found next =
     let place : length (cut.front ++ x ∷ []) ≡ i + 1 = length-append cut.front (x ∷ []) ∙ ap (λ k. k + 1) cut.place in
     let to : o ≡ first_from (alike b x) (i + 1) cut.rest = next ∙ ap (first_from (alike b x) (i + 1)) (dropped all (cut.front ++ x ∷ []) cut.rest (i + 1) split place) in
     let here = leads_here b (alike b x) all cut.front cut.rest x i key cut.split cut.place holds in
-    let there = leads b (alike b x) all (cut.front ++ x ∷ []) cut.rest (i + 1) key split place in
+    let later = leads b (alike b x) all (cut.front ++ x ∷ []) cut.rest (i + 1) key split place in
     record {
-      stands = subst (Stands b all) (sym to) there.0;
-      goes = here.1 ∙ ap (λ os. x ∷ os) (sym there.1 ∙ ap (left b all) (sym to));
+      stands = subst (Stands b all) (sym to) later.0;
+      goes = here.1 ∙ ap (λ os. x ∷ os) (sym later.1 ∙ ap (left b all) (sym to));
     }
 
-get_at : {A : Type 0} (xs : List A) (i : ℕ) (d : A) → i < length xs → slice_get xs i ≡ Some (get_or xs i d)
-get_at [] i d l = let bad : ⊥ = omega (arith, l) in absurd bad
-get_at (x ∷ xs) zero d l = refl
-get_at (x ∷ xs) (suc i) d l = get_at xs i d (omega (arith, l))
-
 pub stands_there : (b : By) (all : List Occ) (codes : List ℕ) (at : Option ℕ) (i : ℕ) (x : Occ) → at ≡ Some i → x ≡ get_or all i x → IsOnTheWay b all codes at → slice_get all i ≡ Some x
-stands_there b all codes at i x is there way =
+stands_there b all codes at i x is read way =
     let here = subst (IsOnTheWay b all codes) is way in
-    get_at all i x here.stands.0 ∙ ap Some (sym there)
+    slice_get-get_or all i x here.stands.0 ∙ ap Some (sym read)
 
 pub step_is : (b : By) (all : List Occ) (codes : List ℕ) (at : Option ℕ) (i : ℕ) (x : Occ) (o : Option ℕ) → at ≡ Some i → x ≡ get_or all i x → IsOnTheWay b all codes at
     → o ≡ first_from (alike b x) (i + 1) (drop (i + 1) all) → IsStep b all i x o
-step_is b all codes at i x o is there way next =
-    steps b all codes i x o (subst (IsOnTheWay b all codes) is way) (stands_there b all codes at i x is there way) next
+step_is b all codes at i x o is read way next =
+    steps b all codes i x o (subst (IsOnTheWay b all codes) is way) (stands_there b all codes at i x is read way) next

@@ -16,7 +16,7 @@ token_code t = (text_code t.file + (t.at * 0x9e37_79b1) % 0x1_0000_0000) % 0x1_0
 unfoldable pub anchor_code : Anchor → ℕ
 anchor_code (anchor.External name) = text_code name
 anchor_code (anchor.Local tok) = token_code tok
-anchor_code (anchor.Made tok name) = token_code tok
+anchor_code (anchor.Made tok name) = (token_code tok + text_code name) % 0x1_0000_0000
 anchor_code (anchor.Macro name) = text_code name
 
 abbrev pub by_token : Occ → ℕ

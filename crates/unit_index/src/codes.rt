@@ -35,7 +35,8 @@ pub(crate) fn anchor_code(anchor: &Anchor) -> u32
     match anchor {
         Anchor::External(name) => text_code(name.as_str()),
         Anchor::Local(tok) => token_code(tok),
-        Anchor::Made(tok, _) => token_code(tok),
+        // (one place may make many names)
+        Anchor::Made(tok, name) => token_code(tok).wrapping_add(text_code(name.as_str())),
         Anchor::Macro(name) => text_code(name.as_str()),
     }
 }

@@ -16,7 +16,7 @@ struct Links {
     nexts: Vec<u32>,
 }
 
-/// A list of numbers, of each of which the first place and from each place the next one of the same number are found at a constant cost. Contracts see the numbers.
+/// A list of numbers, of each of which the first place and from each place the next one of the same number are found at a cost that is constant on average. Contracts see the numbers.
 #[derive(Drop)]
 pub(crate) struct Places {
     links: Links,

@@ -1,7 +1,6 @@
 pub mod Lists
 pub mod Sites
 pub mod Order
-pub mod Room
 pub mod Faults
 pub mod Occurrences
 pub mod Entities

@@ -1,13 +1,9 @@
-// Room for the lists of a unit, so that they needn't grow.
-ghost use Rattle.std.specs.Prelude.{◌≡◌};
-ghost use Rattle.unit_meaning.specs.Room as spec;
+// Room for the lists of a unit, so that they needn't grow. No clause says how much: nothing depends on it.
 
 use scope_tables::{BodyMeaning, HeadMeaning};
 
 /// How many entities heads and bodies have together.
-pub(crate) fn of_entities(heads: &[HeadMeaning], bodies: &[BodyMeaning]) -> usize
-    ensures { result ≡ spec.of_entities heads.now bodies.now }
-{
+pub(crate) fn of_entities(heads: &[HeadMeaning], bodies: &[BodyMeaning]) -> usize {
     let in_heads = heads.iter().fold(0_usize, |size, head| {
         size.saturating_add(head.entities.as_slice().len())
     });
@@ -17,9 +13,7 @@ pub(crate) fn of_entities(heads: &[HeadMeaning], bodies: &[BodyMeaning]) -> usiz
 }
 
 /// How many occurrences heads and bodies have together.
-pub(crate) fn of_occs(heads: &[HeadMeaning], bodies: &[BodyMeaning]) -> usize
-    ensures { result ≡ spec.of_occs heads.now bodies.now }
-{
+pub(crate) fn of_occs(heads: &[HeadMeaning], bodies: &[BodyMeaning]) -> usize {
     let in_heads = heads.iter().fold(0_usize, |size, head| {
         size.saturating_add(head.occs.as_slice().len())
     });
@@ -29,9 +23,7 @@ pub(crate) fn of_occs(heads: &[HeadMeaning], bodies: &[BodyMeaning]) -> usize
 }
 
 /// How many symbols heads have together.
-pub(crate) fn of_symbols(heads: &[HeadMeaning]) -> usize
-    ensures { result ≡ spec.of_symbols heads.now }
-{
+pub(crate) fn of_symbols(heads: &[HeadMeaning]) -> usize {
     heads.iter().fold(0_usize, |size, head| {
         size.saturating_add(head.symbols.as_slice().len())
     })
