@@ -183,8 +183,8 @@ fn directive_in_front<'a>(
     })
 }
 
-// A run of a few lines grows into no second place.
-const ROOM_OF_RUN: usize = 32;
+// A run of some lines grows into no second place.
+const ROOM_OF_RUN: usize = 256;
 
 // The run that a token begins.
 #[tactic(auto, using(crate::proofs::TextLemmas::run_begins, crate::proofs::TextLemmas::further_run))]
@@ -201,7 +201,7 @@ fn run_by<'a>(
     ensures numbered { IfOk result (λ front. front.at + length front.behind.now ≡ at + length tokens.now) }
     ensures shorter { IfOk result (λ front. length front.behind.now ≤ length tokens.now) }
 {
-    let mut out = Grown::with_capacity(alloc, ROOM_OF_RUN)?;
+    let mut out = Grown::with_capacity(alloc, ROOM_OF_RUN.min(tokens.len()))?;
     out.push(first)?;
     let behind = add_line(&mut out, name, at, tokens)?;
     run_in_front(alloc, name, behind.at, out, behind.tokens)

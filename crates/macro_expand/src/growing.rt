@@ -1,5 +1,5 @@
 // A list to whose end more comes.
-ghost use Rattle.std.specs.Prelude.{◌≡◌, [], ◌∷◌, ◌++◌, length, OnOk};
+ghost use Rattle.std.specs.Prelude.{◌≡◌, [], ◌∷◌, ◌++◌, length, IfOk, OnOk};
 
 use shared_list::Listing;
 use std::alloc::{AllocError, Global};
@@ -25,6 +25,14 @@ impl<T: Drop> Growing<T> {
         Growing {
             items: Vec::new(alloc),
         }
+    }
+
+    /// With room for so many elements.
+    pub(crate) fn with_capacity(alloc: Global, capacity: usize) -> Result<Growing<T>, AllocError>
+        ensures { IfOk result (λ l. l ≡ []) }
+    {
+        let items = Vec::with_capacity(alloc, capacity)?;
+        Ok(Growing { items })
     }
 
     pub(crate) fn len(&self) -> usize

@@ -1,5 +1,5 @@
 // The output tokens of an expansion, of which no more than so many are kept.
-ghost use Rattle.std.specs.Prelude.{◌≡◌, OnOk};
+ghost use Rattle.std.specs.Prelude.{◌≡◌, IfOk, OnOk};
 ghost use Rattle.macro_expand.specs.Ties.Keeping as spec;
 
 use crate::growing::Growing;
@@ -23,13 +23,15 @@ pub(crate) struct Held {
 }
 
 impl Kept {
-    pub(crate) fn nothing(alloc: Global) -> Kept
-        ensures { result ≡ spec.nothing_kept }
+    // No token, with a place for so many.
+    pub(crate) fn nothing(alloc: Global, capacity: usize) -> Result<Kept, AllocError>
+        ensures { IfOk result (λ kept. kept ≡ spec.nothing_kept) }
     {
-        Kept {
-            tokens: Growing::new(alloc),
+        let tokens = Growing::with_capacity(alloc, capacity)?;
+        Ok(Kept {
+            tokens,
             left_out: None,
-        }
+        })
     }
 
     // A token behind those that are kept.

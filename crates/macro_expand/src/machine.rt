@@ -460,6 +460,8 @@ pub(crate) fn expansion<'a>(
         (spec.expansion (map.get table.now) lines.now progress (reals f (list_map plain tokens.now)))) }
     ensures fewer { IfOk result (λ h. h.progress.left ≤ progress.left) }
 {
+    // (most tokens are no macros)
+    let mut kept = Kept::nothing(alloc, tokens.len().min(room))?;
     let rest = Rest::from_slice(alloc, tokens)?;
     let level = Walked {
         progress,
@@ -470,7 +472,6 @@ pub(crate) fn expansion<'a>(
         level,
         frames: VecDeque::new(alloc),
     };
-    let mut kept = Kept::nothing(alloc);
     'names: loop {
         let delivered = deliver(alloc, sets, table, room, machine, &mut kept)?;
         if delivered.level.rest.is_empty() && delivered.frames.is_empty() {
