@@ -1,7 +1,8 @@
 // The items of a unit, as their parts are read.
 use crate::words::{how_named, info_of, int, item_of, linkage_named, plain, tag_of, type_named};
 use scope_tables::{
-    Anchor, Binding, BodyMeaning, Entity, EntityKind, HeadMeaning, How, Life, Linkage, Stated,
+    Anchor, Binding, BodyMeaning, Entities, Entity, EntityKind, HeadMeaning, How, Life, Linkage,
+    Stated,
 };
 use shared_list::Listing;
 use shared_text::Name;
@@ -167,7 +168,7 @@ impl Items {
             item: item_of(alloc, self.count)?,
             declared: Listing::from_vec(parts.declared),
             params: none(alloc),
-            entities: Listing::from_vec(parts.entities),
+            entities: Entities::from_vec(alloc, parts.entities)?,
             occs: none(alloc),
             faults: none(alloc),
             defines: none(alloc),
@@ -178,7 +179,7 @@ impl Items {
         };
         let body = BodyMeaning {
             item: item_of(alloc, self.count)?,
-            entities: Listing::from_vec(parts.declared_in_body),
+            entities: Entities::from_vec(alloc, parts.declared_in_body)?,
             occs: none(alloc),
             faults: none(alloc),
             used: Listing::from_vec(parts.used_in_body),

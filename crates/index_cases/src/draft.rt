@@ -2,7 +2,10 @@
 use crate::notation::{add_tags, plain, tag, tag_info, type_named};
 use crate::tags::{DraftTag, add_member, export_told, settle_tags, tag_told};
 use crate::words::{anchor_named, path_named, role_named, symbol_named, token_named};
-use scope_tables::{Entity, EntityKind, Export, Exports, Life, Linkage, Occ, Symbol, UnitMeaning};
+use scope_tables::{
+    Entities, Entity, EntityKind, Export, Exports, Life, Linkage, Occ, Symbol, UnitEntity,
+    UnitMeaning,
+};
 use shared_list::Listing;
 use shared_text::Name;
 use std::alloc::{AllocError, Global};
@@ -16,7 +19,7 @@ use uri_paths::Path;
 pub struct Draft {
     reads: Vec<Path>,
     occs: Vec<Occ>,
-    entities: Vec<Entity>,
+    entities: Vec<UnitEntity>,
     symbols: Vec<Symbol>,
     tags: Vec<DraftTag>,
     exports: Vec<Export>,
@@ -132,6 +135,11 @@ impl Draft {
         let name = words.next().unwrap_or("");
         let told = words.next().unwrap_or("i");
         let entity = entity_named(alloc, word, anchor, name, told)?;
+        let anchor = entity.anchor.share()?;
+        let mut declared = Vec::new(alloc);
+        declared.push(entity)?;
+        let declared = Entities::from_vec(alloc, declared)?;
+        let entity = declared.anchored(0, anchor)?;
         self.entities.push(entity)?;
         Ok(())
     }

@@ -1,8 +1,8 @@
 // The head or body that is read.
 use crate::words::{how_named, number, plain, role_named, share_item, symbol_named, type_named};
 use scope_tables::{
-    Anchor, BodyMeaning, Entity, EntityKind, HeadMeaning, HeadSymbol, Life, Linkage, Occ, Stated,
-    item_file,
+    Anchor, BodyMeaning, Entities, Entity, EntityKind, HeadMeaning, HeadSymbol, Life, Linkage, Occ,
+    Stated, item_file,
 };
 use shared_list::Listing;
 use shared_text::Name;
@@ -247,12 +247,12 @@ impl Part {
         }
     }
 
-    pub fn into_head(self, alloc: Global) -> HeadMeaning {
-        HeadMeaning {
+    pub fn into_head(self, alloc: Global) -> Result<HeadMeaning, AllocError> {
+        Ok(HeadMeaning {
             item: self.item,
             declared: none(alloc),
             params: none(alloc),
-            entities: Listing::from_vec(self.entities),
+            entities: Entities::from_vec(alloc, self.entities)?,
             occs: Listing::from_vec(self.occs),
             faults: Listing::from_vec(self.faults),
             defines: none(alloc),
@@ -260,16 +260,16 @@ impl Part {
             stated: Listing::from_vec(self.stated),
             symbols: Listing::from_vec(self.symbols),
             inline: self.inline,
-        }
+        })
     }
 
-    pub fn into_body(self, alloc: Global) -> BodyMeaning {
-        BodyMeaning {
+    pub fn into_body(self, alloc: Global) -> Result<BodyMeaning, AllocError> {
+        Ok(BodyMeaning {
             item: self.item,
-            entities: Listing::from_vec(self.entities),
+            entities: Entities::from_vec(alloc, self.entities)?,
             occs: Listing::from_vec(self.occs),
             faults: Listing::from_vec(self.faults),
             used: none(alloc),
-        }
+        })
     }
 }

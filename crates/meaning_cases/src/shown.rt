@@ -1,6 +1,6 @@
 // A meaning as it is printed, a list a line.
 use scope_tables::{
-    Anchor, Entity, EntityKind, Export, Occ, Role, Symbol, SymbolKind, UnitMeaning,
+    Anchor, EntityKind, Export, Occ, Role, Symbol, SymbolKind, UnitEntity, UnitMeaning,
 };
 use std::alloc::{AllocError, Global};
 use tok_data::{ShownFault, TokId};
@@ -94,16 +94,17 @@ fn completeness(kind: &EntityKind) -> &'static str {
 fn push_entity(
     alloc: Global,
     out: &mut String,
-    entity: &Entity,
+    entity: &UnitEntity,
     tags: &Tags,
 ) -> Result<(), AllocError> {
+    let declared = entity.declared();
     out.push_str("entity ")?;
-    out.push_str(entity.name.as_str())?;
+    out.push_str(declared.name.as_str())?;
     out.push_str(" ")?;
-    push_anchor(alloc, out, &entity.anchor)?;
+    push_anchor(alloc, out, entity.anchor())?;
     out.push_str(" ")?;
-    push_type(alloc, out, &entity.ty, tags)?;
-    out.push_str(completeness(&entity.kind))?;
+    push_type(alloc, out, &declared.ty, tags)?;
+    out.push_str(completeness(&declared.kind))?;
     out.push_str("\n")
 }
 

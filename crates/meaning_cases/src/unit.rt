@@ -63,10 +63,10 @@ impl Unit {
             return Ok(());
         };
         if part.is_body {
-            self.bodies.push(part.into_body(alloc))?;
+            self.bodies.push(part.into_body(alloc)?)?;
             return Ok(());
         }
-        self.heads.push(part.into_head(alloc))?;
+        self.heads.push(part.into_head(alloc)?)?;
         Ok(())
     }
 

@@ -11,7 +11,7 @@ use crate::firsts::{
 };
 use crate::names::{defined, once};
 use crate::order::by_place;
-use scope_tables::{Binding, BodyMeaning, Entity, HeadMeaning, HeadSymbol, Occ, Stated};
+use scope_tables::{Binding, BodyMeaning, Entities, Entity, HeadMeaning, HeadSymbol, Occ, Stated};
 use shared_list::Listing;
 use shared_text::Name;
 use std::alloc::{AllocError, Global};
@@ -80,13 +80,13 @@ fn entities_in_order(
     alloc: Global,
     firsts: &Firsts,
     entities: Listing<Entity>,
-) -> Result<Listing<Entity>, AllocError>
+) -> Result<Entities, AllocError>
     ensures { IfOk result (λ l. l ≡ spec.entities_in_order firsts.now entities) }
 {
     let last = last_entities(alloc, entities.into_vec())?;
     let placed = placed_entities(alloc, firsts, last)?;
     let entities = by_place(alloc, placed)?;
-    Ok(Listing::from_vec(entities))
+    Entities::from_vec(alloc, entities)
 }
 
 #[tactic(auto, unfolding(crate::specs::Found::bindings_in_order))]
@@ -126,7 +126,7 @@ fn empty_head(alloc: Global, item: ItemName) -> HeadMeaning
         item,
         declared: none(alloc),
         params: none(alloc),
-        entities: none(alloc),
+        entities: Entities::none(),
         occs: none(alloc),
         faults: none(alloc),
         defines: none(alloc),
@@ -202,7 +202,7 @@ fn empty_body(alloc: Global, item: ItemName) -> BodyMeaning
 {
     BodyMeaning {
         item,
-        entities: none(alloc),
+        entities: Entities::none(),
         occs: none(alloc),
         faults: none(alloc),
         used: none(alloc),

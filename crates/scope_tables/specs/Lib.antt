@@ -4,4 +4,5 @@ pub mod Indexed
 pub mod Marks
 pub mod Places
 pub mod Scopes
+pub mod Shared
 pub mod Occurrences

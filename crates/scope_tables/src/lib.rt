@@ -7,6 +7,7 @@ mod files;
 mod index;
 mod meanings;
 mod scopes;
+mod shared;
 mod sharing;
 mod table;
 mod units;
@@ -16,4 +17,5 @@ pub use entities::{Anchor, Entity, EntityKind, Life, Linkage, Occ, Role, ScopeKi
 pub use files::item_file;
 pub use meanings::{BodyMeaning, HeadMeaning, HeadSymbol, How, Stated};
 pub use scopes::Scopes;
+pub use shared::{Entities, UnitEntity};
 pub use units::{Export, Exports, Symbol, SymbolKind, UnitMeaning};

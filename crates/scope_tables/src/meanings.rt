@@ -1,6 +1,7 @@
 // What the head and the body of an item mean, as far as a unit needs it (ISO C11 6.7, 6.9).
 use crate::bindings::Binding;
-use crate::entities::{Entity, Occ};
+use crate::entities::Occ;
+use crate::shared::Entities;
 use crate::units::SymbolKind;
 use shared_list::Listing;
 use shared_text::Name;
@@ -36,7 +37,7 @@ pub struct HeadSymbol {
 }
 
 /// What a head means. Each list is in the order of first tokens.
-#[derive(PartialEq, Eq, Drop)]
+#[derive(Drop)]
 pub struct HeadMeaning {
     pub item: ItemName,
     /// What it declares at file scope.
@@ -44,7 +45,7 @@ pub struct HeadMeaning {
     /// What the parameter list of a function definition declares.
     pub params: Listing<Binding>,
     /// Each entity that it declares, in every scope, as it stands at its end.
-    pub entities: Listing<Entity>,
+    pub entities: Entities,
     pub occs: Listing<Occ>,
     pub faults: Listing<Fault>,
     /// The objects and functions at file scope that it defines, tentative definitions left out.
@@ -60,11 +61,11 @@ pub struct HeadMeaning {
 }
 
 /// What a body means. Each list is in the order of first tokens.
-#[derive(PartialEq, Eq, Drop)]
+#[derive(Drop)]
 pub struct BodyMeaning {
     pub item: ItemName,
     /// Each entity that it declares, in every scope, as it stands at its end.
-    pub entities: Listing<Entity>,
+    pub entities: Entities,
     pub occs: Listing<Occ>,
     pub faults: Listing<Fault>,
     /// The names at file scope with internal linkage that it uses outside an operand of `sizeof` or `_Alignof`.

@@ -1,5 +1,6 @@
 // What a unit means, for the questions that go over all units (ISO C11 5.1.1.1, 6.2.1, 6.2.2).
-use crate::entities::{Entity, Occ};
+use crate::entities::Occ;
+use crate::shared::UnitEntity;
 use shared_list::Listing;
 use shared_text::Name;
 use tok_data::{ShownFault, TokId};
@@ -57,7 +58,7 @@ pub struct UnitMeaning {
     /// The tokens that denote an entity. Behind them stand those with the role Spelled.
     pub occs: Listing<Occ>,
     /// One for each anchor that the unit declares, as its last declaration leaves it.
-    pub entities: Listing<Entity>,
+    pub entities: Listing<UnitEntity>,
     pub symbols: Listing<Symbol>,
     pub exports: Exports,
 }

@@ -12,7 +12,7 @@ use crate::introduced::uses_among;
 use crate::sets::is_outside;
 use crate::shared::{Asked, anchors_of, tokens_of};
 use crate::unit::IndexedUnit;
-use scope_tables::{Anchor, Entity};
+use scope_tables::{Anchor, UnitEntity};
 use std::alloc::{AllocError, Global};
 use tok_data::TokId;
 
@@ -101,7 +101,7 @@ pub fn references(
 #[derive(Clone, Copy, Drop)]
 pub struct Speaker<'a> {
     pub unit: &'a IndexedUnit,
-    pub entity: &'a Entity,
+    pub entity: &'a UnitEntity,
 }
 
 fn with_unit<'a>(unit: &'a IndexedUnit, anchor: &Anchor) -> Option<Speaker<'a>>

@@ -9,7 +9,7 @@ ghost use Rattle.unit_index.specs.Speaking;
 
 use crate::codes::{anchor_code, token_code};
 use crate::places::Places;
-use scope_tables::{Anchor, Entity, Occ, Role};
+use scope_tables::{Anchor, Occ, Role, UnitEntity};
 use tok_data::TokId;
 
 /// What the key of an occurrence is.
@@ -44,10 +44,10 @@ fn is_of(anchor: &Anchor, occ: &Occ) -> bool
     counts(occ.role) && occ.anchor == *anchor
 }
 
-fn is_named(anchor: &Anchor, entity: &Entity) -> bool
+fn is_named(anchor: &Anchor, entity: &UnitEntity) -> bool
     ensures { result ≡ Speaking.is_named anchor.now entity.now }
 {
-    entity.anchor == *anchor
+    *entity.anchor() == *anchor
 }
 
 /// The occurrence at a place.
@@ -58,7 +58,7 @@ pub(crate) fn occ_at(occs: &[Occ], place: usize) -> Option<&Occ>
 }
 
 /// The entity at a place.
-pub(crate) fn entity_at(entities: &[Entity], place: usize) -> Option<&Entity>
+pub(crate) fn entity_at(entities: &[UnitEntity], place: usize) -> Option<&UnitEntity>
     ensures { option_map (λ e. e.now) result ≡ slice_get entities.now place }
 {
     entities.get(place)
@@ -140,7 +140,7 @@ pub(crate) fn next_alike(
 // The first entity with an anchor, from a place of its number on.
 fn seek_named(
     places: &Places,
-    entities: &[Entity],
+    entities: &[UnitEntity],
     anchor: &Anchor,
     from: Option<usize>,
 ) -> Option<usize>
@@ -162,7 +162,11 @@ fn seek_named(
 }
 
 /// The place of the first entity with an anchor.
-pub(crate) fn first_named(places: &Places, entities: &[Entity], anchor: &Anchor) -> Option<usize>
+pub(crate) fn first_named(
+    places: &Places,
+    entities: &[UnitEntity],
+    anchor: &Anchor,
+) -> Option<usize>
     requires { places.now ≡ map coded.by_name entities.now }
     ensures { result ≡ spec.first_from (Speaking.is_named anchor.now) 0 entities.now }
 {

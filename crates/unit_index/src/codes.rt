@@ -2,7 +2,7 @@
 ghost use Rattle.std.specs.Prelude.{◌≡◌, map, IfOk};
 ghost use Rattle.unit_index.specs.Codes as spec;
 
-use scope_tables::{Anchor, Entity, Occ};
+use scope_tables::{Anchor, Occ, UnitEntity};
 use std::alloc::{AllocError, Global};
 use std::hash::{FoldHasher, Hasher};
 use tok_data::TokId;
@@ -68,13 +68,13 @@ pub(crate) fn anchor_codes(alloc: Global, occs: &[Occ]) -> Result<Vec<u32>, Allo
 }
 
 /// Those of the anchors of entities.
-pub(crate) fn entity_codes(alloc: Global, entities: &[Entity]) -> Result<Vec<u32>, AllocError>
+pub(crate) fn entity_codes(alloc: Global, entities: &[UnitEntity]) -> Result<Vec<u32>, AllocError>
     ensures { IfOk result (λ codes. codes.items ≡ map spec.by_name entities.now) }
 {
     let mut codes = Vec::with_capacity(alloc, entities.len())?;
     let mut rest = entities;
     'entities: while let Some((entity, behind)) = rest.split_first() {
-        codes.push(anchor_code(&entity.anchor))?;
+        codes.push(anchor_code(entity.anchor()))?;
         rest = behind;
     }
     Ok(codes)

@@ -3,7 +3,7 @@ ghost use Rattle.std.specs.Prelude.{◌≡◌, ◌++◌, string_bytes, IfOk, OnO
 ghost use Rattle.type_print.specs.Names;
 ghost use Rattle.unit_index.specs.Hover as spec;
 
-use scope_tables::{Entity, EntityKind};
+use scope_tables::{Entity, EntityKind, UnitEntity};
 use std::alloc::{AllocError, Global};
 use type_data::{TagKind, Tags, Value};
 use type_print::print;
@@ -67,11 +67,8 @@ fn typedef_name(alloc: Global, entity: &Entity, tags: &Tags) -> Result<String, A
     Ok(text)
 }
 
-/// The text of a hover on an entity: of an object, function, parameter or member its declaration, of a typedef name the same behind
-/// `typedef`, of a tag its kind and name, of an enumerator its name and value, `?` where this isn't known, and of a label
-/// `label` and its name. A size that isn't told is `?`, a tag without a name `<anonymous>` (ISO C11 6.7.6, 6.7.7). It fails for want of
-/// memory alone.
-pub fn hover_text(alloc: Global, entity: &Entity, tags: &Tags) -> Result<String, AllocError>
+// The text of a hover on an entity, whatever its anchor is.
+fn text_of(alloc: Global, entity: &Entity, tags: &Tags) -> Result<String, AllocError>
     ensures { IfOk result (λ s. string_bytes s ≡ spec.hover_text tags.now entity.now) }
 {
     match &entity.kind {
@@ -83,4 +80,14 @@ pub fn hover_text(alloc: Global, entity: &Entity, tags: &Tags) -> Result<String,
         EntityKind::Enumerator => enumerator(alloc, entity),
         EntityKind::Label => behind(alloc, "label ", entity.name.as_str()),
     }
+}
+
+/// The text of a hover on an entity: of an object, function, parameter or member its declaration, of a typedef name the same behind
+/// `typedef`, of a tag its kind and name, of an enumerator its name and value, `?` where this isn't known, and of a label
+/// `label` and its name. A size that isn't told is `?`, a tag without a name `<anonymous>` (ISO C11 6.7.6, 6.7.7). It fails for want of
+/// memory alone.
+pub fn hover_text(alloc: Global, entity: &UnitEntity, tags: &Tags) -> Result<String, AllocError>
+    ensures { IfOk result (λ s. string_bytes s ≡ spec.hover_text tags.now entity.now) }
+{
+    text_of(alloc, entity.declared(), tags)
 }

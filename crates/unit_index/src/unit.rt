@@ -9,7 +9,7 @@ ghost use Rattle.unit_index.specs.Speaking.{is_named};
 
 use crate::indexed::Indexed;
 use crate::walks::Walk;
-use scope_tables::{Anchor, Entity, Occ, UnitMeaning};
+use scope_tables::{Anchor, Occ, UnitEntity, UnitMeaning};
 use shared_list::Listing;
 use std::alloc::{AllocError, Global};
 use std::marker::Model;
@@ -102,7 +102,7 @@ impl IndexedUnit {
     }
 
     /// The entity with this anchor.
-    pub(crate) fn entity(&self, anchor: &Anchor) -> Option<&Entity>
+    pub(crate) fn entity(&self, anchor: &Anchor) -> Option<&UnitEntity>
         ensures { option_map (λ e. e.now) result ≡ find (is_named anchor.now) self.now.meaning.entities }
     {
         self.inside.entity(anchor)

@@ -6,7 +6,7 @@ ghost use Rattle.unit_meaning.specs.Entities as spec;
 use crate::order::{part_bodies, part_heads};
 use crate::room;
 use indexmap::IndexMap;
-use scope_tables::{Anchor, BodyMeaning, Entity, HeadMeaning};
+use scope_tables::{Anchor, BodyMeaning, Entities, HeadMeaning, UnitEntity};
 use std::alloc::{AllocError, Global};
 use std::marker::Model;
 use unit_items::{Item, Sources};
@@ -14,7 +14,7 @@ use unit_items::{Item, Sources};
 // Entities by their anchors, in the order of the first one of each. Contracts see the list.
 #[derive(Drop)]
 struct ByAnchor {
-    map: IndexMap<Anchor, Entity>,
+    map: IndexMap<Anchor, UnitEntity>,
 }
 
 impl Model for ByAnchor {
@@ -39,10 +39,10 @@ impl ByAnchor {
         Ok(ByAnchor { map })
     }
 
-    fn put(&mut self, entity: Entity) -> Result<(), AllocError>
+    fn put(&mut self, entity: UnitEntity) -> Result<(), AllocError>
         ensures { OnOk result (self.new ≡ spec.put self.old entity) }
     {
-        let Ok(anchor) = entity.anchor.share() else {
+        let Ok(anchor) = entity.anchor().share() else {
             drop(entity);
             return Err(AllocError);
         };
@@ -50,7 +50,7 @@ impl ByAnchor {
         Ok(())
     }
 
-    fn into_entities(self, alloc: Global) -> Result<Vec<Entity>, AllocError>
+    fn into_entities(self, alloc: Global) -> Result<Vec<UnitEntity>, AllocError>
         ensures { IfOk result (λ out. out.items ≡ values_of self) }
     {
         let mut out = Vec::with_capacity(alloc, self.map.len())?;
@@ -61,34 +61,21 @@ impl ByAnchor {
     }
 }
 
-fn entity(alloc: Global, sources: &Sources<'_>, entity: &Entity) -> Result<Entity, AllocError>
-    ensures { IfOk result (λ r. r ≡ spec.entity sources.now entity.now) }
-{
-    let anchor = sources.anchor(&entity.anchor)?;
-    let mut copy = entity.share(alloc)?;
-    copy.anchor = anchor;
-    Ok(copy)
-}
-
-fn put_all(
-    alloc: Global,
-    all: &mut ByAnchor,
-    sources: &Sources<'_>,
-    entities: &[Entity],
-) -> Result<(), AllocError>
+fn put_all(all: &mut ByAnchor, sources: &Sources<'_>, entities: &Entities) -> Result<(), AllocError>
     ensures { OnOk result (all.new ≡ spec.put_all sources.now all.old entities.now) }
 {
-    let mut rest = entities;
+    let count = entities.as_slice().len();
+    let mut rest = entities.as_slice();
     'entities: while let Some((one, behind)) = rest.split_first() {
+        let anchor = sources.anchor(&one.anchor)?;
+        let one = entities.anchored(count - rest.len(), anchor)?;
         rest = behind;
-        let one = entity(alloc, sources, one)?;
         all.put(one)?;
     }
     Ok(())
 }
 
 fn with_heads(
-    alloc: Global,
     all: &mut ByAnchor,
     sources: &Sources<'_>,
     heads: &[HeadMeaning],
@@ -98,13 +85,12 @@ fn with_heads(
     let mut rest = heads;
     'heads: while let Some((head, behind)) = rest.split_first() {
         rest = behind;
-        put_all(alloc, all, sources, head.entities.as_slice())?;
+        put_all(all, sources, &head.entities)?;
     }
     Ok(())
 }
 
 fn with_bodies(
-    alloc: Global,
     all: &mut ByAnchor,
     sources: &Sources<'_>,
     bodies: &[BodyMeaning],
@@ -114,7 +100,7 @@ fn with_bodies(
     let mut rest = bodies;
     'bodies: while let Some((body, behind)) = rest.split_first() {
         rest = behind;
-        put_all(alloc, all, sources, body.entities.as_slice())?;
+        put_all(all, sources, &body.entities)?;
     }
     Ok(())
 }
@@ -136,10 +122,10 @@ fn with_items(
         rest = behind;
         let (own_heads, behind_heads) = part_heads(later_heads, &item.name);
         later_heads = behind_heads;
-        with_heads(alloc, &mut all, sources, own_heads)?;
+        with_heads(&mut all, sources, own_heads)?;
         let (own_bodies, behind_bodies) = part_bodies(later_bodies, &item.name);
         later_bodies = behind_bodies;
-        with_bodies(alloc, &mut all, sources, own_bodies)?;
+        with_bodies(&mut all, sources, own_bodies)?;
     }
     Ok(all)
 }
@@ -151,7 +137,7 @@ pub(crate) fn entities(
     items: &[Item],
     heads: &[HeadMeaning],
     bodies: &[BodyMeaning],
-) -> Result<Vec<Entity>, AllocError>
+) -> Result<Vec<UnitEntity>, AllocError>
     ensures { IfOk result (λ out. out.items ≡ values_of (spec.with_items sources.now [] items.now heads.now bodies.now)) }
 {
     let all = with_items(alloc, sources, items, heads, bodies)?;

@@ -6,7 +6,7 @@ ghost use Rattle.unit_meaning.specs.Sites.{fallen as falls};
 use crate::firsts::external_of;
 use crate::kept::Kept;
 use crate::sites::fallen;
-use scope_tables::{Entity, Export};
+use scope_tables::{Export, UnitEntity};
 use shared_text::Name;
 use std::alloc::{AllocError, Global};
 use tok_data::{FileId, TokId};
@@ -113,12 +113,12 @@ fn exported(
     sources: &Sources<'_>,
     reached: &[(FileId, TokId)],
     kept: &Kept<'_>,
-    entity: &Entity,
+    entity: &UnitEntity,
 ) -> Result<Option<Export>, AllocError>
     ensures { IfOk result (λ r. r ≡ spec.exported sources.now reached.now kept.now.occs kept.now.heads entity.now) }
 {
-    match external_of(&entity.anchor) {
-        Some(name) => by_name(alloc, sources, reached, kept, name, &entity.ty),
+    match external_of(entity.anchor()) {
+        Some(name) => by_name(alloc, sources, reached, kept, name, &entity.declared().ty),
         None => Ok(None),
     }
 }
@@ -129,7 +129,7 @@ pub(crate) fn names(
     sources: &Sources<'_>,
     reached: &[(FileId, TokId)],
     kept: &Kept<'_>,
-    entities: &[Entity],
+    entities: &[UnitEntity],
 ) -> Result<Vec<Export>, AllocError>
     ensures { IfOk result (λ out. out.items ≡ spec.names sources.now reached.now kept.now.occs kept.now.heads entities.now) }
 {

@@ -16,7 +16,7 @@ use crate::occurrences::{in_items, of_unit};
 use crate::sites::all_reached;
 use crate::symbols::symbols;
 use crate::tags::tags;
-use scope_tables::{BodyMeaning, Entity, Export, Exports, HeadMeaning, Occ, UnitMeaning};
+use scope_tables::{BodyMeaning, Export, Exports, HeadMeaning, Occ, UnitEntity, UnitMeaning};
 use shared_list::Listing;
 use std::alloc::{AllocError, Global};
 use tok_data::{FileId, OutToken, ShownFault, TokId};
@@ -52,7 +52,7 @@ fn exported(
     alloc: Global,
     unit: &Elaborated<'_>,
     occs: &[&Occ],
-    entities: &[Entity],
+    entities: &[UnitEntity],
 ) -> Result<Vec<Export>, AllocError>
     ensures { IfOk result (λ r. r.items ≡ shown.names (elaborated_of unit.now).unit (elaborated_of unit.now).reached (map (λ o. o.now) occs.now) (elaborated_of unit.now).heads entities.now) }
 {
@@ -67,7 +67,7 @@ fn declarations(
     alloc: Global,
     unit: &Elaborated<'_>,
     occs: &[&Occ],
-) -> Result<(Vec<Entity>, Vec<Export>), AllocError>
+) -> Result<(Vec<UnitEntity>, Vec<Export>), AllocError>
     requires { map (λ o. o.now) occs.now ≡ denoted.in_items (elaborated_of unit.now).unit.items (elaborated_of unit.now).heads (elaborated_of unit.now).bodies }
     ensures entities { IfOk result (λ r. r.0.items ≡ declared (elaborated_of unit.now).unit (elaborated_of unit.now).heads (elaborated_of unit.now).bodies) }
     ensures names { IfOk result (λ r. r.1.items ≡ (spec.exports (elaborated_of unit.now)).names) }
@@ -88,7 +88,7 @@ fn declarations(
 fn denotations(
     alloc: Global,
     unit: &Elaborated<'_>,
-) -> Result<(Vec<Occ>, Vec<Entity>, Vec<Export>), AllocError>
+) -> Result<(Vec<Occ>, Vec<UnitEntity>, Vec<Export>), AllocError>
     ensures occs { IfOk result (λ r. r.0.items ≡ denoted.of_unit (elaborated_of unit.now).unit (denoted.in_items (elaborated_of unit.now).unit.items (elaborated_of unit.now).heads (elaborated_of unit.now).bodies)) }
     ensures entities { IfOk result (λ r. r.1.items ≡ declared (elaborated_of unit.now).unit (elaborated_of unit.now).heads (elaborated_of unit.now).bodies) }
     ensures names { IfOk result (λ r. r.2.items ≡ (spec.exports (elaborated_of unit.now)).names) }

@@ -14,7 +14,7 @@ use crate::codes::{anchor_codes, entity_codes, token_codes};
 use crate::files::files_of;
 use crate::places::Places;
 use crate::walks::Walk;
-use scope_tables::{Anchor, Entity, Occ, UnitMeaning};
+use scope_tables::{Anchor, Occ, UnitEntity, UnitMeaning};
 use shared_list::Listing;
 use std::alloc::{AllocError, Global};
 use tok_data::{FileId, TokId};
@@ -36,7 +36,7 @@ fn anchor_places(alloc: Global, occs: &[Occ]) -> Result<Places, AllocError>
     Ok(places)
 }
 
-fn entity_places(alloc: Global, entities: &[Entity]) -> Result<Places, AllocError>
+fn entity_places(alloc: Global, entities: &[UnitEntity]) -> Result<Places, AllocError>
     ensures { IfOk result (λ p. p ≡ map coded.by_name entities.now) }
 {
     let codes = entity_codes(alloc, entities)?;
@@ -148,7 +148,7 @@ impl Indexed {
     }
 
     /// The entity with this anchor.
-    pub(crate) fn entity(&self, anchor: &Anchor) -> Option<&Entity>
+    pub(crate) fn entity(&self, anchor: &Anchor) -> Option<&UnitEntity>
         ensures { option_map (λ e. e.now) result ≡ find (is_named anchor.now) self.now.meaning.entities }
     {
         let entities = self.meaning.entities.as_slice();
