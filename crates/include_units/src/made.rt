@@ -144,6 +144,9 @@ fn first_reads(alloc: Global, path: &Path) -> Result<KnownPaths, AllocError>
     Ok(list)
 }
 
+// The tokens of a unit of some headers grow into no second place.
+const ROOM_OF_UNIT: usize = 16_384;
+
 impl Made {
     // What stands before the first text.
     pub(crate) fn at_first(alloc: Global, path: &Path) -> Result<Made, AllocError>
@@ -151,9 +154,10 @@ impl Made {
     {
         let entered = first_entered(alloc, path)?;
         let reads = first_reads(alloc, path)?;
+        let tokens = Grown::with_capacity(alloc, ROOM_OF_UNIT)?;
         Ok(Made {
             table: MacroTable::new(alloc),
-            tokens: Grown::new(alloc),
+            tokens,
             faults: Faults::new(alloc),
             reads,
             spelled: Grown::new(alloc),

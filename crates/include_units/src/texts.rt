@@ -184,7 +184,7 @@ fn directive_in_front<'a>(
 }
 
 // A run of some lines grows into no second place.
-const ROOM_OF_RUN: usize = 256;
+const ROOM_OF_RUN: usize = 2_048;
 
 // The run that a token begins.
 #[tactic(auto, using(crate::proofs::TextLemmas::run_begins, crate::proofs::TextLemmas::further_run))]
