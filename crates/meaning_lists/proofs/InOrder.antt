@@ -55,3 +55,11 @@ module _ {A : Type 0} where
 
   pub in_order : (ps : List (ℕ × A)) → ascends_from 0 ps ≡ true → map (λ p. p.1) ps ≡ by_place ps
   in_order ps h = ap (map (λ p. p.1)) (sym (unchanged 0 [] ps tt h))
+
+module _ {A : Type 0} (place : A → ℕ × A) (back : (x : A) → (place x).1 ≡ x) where
+  unplaced : (xs : List A) → xs ≡ map (λ p. p.1) (map place xs)
+  unplaced [] = refl
+  unplaced (x ∷ xs) = ap (λ ys. x ∷ ys) (unplaced xs) ∙ ap (λ y. y ∷ map (λ p. p.1) (map place xs)) (sym (back x))
+
+  pub stays : (xs : List A) → ascends_from 0 (map place xs) ≡ true → xs ≡ by_place (map place xs)
+  stays xs h = unplaced xs ∙ in_order (map place xs) h

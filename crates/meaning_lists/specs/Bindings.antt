@@ -1,5 +1,6 @@
 -- What the names of a scope denote at its end (ISO C11 6.2.1): a binding takes the place of an earlier one of its name.
-use Rattle.std.specs.Prelude.{Bool, List, [], ◌∷◌, map}
+use Rattle.std.specs.Prelude.{Bool, true, not, ◌&&◌, List, [], ◌∷◌, map}
+use Rattle.std.specs.List.{list_any}
 use Rattle.indexmap.specs.IndexMap.{insert_entry}
 use Rattle.scope_tables.specs.declared.bindings.Binding.{Binding}
 use Rattle.scope_tables.specs.declared.entities.Entity.{Entity}
@@ -28,3 +29,8 @@ binding_of p = record { space = p.0.space; name = p.0.name; entity = p.1 }
 
 abbrev pub last_bindings : List Binding → List Binding
 last_bindings bs = map binding_of (with_all none_ended bs)
+
+-- no name comes twice
+abbrev pub are_apart : List Binding → Bool
+are_apart [] = true
+are_apart (b ∷ bs) = not (list_any (λ o. same_key (key_of o) (key_of b)) bs) && are_apart bs

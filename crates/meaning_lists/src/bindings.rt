@@ -1,7 +1,9 @@
 // What names denote at the end of a scope (ISO C11 6.2.1).
 ghost use Rattle.std.specs.Prelude.{◌≡◌, OnOk, IfOk};
+ghost use Rattle.std.specs.List.{list_any};
 ghost use Rattle.meaning_lists.specs.Bindings as spec;
 
+use crate::order::FEW;
 use indexmap::IndexMap;
 use scope_tables::{Binding, Entity};
 use shared_text::Name;
@@ -78,13 +80,42 @@ fn binding_of(pair: (Key, Entity)) -> Binding
     }
 }
 
-// The last binding of each name, in the order of the first ones.
+fn have_same_key(a: &Binding, b: &Binding) -> bool
+    ensures { result ≡ spec.same_key (spec.key_of a.now) (spec.key_of b.now) }
+{
+    a.space == b.space && a.name == b.name
+}
+
+fn has_key(bindings: &[Binding], one: &Binding) -> bool
+    ensures { result ≡ list_any (λ b. spec.same_key (spec.key_of b) (spec.key_of one.now)) bindings.now }
+{
+    bindings.iter().any(|binding| have_same_key(binding, one))
+}
+
+// No name comes twice.
+fn are_apart(bindings: &[Binding]) -> bool
+    ensures { result ≡ spec.are_apart bindings.now }
+{
+    let mut rest = bindings;
+    'bindings: while let Some((binding, others)) = rest.split_first() {
+        if has_key(others, binding) {
+            return false;
+        }
+        rest = others;
+    }
+    true
+}
+
+// The last binding of each name, in the order of the first ones. (Most lists are short and have no name twice.)
 pub(crate) fn last_bindings(
     alloc: Global,
     bindings: Vec<Binding>,
 ) -> Result<Vec<Binding>, AllocError>
     ensures { IfOk result (λ v. v.items ≡ spec.last_bindings bindings.items) }
 {
+    if bindings.len() <= FEW && are_apart(bindings.as_slice()) {
+        return Ok(bindings);
+    }
     let ends = ended(alloc, bindings)?;
     let mut out = Vec::with_capacity(alloc, ends.map.len())?;
     'ends: for pair in ends.map {

@@ -1,7 +1,10 @@
 // Entities as they stand at the end.
 ghost use Rattle.std.specs.Prelude.{◌≡◌, IfOk, OnOk};
+ghost use Rattle.std.specs.List.{list_any};
+ghost use Rattle.scope_tables.specs.Occurrences.{same_anchor};
 ghost use Rattle.meaning_lists.specs.Entities as spec;
 
+use crate::order::FEW;
 use indexmap::IndexMap;
 use scope_tables::{Anchor, Entity};
 use std::alloc::{AllocError, Global};
@@ -63,10 +66,33 @@ fn ends_of(alloc: Global, entities: Vec<Entity>) -> Result<Lasts, AllocError>
     Ok(lasts)
 }
 
-// The last entity of each anchor, in the order of the first ones.
+fn has_anchor(entities: &[Entity], anchor: &Anchor) -> bool
+    ensures { result ≡ list_any (λ e. same_anchor e.anchor anchor.now) entities.now }
+{
+    entities.iter().any(|entity| entity.anchor == *anchor)
+}
+
+// No anchor comes twice.
+fn are_apart(entities: &[Entity]) -> bool
+    ensures { result ≡ spec.are_apart entities.now }
+{
+    let mut rest = entities;
+    'entities: while let Some((entity, others)) = rest.split_first() {
+        if has_anchor(others, &entity.anchor) {
+            return false;
+        }
+        rest = others;
+    }
+    true
+}
+
+// The last entity of each anchor, in the order of the first ones. (Most lists are short and have no anchor twice.)
 pub(crate) fn last_entities(alloc: Global, entities: Vec<Entity>) -> Result<Vec<Entity>, AllocError>
     ensures { IfOk result (λ v. v.items ≡ spec.last_entities entities.items) }
 {
+    if entities.len() <= FEW && are_apart(entities.as_slice()) {
+        return Ok(entities);
+    }
     let lasts = ends_of(alloc, entities)?;
     let mut out = Vec::with_capacity(alloc, lasts.map.len())?;
     'lasts: for entity in lasts.map.into_values() {

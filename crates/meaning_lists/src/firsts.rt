@@ -1,6 +1,7 @@
 // Where things stand: by the first tokens that denote them.
 ghost use Rattle.std.specs.Prelude.{◌≡◌, map, IfOk, OnOk};
 ghost use Rattle.meaning_lists.specs.Firsts as spec;
+ghost use Rattle.meaning_lists.specs.Order.{ascends_from};
 
 use indexmap::IndexMap;
 use scope_tables::{Anchor, Binding, Entity, HeadSymbol, Occ};
@@ -75,6 +76,54 @@ pub(crate) fn first_places(alloc: Global, occs: &[Occ]) -> Result<Firsts, AllocE
         rest = others;
     }
     Ok(firsts)
+}
+
+// Whether none stands in front of the one before it.
+pub(crate) fn occs_ascend(occs: &[Occ]) -> bool
+    ensures { result ≡ ascends_from 0 (map spec.placed_occ occs.now) }
+{
+    let mut last = 0u32;
+    let mut rest = occs;
+    'occs: while let Some((occ, others)) = rest.split_first() {
+        if occ.tok.at < last {
+            return false;
+        }
+        last = occ.tok.at;
+        rest = others;
+    }
+    true
+}
+
+pub(crate) fn entities_ascend(firsts: &Firsts, entities: &[Entity]) -> bool
+    ensures { result ≡ ascends_from 0 (map (spec.placed_entity firsts.now) entities.now) }
+{
+    let mut last = 0u32;
+    let mut rest = entities;
+    'entities: while let Some((entity, others)) = rest.split_first() {
+        let at = firsts.of(&entity.anchor);
+        if at < last {
+            return false;
+        }
+        last = at;
+        rest = others;
+    }
+    true
+}
+
+pub(crate) fn bindings_ascend(firsts: &Firsts, bindings: &[Binding]) -> bool
+    ensures { result ≡ ascends_from 0 (map (spec.placed_binding firsts.now) bindings.now) }
+{
+    let mut last = 0u32;
+    let mut rest = bindings;
+    'bindings: while let Some((binding, others)) = rest.split_first() {
+        let at = firsts.of(&binding.entity.anchor);
+        if at < last {
+            return false;
+        }
+        last = at;
+        rest = others;
+    }
+    true
 }
 
 pub(crate) fn placed_occs(alloc: Global, occs: Vec<Occ>) -> Result<Vec<(u32, Occ)>, AllocError>

@@ -6,8 +6,8 @@ ghost use Rattle.meaning_lists.specs.Found as spec;
 use crate::bindings::last_bindings;
 use crate::entities::last_entities;
 use crate::firsts::{
-    Firsts, first_places, placed_bindings, placed_entities, placed_faults, placed_occs,
-    placed_symbols,
+    Firsts, bindings_ascend, entities_ascend, first_places, occs_ascend, placed_bindings,
+    placed_entities, placed_faults, placed_occs, placed_symbols,
 };
 use crate::names::{defined, once};
 use crate::order::by_place;
@@ -49,6 +49,9 @@ fn none<T>(alloc: Global) -> Listing<T>
 fn occs_in_order(alloc: Global, occs: Listing<Occ>) -> Result<Listing<Occ>, AllocError>
     ensures { IfOk result (λ l. l ≡ spec.occs_in_order occs) }
 {
+    if occs_ascend(occs.as_slice()) {
+        return Ok(occs);
+    }
     let placed = placed_occs(alloc, occs.into_vec())?;
     let occs = by_place(alloc, placed)?;
     Ok(Listing::from_vec(occs))
@@ -84,6 +87,9 @@ fn entities_in_order(
     ensures { IfOk result (λ l. l ≡ spec.entities_in_order firsts.now entities) }
 {
     let last = last_entities(alloc, entities.into_vec())?;
+    if entities_ascend(firsts, last.as_slice()) {
+        return Entities::from_vec(alloc, last);
+    }
     let placed = placed_entities(alloc, firsts, last)?;
     let entities = by_place(alloc, placed)?;
     Entities::from_vec(alloc, entities)
@@ -98,6 +104,9 @@ fn bindings_in_order(
     ensures { IfOk result (λ l. l ≡ spec.bindings_in_order firsts.now bindings) }
 {
     let last = last_bindings(alloc, bindings.into_vec())?;
+    if bindings_ascend(firsts, last.as_slice()) {
+        return Ok(Listing::from_vec(last));
+    }
     let placed = placed_bindings(alloc, firsts, last)?;
     let bindings = by_place(alloc, placed)?;
     Ok(Listing::from_vec(bindings))

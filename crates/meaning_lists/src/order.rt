@@ -6,6 +6,9 @@ ghost use Rattle.meaning_lists.specs.Order.{ascends_from};
 use std::alloc::{AllocError, Global};
 use std::collections::BTreeMap;
 
+// So many are compared with one another sooner than they are put into a map.
+pub(crate) const FEW: usize = 8;
+
 // Whether no number is below the one in front of it.
 fn ascends<T>(items: &[(u32, T)]) -> bool
     ensures { result ≡ ascends_from 0 items.now }
