@@ -19,6 +19,7 @@ use Rattle.macro_expand.specs.Ties.Stands.{Stands}
 use Rattle.macro_expand.specs.Ties.Numbers.{real, reals}
 use Rattle.macro_expand.specs.Substitution.{Expander}
 use Rattle.macro_expand.specs.Tokens.{plain}
+use Rattle.macro_expand.specs.Ties.Rests.{laid}
 use Rattle.macro_expand.specs.Expansion as spec
 use Rattle.macro_expand.specs.Ties.Machine as work
 use Rattle.macro_expand.specs.Ties.Steps as steps
@@ -159,6 +160,36 @@ skimmed f table lines room p k k' rest rest' stopped first going left kept =
     ∙ ap (λ (j : Kept). held room j o) one
     ∙ ap (held room k) (whole_ordinary table lines p [] (real f t ∷ []) (real f t) (reals f (drop 1 rest))
     (reals f rest) (spec.expansion table lines p (reals f rest)) means (ap (reals f) begins) refl refl)
+
+plains_laid : (f : Names → Names) → f [] ≡ [] → (front : List Marked) (behind : List OutToken) → front ≡ []
+    → reals f (laid front behind) ≡ map plain behind
+plains_laid f empty front behind none = ap (λ (l : List Marked). reals f (laid l behind)) none ∙ plains_real f empty behind
+
+-- a token of which none was replaced is kept
+pub plain_kept : (table : spec.Definitions) (lines : List (TokId × ℕ)) (room : ℕ) (p : Progress) (k k' : Kept)
+    (t : OutToken) (all left : List OutToken) (stopped : Bool)
+    → spec.Ordinary ≡ steps.sense table stopped (plain t) → p.stopped ≡ stopped → all ≡ t ∷ left → k' ≡ put room t k
+    → held room k' (spec.expansion table lines p (map plain left))
+    ≡ held room k (spec.expansion table lines p (map plain all))
+plain_kept table lines room p k k' t all left stopped means going begins kept =
+    let now : spec.Ordinary ≡ steps.sense table p.stopped (plain t) =
+    means ∙ ap (λ (b : Bool). steps.sense table b (plain t)) (sym going) in
+    let o : Outcome = spec.expansion table lines p (map plain left) in
+    ap (λ (j : Kept). held room j o) kept
+    ∙ ap (held room k) (whole_ordinary table lines p [] (plain t ∷ []) (plain t) (map plain left) (map plain all)
+    (spec.expansion table lines p (map plain all)) now (ap (map plain) begins) refl refl)
+
+-- the same where nothing was put in front
+pub plains_kept : (f : Names → Names) → f [] ≡ [] → (table : spec.Definitions) (lines : List (TokId × ℕ)) (room : ℕ)
+    (p : Progress) (k k' : Kept) (front : List Marked) (all left : List OutToken) → front ≡ []
+    → held room k' (spec.expansion table lines p (map plain left))
+    ≡ held room k (spec.expansion table lines p (map plain all))
+    → held room k' (spec.expansion table lines p (reals f (laid front left)))
+    ≡ held room k (spec.expansion table lines p (reals f (laid front all)))
+plains_kept f empty table lines room p k k' front all left none same =
+    ap (λ (ts : List Marked). held room k' (spec.expansion table lines p ts)) (plains_laid f empty front left none)
+    ∙ same
+    ∙ ap (λ (ts : List Marked). held room k (spec.expansion table lines p ts)) (sym (plains_laid f empty front all none))
 
 -- tokens that leave a list where nothing waits
 pub delivered : (f : Names → Names) (again : Expander) (room : ℕ) (k k' k'' : Kept) (p : Progress)

@@ -20,6 +20,10 @@ pub all_before_snoc : (ts : List Marked) (t : Marked) (p : ℕ × List ℕ)
 all_before_snoc [] t p = refl
 all_before_snoc (u ∷ us) t p = ap (before u.token) (all_before_snoc us t p)
 
+pub all_before_append : (ts us : List Marked) (p : ℕ × List ℕ) → all_before (ts ++ us) p ≡ all_before ts (all_before us p)
+all_before_append [] us p = refl
+all_before_append (t ∷ ts) us p = ap (before t.token) (all_before_append ts us p)
+
 -- no more are free than there are tokens
 one_more : (t : OutToken) (p : ℕ × List ℕ) (n : ℕ) → p.0 ≤ n → (before t p).0 ≤ n + 1
 unfolding before

@@ -6,10 +6,10 @@ use Rattle.std.proofs.lemmas.Option.{slice_get-map}
 use Rattle.std.specs.Prelude.{Option, slice_get}
 use Rattle.tok_data.specs.declared.tokens.OutToken.{OutToken}
 use Rattle.macro_expand.specs.declared.types.Marked.{Marked}
-use Rattle.macro_expand.specs.Ties.Parens.{before, all_before}
+use Rattle.macro_expand.specs.Ties.Parens.{before, all_before, parens}
 use Rattle.macro_expand.specs.Ties.Rests.{laid}
 use Rattle.macro_expand.specs.Tokens.{plain}
-use Rattle.macro_expand.proofs.ParensLemmas.{all_before_snoc}
+use Rattle.macro_expand.proofs.ParensLemmas.{all_before_snoc, all_before_append}
 
 pub get_front : (xs ys : List Marked) (k : ℕ) → k < length xs → slice_get (xs ++ ys) k ≡ slice_get xs k
 get_front [] ys k within = absurd (omega (arith, within))
@@ -46,6 +46,16 @@ pub plain_snoc : (ts : List OutToken) (t : OutToken) (p : ℕ × List ℕ)
 plain_snoc ts t p =
     sym (all_before_snoc (map plain ts) (plain t) p)
     ∙ ap (λ (l : List Marked). all_before l p) (sym (map-append plain ts (t ∷ [])))
+
+-- the parentheses of a list in front of which nothing was put, part by part
+pub plains_before : (front : List Marked) (behind gone left : List OutToken) → front ≡ [] → behind ≡ gone ++ left
+    → parens (laid front behind) ≡ all_before (map plain gone) (parens (laid front left))
+plains_before front behind gone left none is =
+    ap (λ (l : List Marked). parens (laid l behind)) none
+    ∙ ap (λ (l : List OutToken). parens (map plain l)) is
+    ∙ ap parens (map-append plain gone left)
+    ∙ all_before_append (map plain gone) (map plain left) (0, [])
+    ∙ ap (λ (l : List Marked). all_before (map plain gone) (parens (laid l left))) (sym none)
 
 pub laid_length : (front : List Marked) (behind : List OutToken)
     → length (laid front behind) ≡ length front + length behind

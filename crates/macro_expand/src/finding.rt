@@ -3,6 +3,7 @@ ghost use Rattle.std.specs.Prelude.{◌≡◌, ◌<◌, IfOk, OnOk, option_copie
 ghost use Rattle.macro_expand.specs.Ties.Codes.{Names};
 ghost use Rattle.macro_expand.specs.Ties.Stands.{Stands, Grows};
 ghost use Rattle.macro_expand.specs.Ties.Numbers.{real, reals, real_args, real_called};
+ghost use Rattle.macro_expand.specs.Tokens.{plain};
 ghost use Rattle.std.specs.FinMap as map;
 ghost use Rattle.macro_expand.specs.Expansion as spec;
 ghost use Rattle.macro_expand.specs.Ties.Looks.{seen};
@@ -19,6 +20,7 @@ use crate::tokens::is_ident;
 use crate::types::{Marked, Progress};
 use macro_table::{MacroDef, MacroTable};
 use std::alloc::{AllocError, Global};
+use tok_data::OutToken;
 
 // What a name means.
 #[derive(Clone, Copy, Drop)]
@@ -50,8 +52,26 @@ fn named<'a>(table: &'a MacroTable, name: &str) -> Meaning<'a>
     macro_or(table.get(name))
 }
 
+// What a name means that is hidden from none, where anything is replaced at all.
+#[tactic(auto, unfolding(crate::specs::Expansion::meaning, crate::specs::HideSets::hides))]
+pub(crate) fn plain_meaning<'a>(
+    table: &'a MacroTable,
+    stopped: bool,
+    token: &OutToken,
+) -> Meaning<'a>
+    ensures { steps.meant result ≡ steps.sense (map.get table.now) stopped (plain token.now) }
+{
+    if stopped {
+        return Meaning::Ordinary;
+    }
+    if !is_ident(token.kind) {
+        return Meaning::Ordinary;
+    }
+    named(table, token.spelling.as_str())
+}
+
 // What a name means, where anything is replaced at all.
-#[tactic(auto, unfolding(crate::specs::Expansion::meaning))]
+#[tactic(auto, unfolding(crate::specs::Expansion::meaning, crate::specs::HideSets::hides))]
 pub(crate) fn meaning_of<'a>(
     alloc: Global,
     sets: &mut Sets,
@@ -63,14 +83,8 @@ pub(crate) fn meaning_of<'a>(
     ensures value { IfOk result (λ m. (f : Names → Names) → Stands f sets.new
         → steps.meant m ≡ steps.sense (map.get table.now) stopped (real f (seen token.now))) }
 {
-    if stopped {
-        return Ok(Meaning::Ordinary);
-    }
-    if !is_ident(token.token.kind) {
-        return Ok(Meaning::Ordinary);
-    }
     // Most names are no macros, and a look at the table costs less than one at the hide set.
-    let meaning = named(table, token.token.spelling.as_str());
+    let meaning = plain_meaning(table, stopped, token.token);
     if let Meaning::Ordinary = meaning {
         return Ok(Meaning::Ordinary);
     }

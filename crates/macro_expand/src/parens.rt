@@ -1,6 +1,8 @@
 // The parentheses of a list that is read and written at its front.
 ghost use Rattle.std.specs.Prelude.{◌≡◌, [], ◌∷◌, ◌++◌, ◌<◌, ◌≤◌, ◌+◌, ◌^◌, ℕ, List, IfOk, IsTrue};
+ghost use Rattle.std.specs.Prelude.{map as list_map};
 ghost use Rattle.macro_expand.specs.Ties.Parens as spec;
+ghost use Rattle.macro_expand.specs.Tokens.{plain};
 
 use crate::tokens::is_mark;
 use std::alloc::{AllocError, Global};
@@ -69,6 +71,15 @@ impl Parens {
         }
         if is_mark(")", token) {
             self.free = self.free.saturating_sub(1);
+        }
+    }
+
+    // Without the first tokens.
+    pub(crate) fn leave_all(&mut self, tokens: &[OutToken])
+        ensures { (p : ℕ × List ℕ) → self.old ≡ spec.all_before (list_map plain tokens.now) p → self.new ≡ p }
+    {
+        for token in tokens {
+            self.leave(token);
         }
     }
 

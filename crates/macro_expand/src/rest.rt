@@ -1,9 +1,15 @@
 // Lists of tokens that are read and written at their fronts.
-ghost use Rattle.std.specs.Prelude.{◌≡◌, [], ◌∷◌, ◌++◌, ◌<◌, take, drop, map as list_map, slice_get};
+ghost use Rattle.std.specs.Prelude.{◌≡◌, [], ◌∷◌, ◌++◌, ◌<◌, ◌≤◌, ℕ, List, length, take, drop, map as list_map, slice_get};
 ghost use Rattle.std.specs.Prelude.{IfOk, OnOk, IfSome, IfNone, IsTrue, ◌↔◌, option_map, option_to_list};
 ghost use Rattle.macro_table.specs.declared.definition.MacroDef.{MacroDef};
 ghost use Rattle.macro_expand.specs.declared.arguments.Called.TheVariants.{Unclosed};
+ghost use Rattle.macro_expand.specs.declared.types.Progress.{Progress};
+ghost use Rattle.tok_data.specs.declared.sources.TokId.{TokId as Site};
+ghost use Rattle.std.specs.FinMap as map;
 ghost use Rattle.macro_expand.specs.Arguments.{called};
+ghost use Rattle.macro_expand.specs.Expansion.{expansion};
+ghost use Rattle.macro_expand.specs.Ties.Codes.{Names};
+ghost use Rattle.macro_expand.specs.Ties.Numbers.{reals};
 ghost use Rattle.macro_expand.specs.Ties.Keeping as keeping;
 ghost use Rattle.macro_expand.specs.Ties.Looks.{seen};
 ghost use Rattle.macro_expand.specs.Ties.Parens as spec;
@@ -12,8 +18,10 @@ ghost use Rattle.macro_expand.specs.Tokens as tokens;
 use crate::keeping::Kept;
 use crate::look::Look;
 use crate::parens::Parens;
+use crate::skimming::skim_plain;
 use crate::tokens::is_mark;
 use crate::types::{Marked, MarkedList};
+use macro_table::MacroTable;
 use std::alloc::{AllocError, Global};
 use std::collections::VecDeque;
 use std::marker::Model;
@@ -200,6 +208,30 @@ impl<'a> Rest<'a> {
             self.parens.leave(first);
             return kept.put_copy(room, first);
         }
+        Ok(())
+    }
+
+    // The first tokens leave for what is kept, as far as they stay as they are and nothing was put in front of them.
+    pub(crate) fn keep_plain(
+        &mut self,
+        table: &MacroTable,
+        room: usize,
+        stopped: bool,
+        kept: &mut Kept,
+    ) -> Result<(), AllocError>
+        ensures value { OnOk result ((f : Names → Names) → f [] ≡ [] → (lines : List (Site × ℕ)) (p : Progress)
+            → p.stopped ≡ stopped
+            → keeping.held room kept.new (expansion (map.get table.now) lines p (reals f self.new))
+            ≡ keeping.held room kept.old (expansion (map.get table.now) lines p (reals f self.old))) }
+        ensures shorter { OnOk result (length self.new ≤ length self.old) }
+    {
+        if !self.front.is_empty() {
+            return Ok(());
+        }
+        let count = skim_plain(table, room, stopped, self.behind, kept)?;
+        let (gone, behind) = self.behind.split_at(count);
+        self.behind = behind;
+        self.parens.leave_all(gone);
         Ok(())
     }
 
