@@ -2,7 +2,7 @@
 use Rattle.std.proofs.Common.{◌≡◌, ℕ, suc, ◌+◌, ◌-◌, ◌<◌, ◌≤◌, Bool, true, false, ◌&&◌, List, [], ◌∷◌, ◌++◌, length}
 use Rattle.std.proofs.Common.{refl, ap, ◌∙◌, arith, eqb, codes, if◌then◌else◌}
 use Rattle.std.proofs.lemmas.Bool.{and_left, and_right, ne_eqb}
-use Rattle.std.specs.Prelude.{Some, None, option_map}
+use Rattle.std.specs.Prelude.{Option, Some, None, option_map}
 use Rattle.tok_data.specs.declared.tokens.OutToken.{OutToken}
 use Rattle.macro_expand.specs.declared.types.Marked.{Marked}
 use Rattle.macro_table.specs.declared.definition.MacroDef.{MacroDef}
@@ -10,7 +10,7 @@ use Rattle.macro_expand.specs.declared.arguments.Called.TheVariants.{Absent, Unc
 use Rattle.macro_expand.specs.Tokens.{is_mark}
 use Rattle.macro_expand.specs.Arguments as call
 use Rattle.macro_expand.specs.Arguments.{balanced}
-use Rattle.macro_expand.specs.Ties.Parens.{before, all_before, parens}
+use Rattle.macro_expand.specs.Ties.Parens.{before, all_before, parens, counted}
 use Rattle.macro_expand.proofs.Cases.{if_cases}
 use Rattle.macro_expand.proofs.ReadingLemmas.{IsOpen, open_snoc, balanced_is, no_mark}
 
@@ -38,6 +38,11 @@ parens_at_most (t ∷ ts) =
     let more = one_more t.token (parens ts) (length ts) (parens_at_most ts) in
     let next : suc (length ts) ≡ length ts + 1 = omega arith in
     omega (arith, more, next)
+
+-- where parentheses are counted, no more are free than in the list
+pub counted_at_most : (o : Option (ℕ × List ℕ)) (p : ℕ × List ℕ) → counted o p ≡ p → (counted o (0, [])).0 ≤ p.0
+counted_at_most None p is = omega arith
+counted_at_most (Some q) p is = let same : q.0 ≡ p.0 = ap (λ r. r.0) is in omega (arith, same)
 
 -- what a token does to the count
 opening_free : (t : OutToken) (p : ℕ × List ℕ) → is_mark (codes "(") t ≡ true → before t p ≡ (p.0 - 1, p.1 ++ p.0 ∷ [])

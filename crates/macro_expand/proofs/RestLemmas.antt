@@ -47,6 +47,16 @@ plain_snoc ts t p =
     sym (all_before_snoc (map plain ts) (plain t) p)
     ∙ ap (λ (l : List Marked). all_before l p) (sym (map-append plain ts (t ∷ [])))
 
+-- the parentheses of a list in front of which tokens were put, counted part by part
+pub laid_parens : (first last front : List Marked) (behind : List OutToken) (n m p : ℕ × List ℕ) → first ++ last ≡ front
+    → n ≡ parens (map plain behind) → m ≡ all_before last n → p ≡ all_before first m → p ≡ parens (laid front behind)
+laid_parens first last front behind n m p whole counted more all =
+    all
+    ∙ ap (all_before first) (more ∙ ap (all_before last) counted)
+    ∙ sym (all_before_append first last (parens (map plain behind)))
+    ∙ ap (λ (l : List Marked). all_before l (parens (map plain behind))) whole
+    ∙ sym (all_before_append front (map plain behind) (0, []))
+
 -- the parentheses of a list in front of which nothing was put, part by part
 pub plains_before : (front : List Marked) (behind gone left : List OutToken) → front ≡ [] → behind ≡ gone ++ left
     → parens (laid front behind) ≡ all_before (map plain gone) (parens (laid front left))

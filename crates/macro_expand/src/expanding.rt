@@ -162,6 +162,17 @@ pub(crate) enum Taken<'a> {
     Called(Progress, Marked, &'a MacroDef, ArgumentList, HideSet, Rest<'a>),
 }
 
+// What stands behind a macro's name, with its parentheses counted where the macro takes arguments: an open call isn't
+// read.
+fn behind_name<'a>(alloc: Global, def: &MacroDef, rest: Rest<'a>) -> Result<Rest<'a>, AllocError>
+    ensures { IfOk result (λ r. r ≡ rest.entry) }
+{
+    if def.params.is_none() {
+        return Ok(rest);
+    }
+    rest.counted(alloc)
+}
+
 fn macro_step<'a>(
     alloc: Global,
     sets: &mut Sets,
@@ -178,6 +189,7 @@ fn macro_step<'a>(
     ensures nearer { IfOk result (λ s. work.IsTaken s progress.left rest.entry) }
 {
     let mut progress = progress;
+    let rest = behind_name(alloc, def, rest)?;
     let found = macro_found(alloc, sets, &mut progress, &token, &rest, def)?;
     match found {
         Found::Stays => Ok(Taken::Settled(kept(progress, token, rest))),

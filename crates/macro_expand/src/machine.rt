@@ -211,7 +211,7 @@ fn wait<'a>(
         skip,
         behind,
     })?;
-    let rest = Rest::from_list(alloc, argument)?;
+    let rest = Rest::from_list(argument);
     let level = Walked {
         progress,
         done: MarkedList::new(alloc),
@@ -462,7 +462,7 @@ pub(crate) fn expansion<'a>(
 {
     // (most tokens are no macros)
     let mut kept = Kept::nothing(alloc, tokens.len().min(room))?;
-    let rest = Rest::from_slice(alloc, tokens)?;
+    let rest = Rest::from_slice(alloc, tokens);
     let level = Walked {
         progress,
         done: MarkedList::new(alloc),

@@ -1,6 +1,6 @@
 // The parentheses of a list that is read and written at its front.
 ghost use Rattle.std.specs.Prelude.{◌≡◌, [], ◌∷◌, ◌++◌, ◌<◌, ◌≤◌, ◌+◌, ◌^◌, ℕ, List, IfOk, IsTrue};
-ghost use Rattle.std.specs.Prelude.{map as list_map};
+ghost use Rattle.std.specs.Prelude.{None, Some, is_some, map as list_map};
 ghost use Rattle.macro_expand.specs.Ties.Parens as spec;
 ghost use Rattle.macro_expand.specs.Tokens.{plain};
 
@@ -89,6 +89,91 @@ impl Parens {
     {
         match self.behind.last() {
             Some(free) => *free == 0,
+            None => false,
+        }
+    }
+}
+
+// The parentheses of a list once they are counted, which most lists don't want.
+#[derive(Drop)]
+pub(crate) struct Counting {
+    parens: Option<Parens>,
+}
+
+impl Model for Counting {
+    ghost use Rattle.std.specs.Prelude.{Option, List, ℕ};
+
+    ghost Value = { Option (ℕ × List ℕ) };
+
+    ghost view = { λ c. c.parens };
+}
+
+impl Counting {
+    pub(crate) fn none() -> Counting
+        ensures { result ≡ None }
+    {
+        Counting { parens: None }
+    }
+
+    pub(crate) fn of(parens: Parens) -> Counting
+        ensures { result ≡ Some parens }
+    {
+        Counting {
+            parens: Some(parens),
+        }
+    }
+
+    pub(crate) fn is_counted(&self) -> bool
+        ensures { result ≡ is_some self.now }
+    {
+        self.parens.is_some()
+    }
+
+    // With a token more at the front.
+    pub(crate) fn before(self, token: &OutToken) -> Result<Counting, AllocError>
+        requires { (spec.counted self (0, [])).0 < 18446744073709551615 }
+        ensures { IfOk result (λ c. (p : ℕ × List ℕ) → spec.counted self p ≡ p
+            → spec.counted c (spec.before token.now p) ≡ spec.before token.now p) }
+    {
+        let Counting { parens } = self;
+        match parens {
+            Some(parens) => {
+                let parens = parens.before(token)?;
+                Ok(Counting::of(parens))
+            }
+            None => Ok(Counting::none()),
+        }
+    }
+
+    // Without the first token.
+    pub(crate) fn leave(&mut self, token: &OutToken)
+        ensures { (p : ℕ × List ℕ) → spec.counted self.old (spec.before token.now p) ≡ spec.before token.now p
+            → spec.counted self.new p ≡ p }
+    {
+        match &mut self.parens {
+            Some(parens) => parens.leave(token),
+            None => {}
+        }
+    }
+
+    // Without the first tokens.
+    pub(crate) fn leave_all(&mut self, tokens: &[OutToken])
+        ensures { (p : ℕ × List ℕ) → spec.counted self.old (spec.all_before (list_map plain tokens.now) p)
+            ≡ spec.all_before (list_map plain tokens.now) p → spec.counted self.new p ≡ p }
+    {
+        match &mut self.parens {
+            Some(parens) => parens.leave_all(tokens),
+            None => {}
+        }
+    }
+
+    // Nothing was free behind the first opening parenthesis.
+    pub(crate) fn is_first_open(&self) -> bool
+        ensures { IsTrue result → (p : ℕ × List ℕ) → spec.counted self.now p ≡ p
+            → (ns : List ℕ) (n : ℕ) → p.1 ≡ ns ++ n ∷ [] → n ≡ 0 }
+    {
+        match &self.parens {
+            Some(parens) => parens.is_first_open(),
             None => false,
         }
     }

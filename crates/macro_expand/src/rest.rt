@@ -1,5 +1,5 @@
 // Lists of tokens that are read and written at their fronts.
-ghost use Rattle.std.specs.Prelude.{◌≡◌, [], ◌∷◌, ◌++◌, ◌<◌, ◌≤◌, ℕ, List, length, take, drop, map as list_map, slice_get};
+ghost use Rattle.std.specs.Prelude.{◌≡◌, [], ◌∷◌, ◌++◌, ◌<◌, ◌≤◌, ◌+◌, ℕ, List, length, take, drop, map as list_map, slice_get};
 ghost use Rattle.std.specs.Prelude.{IfOk, OnOk, IfSome, IfNone, IsTrue, ◌↔◌, option_map, option_to_list};
 ghost use Rattle.macro_table.specs.declared.definition.MacroDef.{MacroDef};
 ghost use Rattle.macro_expand.specs.declared.arguments.Called.TheVariants.{Unclosed};
@@ -13,11 +13,12 @@ ghost use Rattle.macro_expand.specs.Ties.Numbers.{reals};
 ghost use Rattle.macro_expand.specs.Ties.Keeping as keeping;
 ghost use Rattle.macro_expand.specs.Ties.Looks.{seen};
 ghost use Rattle.macro_expand.specs.Ties.Parens as spec;
+ghost use Rattle.macro_expand.specs.Ties.Rests.{laid};
 ghost use Rattle.macro_expand.specs.Tokens as tokens;
 
 use crate::keeping::Kept;
 use crate::look::Look;
-use crate::parens::Parens;
+use crate::parens::{Counting, Parens};
 use crate::skimming::skim_plain;
 use crate::tokens::is_mark;
 use crate::types::{Marked, MarkedList};
@@ -28,33 +29,36 @@ use std::marker::Model;
 use tok_data::OutToken;
 
 // What is left of a list: tokens that were put in front, and behind them tokens of which none was replaced, which are
-// copied where they are read. It is read from the front and written there, and tells whether a call that it begins
-// with is closed.
+// copied where they are read. It is read from the front and written there, and tells, once its parentheses are counted,
+// whether a call that it begins with is open.
 #[derive(Drop)]
 pub(crate) struct Rest<'a> {
     front: VecDeque<Marked>,
     behind: &'a [OutToken],
-    parens: Parens,
+    parens: Counting,
 }
 
 impl<'a> Model for Rest<'a> {
     ghost use Rattle.std.specs.Prelude.{List, ◌≡◌};
     ghost use Rattle.macro_expand.specs.declared.types.Marked.{Marked};
-    ghost use Rattle.macro_expand.specs.Ties.Parens.{parens as parens_of};
+    ghost use Rattle.macro_expand.specs.Ties.Parens.{counted, parens as parens_of};
     ghost use Rattle.macro_expand.specs.Ties.Rests.{laid};
 
     ghost Value = { List Marked };
 
     ghost view = { λ r. laid r.front.items r.behind.now };
 
-    ghost invariant = { λ r. r.parens ≡ parens_of (laid r.front.items r.behind.now) };
+    ghost invariant = { λ r. counted r.parens (parens_of (laid r.front.items r.behind.now))
+        ≡ parens_of (laid r.front.items r.behind.now) };
 }
 
-// The parentheses of a list.
-fn parens_in(alloc: Global, list: &[Marked]) -> Result<Parens, AllocError>
-    ensures { IfOk result (λ p. p ≡ spec.parens list.now) }
+// The parentheses of a list, in front of others.
+fn parens_before(list: &[Marked], parens: Parens) -> Result<Parens, AllocError>
+    requires { parens.0 + length list.now < 18446744073709551615 }
+    ensures value { IfOk result (λ p. p ≡ spec.all_before list.now parens) }
+    ensures free { IfOk result (λ p. p.0 ≤ parens.0 + length list.now) }
 {
-    let mut parens = Parens::new(alloc);
+    let mut parens = parens;
     let mut front = list;
     'tokens: while let Some((last, before)) = front.split_last() {
         let more = parens.before(&last.token)?;
@@ -78,26 +82,59 @@ fn parens_of(alloc: Global, list: &[OutToken]) -> Result<Parens, AllocError>
     Ok(parens)
 }
 
+// The parentheses of tokens that were put in front, and of those behind them.
+fn parens_in(
+    alloc: Global,
+    front: &VecDeque<Marked>,
+    behind: &[OutToken],
+) -> Result<Parens, AllocError>
+    ensures { IfOk result (λ p. p ≡ spec.parens (laid front.now.items behind.now)) }
+{
+    let (first, last) = front.as_slices();
+    let counted = parens_of(alloc, behind)?;
+    let more = parens_before(last, counted)?;
+    let all = parens_before(first, more)?;
+    Ok(all)
+}
+
 impl<'a> Rest<'a> {
-    pub(crate) fn from_list(alloc: Global, list: MarkedList) -> Result<Rest<'a>, AllocError>
-        ensures { IfOk result (λ r. r ≡ list) }
+    pub(crate) fn from_list(list: MarkedList) -> Rest<'a>
+        ensures { result ≡ list }
     {
-        let parens = parens_in(alloc, list.as_slice())?;
-        Ok(Rest {
+        Rest {
             front: VecDeque::from_vec(list.into_vec()),
             behind: &[],
-            parens,
-        })
+            parens: Counting::none(),
+        }
     }
 
-    pub(crate) fn from_slice(alloc: Global, list: &'a [OutToken]) -> Result<Rest<'a>, AllocError>
-        ensures { IfOk result (λ r. r ≡ list_map tokens.plain list.now) }
+    pub(crate) fn from_slice(alloc: Global, list: &'a [OutToken]) -> Rest<'a>
+        ensures { result ≡ list_map tokens.plain list.now }
     {
-        let parens = parens_of(alloc, list)?;
-        Ok(Rest {
+        Rest {
             front: VecDeque::new(alloc),
             behind: list,
-            parens,
+            parens: Counting::none(),
+        }
+    }
+
+    // The same with its parentheses counted, which is done once.
+    pub(crate) fn counted(self, alloc: Global) -> Result<Rest<'a>, AllocError>
+        ensures { IfOk result (λ r. r ≡ self.entry) }
+    {
+        if self.parens.is_counted() {
+            return Ok(self);
+        }
+        let Rest {
+            front,
+            behind,
+            parens: _,
+        } = self;
+        let parens = parens_in(alloc, &front, behind)?;
+        Ok(Rest {
+            front,
+            behind,
+            parens: Counting::of(parens),
         })
     }
 
@@ -128,7 +165,7 @@ impl<'a> Rest<'a> {
         false
     }
 
-    // A call that isn't closed stands in front.
+    // A call that isn't closed stands in front; it isn't seen before parentheses are counted.
     pub(crate) fn is_open(&self) -> bool
         ensures { IsTrue result → (def : MacroDef) → called def self.now ≡ Unclosed }
     {

@@ -33,6 +33,29 @@ levels-preserved c =
       fewer = omega (arith, next, ended, c.levels.invariant.fewer);
     }
 
+pub levels-preserved-in_ok-next-in-Level : goal.levels-preserved-in_ok-next-in-Level
+levels-preserved-in_ok-next-in-Level c =
+    let table = map.get c.args.table.now in
+    let again : Expander = spec.expansion table c.args.lines.now in
+    let frames : List Frame = c.levels.frames.items in
+    let none : c.in-Level.walked.rest ≡ [] = search rules in
+    let ended = (subst (λ (s : Stop). work.IsStop s c.levels.level.progress.left) c.in-Level.is
+    c.in_ok-stop.ensures.ended).0 in
+    let next = c.in_ok-next-in-Level.ensures.same in
+    record {
+      grows = λ f h.
+          c.levels.invariant.grows f (c.in_ok-stop.ensures.grows f (c.in_ok-next-in-Level.ensures.grows f h));
+      same = λ f h.
+          let stopped = c.in_ok-next-in-Level.ensures.grows f h in
+          level_ends f table c.args.lines.now c.in-Level.walked c.in-Some.frame c.pop_front.new.self.items frames
+          (work.outcome f again c.in_ok-next-in-Level.next) (work.outcome f again c.args.machine)
+          none c.in-Some.ensures.items (c.in_ok-next-in-Level.ensures.value f h again)
+          (ap (work.resume f again frames)
+          (ap (work.stop_outcome f again) (sym c.in-Level.is) ∙ c.in_ok-stop.ensures.value f stopped)
+          ∙ c.levels.invariant.same f (c.in_ok-stop.ensures.grows f stopped));
+      fewer = omega (arith, next, ended, c.levels.invariant.fewer);
+    }
+
 pub returns-in-Called-clause-grows : goal.returns-in-Called-clause-grows
 returns-in-Called-clause-grows c = λ f h.
     c.levels.invariant.grows f (c.in_ok-stop.ensures.grows f (c.in_ok-begun-in-Called.ensures.grows f h))

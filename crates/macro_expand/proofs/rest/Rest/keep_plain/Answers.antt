@@ -7,7 +7,7 @@ use Rattle.macro_expand.specs.Expansion.{expansion}
 use Rattle.macro_expand.specs.Tokens.{plain}
 use Rattle.macro_expand.specs.Ties.Keeping.{held}
 use Rattle.macro_expand.specs.Ties.Numbers.{reals}
-use Rattle.macro_expand.specs.Ties.Parens.{parens}
+use Rattle.macro_expand.specs.Ties.Parens.{parens, counted}
 use Rattle.macro_expand.specs.Ties.Rests.{laid}
 use Rattle.macro_expand.proofs.KeepingLemmas.{plains_kept}
 use Rattle.macro_expand.proofs.RestLemmas.{plains_before}
@@ -20,11 +20,12 @@ invariant_of-self c =
     let gone = c.split_at.result.0.now in
     let left = c.split_at.result.1.now in
     let short : length front ≡ 0 = grind (arith, common_steps) in
-    c.leave_all.ensures (parens (laid front left))
-    (c.self.invariant ∙ plains_before front behind gone left (nil_from_length front short)
+    let parts = plains_before front behind gone left (nil_from_length front short)
     (sym (take-append-drop c.in_ok-count.count behind)
     ∙ ap (λ ts. ts ++ drop c.in_ok-count.count behind) (sym c.split_at.ensures.front)
-    ∙ ap (λ ts. gone ++ ts) (sym c.split_at.ensures.back)))
+    ∙ ap (λ ts. gone ++ ts) (sym c.split_at.ensures.back)) in
+    c.leave_all.ensures (parens (laid front left))
+    (ap (counted c.self.inside.parens) (sym parts) ∙ c.self.invariant ∙ parts)
 
 pub returns-clause-value : goal.returns-clause-value
 returns-clause-value c = λ f empty lines p stopped.
