@@ -2,11 +2,10 @@
 use crate::notation::{plain, tag, type_named};
 use decl_rules::{DeclParts, Storage};
 use scope_tables::ScopeKind;
-use shared_list::Listing;
 use shared_text::Name;
 use std::alloc::{AllocError, Global};
 use tok_data::{FileId, TokId};
-use type_data::{Layout, TagInfo, TagKind, Tags, Value};
+use type_data::{Layout, Members, TagInfo, TagKind, Tags, Value};
 
 /// The number of each declarator's token in its item.
 const AT: u32 = 7;
@@ -95,8 +94,8 @@ fn tell_all(alloc: Global, tags: &mut Tags) -> Result<(), AllocError> {
     let complete = TagInfo {
         kind: TagKind::Struct,
         name: None,
-        members: Some(Listing::from_vec(Vec::new(alloc))),
-        layout: Some(Layout::new(8, 8, Vec::new(alloc))),
+        members: Some(Members::from_vec(alloc, Vec::new(alloc))?),
+        layout: Some(Layout::new(alloc, 8, 8, Vec::new(alloc))?),
     };
     tags.insert(id, complete)?;
     let id = tag(alloc, 2)?;
@@ -111,7 +110,7 @@ fn tell_all(alloc: Global, tags: &mut Tags) -> Result<(), AllocError> {
     let enumeration = TagInfo {
         kind: TagKind::Enum,
         name: None,
-        members: Some(Listing::from_vec(Vec::new(alloc))),
+        members: Some(Members::from_vec(alloc, Vec::new(alloc))?),
         layout: None,
     };
     tags.insert(id, enumeration)?;

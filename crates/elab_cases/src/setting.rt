@@ -3,13 +3,13 @@ use c_parser::{NameSet, parse_expr};
 use elab_core::{ExprMeaning, elab_expr};
 use elab_state::{Elab, Known, Wanted};
 use scope_tables::{Anchor, Entity, EntityKind, Life, Linkage, ScopeKind, Scopes};
-use shared_list::Listing;
 use shared_text::Name;
 use std::alloc::{AllocError, Global};
 use tok_data::{FileId, OutToken, TokId};
 use tree_data::Expr;
 use type_data::{
-    CType, ItemName, Layout, Member, Node, Qual, Space, TagId, TagInfo, TagKind, Tags, Value,
+    CType, ItemName, Layout, Member, Members, Node, Qual, Space, TagId, TagInfo, TagKind, Tags,
+    Value,
 };
 use type_rel::{UNQUALIFIED, layout};
 
@@ -307,7 +307,7 @@ pub fn declare_tag(
         kind,
         name: Some(Name::from_str(alloc, name)?),
         members: match members {
-            Some(members) => Some(Listing::from_vec(members)),
+            Some(members) => Some(Members::from_vec(alloc, members)?),
             None => None,
         },
         layout,

@@ -65,7 +65,7 @@ fn note_answer(alloc: Global, known: &Known, made: &mut Made, one: Wanted) -> Re
 }
 
 /// What is known of the identifiers of these tokens is bound in the innermost scope, where they aren't bound there; it isn't noted as
-/// declared. Its cost is linear in the number of tokens, and in that of the members of tags that they name.
+/// declared. Its cost is linear in the number of tokens.
 pub fn note_answers(
     alloc: Global,
     known: &Known,

@@ -28,8 +28,7 @@ pub(crate) fn put(made: &mut Made, binding: Binding) -> Result<(), AllocError>
     Ok(())
 }
 
-/// Binds a name in the innermost scope, in place of what it denotes there. What is bound in the outermost one is noted as declared. Its
-/// cost is linear in the number of a tag's members.
+/// Binds a name in the innermost scope, in place of what it denotes there. What is bound in the outermost one is noted as declared.
 pub fn bind(alloc: Global, made: &mut Made, binding: Binding) -> Result<(), AllocError>
     ensures { OnOk result (made.new ≡ spec.bound binding made.old) }
 {

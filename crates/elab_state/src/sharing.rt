@@ -19,7 +19,8 @@ pub(crate) fn share_space(space: &Space) -> Result<Space, AllocError>
     }
 }
 
-/// The same binding, whose texts and types are shared. Its cost is linear in the number of a tag's members.
+/// The same binding, whose texts and types and a tag's members are shared. It takes no memory, but may be refused where one of
+/// them is shared 2^64 times.
 pub fn share_binding(alloc: Global, binding: &Binding) -> Result<Binding, AllocError>
     ensures { IfOk result (λ copy. copy ≡ binding.now) }
 {

@@ -7,7 +7,7 @@ use scope_tables::{
 use shared_list::Listing;
 use shared_text::Name;
 use std::alloc::{AllocError, Global};
-use type_data::{CType, Space};
+use type_data::{CType, Members, Space};
 
 fn none<T>(alloc: Global) -> Listing<T> {
     Listing::from_vec(Vec::new(alloc))
@@ -89,7 +89,11 @@ impl Parts {
         let Ok(at) = tag.parse::<u32>() else {
             return Ok(false);
         };
-        let members = if completes { Some(none(alloc)) } else { None };
+        let members = if completes {
+            Some(Members::from_vec(alloc, Vec::new(alloc))?)
+        } else {
+            None
+        };
         let kind = EntityKind::Tag(tag_of(alloc, at)?, info_of(members));
         let entity = entity(alloc, tag, kind, int(), Linkage::None)?;
         self.entities.push(entity)?;

@@ -1,10 +1,9 @@
 // What the words of a part stand for.
 use scope_tables::{How, Linkage};
-use shared_list::Listing;
 use shared_text::Name;
 use std::alloc::{AllocError, Global};
 use type_data::{
-    Basic, CType, Extent, ItemName, Member, Node, ParamList, Params, Proto, Qual, TagId, TagInfo,
+    Basic, CType, Extent, ItemName, Members, Node, ParamList, Params, Proto, Qual, TagId, TagInfo,
     TagKind,
 };
 
@@ -45,7 +44,7 @@ pub fn tag_of(alloc: Global, at: u32) -> Result<TagId, AllocError> {
     Ok(TagId { item, at })
 }
 
-pub fn info_of(members: Option<Listing<Member>>) -> TagInfo {
+pub fn info_of(members: Option<Members>) -> TagInfo {
     TagInfo {
         kind: TagKind::Struct,
         name: None,

@@ -2,11 +2,11 @@
 // struct { int y; }; int c; }`, and `struct D { char a; struct { int c[3]; } d; }`; and two heaps of 200 structures, each of which
 // holds the one before twice: `struct N` on `struct S`, whose hundredth is `H`, and `struct M` on `struct K`.
 use crate::types::plain;
-use shared_list::Listing;
 use shared_text::Name;
 use std::alloc::{AllocError, Global};
 use type_data::{
-    Basic, CType, Extent, ItemName, Layout, Member, Node, Qual, TagId, TagInfo, TagKind, Tags,
+    Basic, CType, Extent, ItemName, Layout, Member, Members, Node, Qual, TagId, TagInfo, TagKind,
+    Tags,
 };
 
 /// A tag by its number.
@@ -53,10 +53,11 @@ fn know(
 ) -> Result<(), AllocError> {
     let id = tag(alloc, at)?;
     let name = named(alloc, name)?;
+    let members = Members::from_vec(alloc, members)?;
     let info = TagInfo {
         kind,
         name,
-        members: Some(Listing::from_vec(members)),
+        members: Some(members),
         layout,
     };
     tags.insert(id, info)?;
@@ -75,9 +76,9 @@ fn laid(alloc: Global, size: u64, align: u64, second: Option<u64>) -> Result<Lay
         offsets.push(place)?;
     }
     if size <= 1024 && 1 <= align {
-        return Ok(Layout::new(size, align, offsets));
+        return Layout::new(alloc, size, align, offsets);
     }
-    Ok(Layout::new(1, 1, offsets))
+    Layout::new(alloc, 1, 1, offsets)
 }
 
 fn with_field(alloc: Global, tags: &mut Tags) -> Result<(), AllocError> {

@@ -9,7 +9,7 @@ use scope_tables::{Entity, EntityKind};
 use shared_list::Listing;
 use shared_text::Name;
 use std::alloc::{AllocError, Global};
-use type_data::{Layout, Member, TagId, TagInfo, TagKind, Tags};
+use type_data::{Layout, Member, Members, TagId, TagInfo, TagKind, Tags};
 use type_rel::{has_members, is_inside, layout};
 
 fn same_kind(a: TagKind, b: TagKind) -> bool
@@ -130,6 +130,7 @@ pub fn completed(
     ensures { IfOk result (λ i. i ≡ spec.completed kind name members tags.now) }
 {
     let layout = laid(alloc, kind, members.as_slice(), tags)?;
+    let members = Members::from_vec(alloc, members.into_vec())?;
     Ok(TagInfo {
         kind,
         name,

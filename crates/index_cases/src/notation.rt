@@ -3,12 +3,11 @@
 // type with a fault; then `*` a pointer, `k` a pointer to what is const, a digit an array of that size, `_` one of no size, `?` one of an
 // untold size, `o` a function `()`, `z` one of `(void)`, `n` one of `(int)`, `q` of `(char)`, `r` of `(float)`, `p` of a pointer to `P`,
 // `w` of `(int, ...)`.
-use shared_list::Listing;
 use shared_text::Name;
 use std::alloc::{AllocError, Global};
 use type_data::{
-    Basic, CType, Extent, ItemName, Node, ParamList, Params, Proto, Qual, TagId, TagInfo, TagKind,
-    Tags,
+    Basic, CType, Extent, ItemName, Members, Node, ParamList, Params, Proto, Qual, TagId, TagInfo,
+    TagKind, Tags,
 };
 
 pub fn plain() -> Qual {
@@ -43,7 +42,7 @@ pub fn tag_info(alloc: Global, kind: TagKind, name: &str) -> Result<TagInfo, All
     Ok(TagInfo {
         kind,
         name,
-        members: Some(Listing::from_vec(Vec::new(alloc))),
+        members: Some(Members::from_vec(alloc, Vec::new(alloc))?),
         layout: None,
     })
 }

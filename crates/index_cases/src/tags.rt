@@ -2,10 +2,9 @@
 use crate::notation::{plain, tag, type_named};
 use crate::words::token_named;
 use scope_tables::Export;
-use shared_list::Listing;
 use shared_text::Name;
 use std::alloc::{AllocError, Global};
-use type_data::{Member, Qual, TagInfo, TagKind, Tags, Value};
+use type_data::{Member, Members, Qual, TagInfo, TagKind, Tags, Value};
 
 /// A tag: its letter, and what was told of it.
 #[derive(Drop)]
@@ -110,11 +109,16 @@ pub fn add_member(alloc: Global, tags: &mut Vec<DraftTag>, words: &str) -> Resul
     Ok(())
 }
 
-fn members_if(complete: bool, members: Vec<Member>) -> Option<Listing<Member>> {
+fn members_if(
+    alloc: Global,
+    complete: bool,
+    members: Vec<Member>,
+) -> Result<Option<Members>, AllocError> {
     if !complete {
-        return None;
+        return Ok(None);
     }
-    Some(Listing::from_vec(members))
+    let members = Members::from_vec(alloc, members)?;
+    Ok(Some(members))
 }
 
 fn settle_tag(alloc: Global, tags: &mut Tags, draft: DraftTag) -> Result<(), AllocError> {
@@ -129,7 +133,7 @@ fn settle_tag(alloc: Global, tags: &mut Tags, draft: DraftTag) -> Result<(), All
     let info = TagInfo {
         kind,
         name,
-        members: members_if(complete, members),
+        members: members_if(alloc, complete, members)?,
         layout: None,
     };
     tags.insert(id, info)

@@ -1,10 +1,9 @@
 // The tags of the cases: a letter, what it names, and its members, each with its type and, of a bit-field, its width; `-` stands for no
 // name.
 use crate::types::{plain, type_named};
-use shared_list::Listing;
 use shared_text::Name;
 use std::alloc::{AllocError, Global};
-use type_data::{ItemName, Member, TagId, TagInfo, TagKind, Tags};
+use type_data::{ItemName, Member, Members, TagId, TagInfo, TagKind, Tags};
 
 const TAGS: &str = "\
 A struct p:i -:O c:i
@@ -89,10 +88,11 @@ pub fn info(
     members: Vec<Member>,
 ) -> Result<TagInfo, AllocError> {
     let name = named(alloc, name)?;
+    let members = Members::from_vec(alloc, members)?;
     Ok(TagInfo {
         kind,
         name,
-        members: Some(Listing::from_vec(members)),
+        members: Some(members),
         layout: None,
     })
 }

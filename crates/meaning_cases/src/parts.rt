@@ -8,11 +8,20 @@ use shared_list::Listing;
 use shared_text::Name;
 use std::alloc::{AllocError, Global};
 use tok_data::TokId;
-use type_data::{CType, Fault, ItemName, TagId, TagInfo, TagKind};
+use type_data::{CType, Fault, ItemName, Members, TagId, TagInfo, TagKind};
 use unit_items::Item;
 
 fn none<T>(alloc: Global) -> Listing<T> {
     Listing::from_vec(Vec::new(alloc))
+}
+
+// The list of members of a tag, which has none, where it is complete.
+fn members_if(alloc: Global, complete: bool) -> Result<Option<Members>, AllocError> {
+    if !complete {
+        return Ok(None);
+    }
+    let members = Members::from_vec(alloc, Vec::new(alloc))?;
+    Ok(Some(members))
 }
 
 fn anchor(alloc: Global, items: &[Item], word: &str) -> Result<Option<Anchor>, AllocError> {
@@ -118,7 +127,10 @@ impl Part {
             drop(anchor);
             return Err(AllocError);
         };
-        let members = if complete { Some(none(alloc)) } else { None };
+        let Ok(members) = members_if(alloc, complete) else {
+            drop(anchor);
+            return Err(AllocError);
+        };
         let info = TagInfo {
             kind: TagKind::Struct,
             name: Some(known),

@@ -39,7 +39,8 @@ impl EntityKind {
 }
 
 impl Entity {
-    /// The same entity, whose names and types are shared. Its cost is linear in the number of a tag's members.
+    /// The same entity, whose names and types and a tag's members are shared. It takes no memory, but may be refused where one of
+    /// them is shared 2^64 times.
     pub fn share(&self, alloc: Global) -> Result<Entity, AllocError>
         ensures { IfOk result (λ copy. copy ≡ self.now) }
     {

@@ -1,9 +1,10 @@
 // Members, tags and the wanted layout of a line: what a call on layouts reads beside types.
 use fault_texts::message;
-use shared_list::Listing;
 use shared_text::Name;
 use std::alloc::{AllocError, Global};
-use type_data::{CType, Fault, ItemName, Layout, Member, Qual, TagId, TagInfo, TagKind, Tags};
+use type_data::{
+    CType, Fault, ItemName, Layout, Member, Members, Qual, TagId, TagInfo, TagKind, Tags,
+};
 use type_print::print;
 use type_rel::{layout, size_align};
 
@@ -52,12 +53,15 @@ fn pair_named(word: &str) -> Option<(u64, u64)> {
     None
 }
 
-fn layout_of(alloc: Global, pair: Option<(u64, u64)>) -> Option<Layout> {
-    let (size, align) = pair?;
+fn layout_of(alloc: Global, pair: Option<(u64, u64)>) -> Result<Option<Layout>, AllocError> {
+    let Some((size, align)) = pair else {
+        return Ok(None);
+    };
     if size <= MOST && 1 <= align {
-        return Some(Layout::new(size, align, Vec::new(alloc)));
+        let layout = Layout::new(alloc, size, align, Vec::new(alloc))?;
+        return Ok(Some(layout));
     }
-    None
+    Ok(None)
 }
 
 impl Laying {
@@ -113,7 +117,7 @@ impl Laying {
             return Ok(false);
         };
         let members = if complete {
-            Some(Listing::from_vec(Vec::new(alloc)))
+            Some(Members::from_vec(alloc, Vec::new(alloc))?)
         } else {
             None
         };
@@ -121,7 +125,7 @@ impl Laying {
             kind: kind_named(kind),
             name: None,
             members,
-            layout: layout_of(alloc, pair_named(pair)),
+            layout: layout_of(alloc, pair_named(pair))?,
         };
         let id = tag(alloc, number)?;
         self.tags.insert(id, info)?;

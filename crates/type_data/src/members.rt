@@ -2,9 +2,9 @@
 use crate::layouts::Layout;
 use crate::names::TagId;
 use crate::qualifiers::Qual;
+use crate::shared::Members;
 use crate::types::CType;
 use crate::values::Value;
-use shared_list::Listing;
 use shared_text::Name;
 
 /// A member of a structure or union, or an enumerator.
@@ -37,7 +37,7 @@ pub struct TagInfo {
     pub kind: TagKind,
     pub name: Option<Name>,
     /// The members, where it is complete.
-    pub members: Option<Listing<Member>>,
+    pub members: Option<Members>,
     pub layout: Option<Layout>,
 }
 

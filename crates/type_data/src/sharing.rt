@@ -2,7 +2,6 @@
 ghost use Rattle.std.specs.Prelude.{◌≡◌, IfOk};
 
 use crate::judged::{Fault, Judged};
-use crate::layouts::Layout;
 use crate::members::{Member, TagInfo};
 use crate::names::TagId;
 use crate::types::CType;
@@ -34,17 +33,6 @@ fn share_tag(tag: &Option<TagId>) -> Result<Option<TagId>, AllocError>
     }
 }
 
-fn share_members(alloc: Global, members: &[Member]) -> Result<Listing<Member>, AllocError>
-    ensures { IfOk result (λ copy. copy ≡ members.now) }
-{
-    let mut copies = Vec::new(alloc);
-    for member in members {
-        let copy = member.share()?;
-        copies.push(copy)?;
-    }
-    Ok(Listing::from_vec(copies))
-}
-
 fn share_names(alloc: Global, names: &[Name]) -> Result<Listing<Name>, AllocError>
     ensures { IfOk result (λ copy. copy ≡ names.now) }
 {
@@ -65,16 +53,6 @@ fn share_types(alloc: Global, types: &[CType]) -> Result<Listing<CType>, AllocEr
         copies.push(copy)?;
     }
     Ok(Listing::from_vec(copies))
-}
-
-impl Layout {
-    /// The same layout. Its cost is linear in the number of members.
-    pub fn copy(&self, alloc: Global) -> Result<Layout, AllocError>
-        ensures { IfOk result (λ copy. copy ≡ self.now) }
-    {
-        let offsets = Vec::from_slice(alloc, self.offsets())?;
-        Ok(Layout::new(self.size(), self.align(), offsets))
-    }
 }
 
 impl Member {
@@ -99,17 +77,18 @@ impl Member {
 }
 
 impl TagInfo {
-    /// The same of a tag, whose names and types are shared. Its cost is linear in the number of members.
-    pub fn share(&self, alloc: Global) -> Result<TagInfo, AllocError>
+    /// The same of a tag, whose name, members and layout are shared. It takes no memory, but may be refused where one of them is
+    /// shared 2^64 times.
+    pub fn share(&self, _alloc: Global) -> Result<TagInfo, AllocError>
         ensures { IfOk result (λ copy. copy ≡ self.now) }
     {
         let name = share_name(&self.name)?;
         let members = match &self.members {
-            Some(members) => Some(share_members(alloc, members.as_slice())?),
+            Some(members) => Some(members.share()?),
             None => None,
         };
         let layout = match &self.layout {
-            Some(layout) => Some(layout.copy(alloc)?),
+            Some(layout) => Some(layout.copy()?),
             None => None,
         };
         Ok(TagInfo {

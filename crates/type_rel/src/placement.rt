@@ -178,16 +178,22 @@ fn laid(
 }
 
 #[tactic(auto, unfolding(crate::specs::Layout::ended))]
-fn ended(offsets: Vec<u64>, at: u64, align: u64) -> Option<Layout>
+fn ended(
+    alloc: Global,
+    offsets: Vec<u64>,
+    at: u64,
+    align: u64,
+) -> Result<Option<Layout>, AllocError>
     requires near { at ≤ 9223372036854775800 }
     requires some { 1 ≤ align }
-    ensures { result ≡ spec.ended offsets.items at align }
+    ensures { IfOk result (λ l. l ≡ spec.ended offsets.items at align) }
 {
     let end = rounded(at as u128, 8 * align as u128);
     if end <= MOST_BITS {
-        return Some(Layout::new((end / 8) as u64, align, offsets));
+        let layout = Layout::new(alloc, (end / 8) as u64, align, offsets)?;
+        return Ok(Some(layout));
     }
-    None
+    Ok(None)
 }
 
 fn is_union(kind: TagKind) -> bool
@@ -226,5 +232,5 @@ pub fn layout(
         at = step.at;
         align = step.align;
     }
-    Ok(ended(offsets, at, align))
+    ended(alloc, offsets, at, align)
 }
