@@ -9,10 +9,13 @@ pub mod LookLemmas
 pub mod MatchLemmas
 pub mod MemberLemmas
 pub mod NeedLemmas
+pub mod NewsLemmas
 pub mod OrderLemmas
 pub mod PlaceLemmas
 pub mod PlacingLemmas
+pub mod RenewLemmas
 pub mod SharedLemmas
+pub mod ShiftLemmas
 pub mod SightLemmas
 pub mod SymbolLemmas
 pub mod UnderLemmas

@@ -14,7 +14,7 @@ both : (a b : Bool) → (a && b) ≡ true → (a ≡ true) × (b ≡ true)
 both true b e = (refl, e)
 both false b e = absurd (true≢false (sym e))
 
-one_seen : (a b : Export) → same_seen a b ≡ true → seen a ≡ seen b
+pub one_seen : (a b : Export) → same_seen a b ≡ true → seen a ≡ seen b
 one_seen a b e =
     let parts = both (bytes_eq a.name b.name) (same_type a.ty b.ty && beq (is_some a.defined) (is_some b.defined)) e in
     let more = both (same_type a.ty b.ty) (beq (is_some a.defined) (is_some b.defined)) parts.1 in

@@ -17,10 +17,12 @@ pub mod Known
 pub mod Matching
 pub mod Members
 pub mod Needs
+pub mod News
 pub mod Occurrences
 pub mod Pairs
 pub mod Places
 pub mod References
+pub mod Renewed
 pub mod Seen
 pub mod Sets
 pub mod Shared
@@ -28,4 +30,5 @@ pub mod Speaking
 pub mod Symbols
 pub mod Tokens
 pub mod Under
+pub mod Unlike
 pub mod Walks

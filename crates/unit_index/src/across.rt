@@ -9,10 +9,14 @@ use uri_paths::Path;
 
 mod crossings;
 mod faults;
+mod news;
 mod placing;
+mod renewing;
 mod sights;
 
+pub use news::News;
 pub use placing::faults_placed;
+pub use renewing::crossings_after;
 pub use sights::same_sight;
 
 /// What a unit shows to the others, lent with its path.

@@ -68,8 +68,8 @@ fn add<'a>(
     Ok(())
 }
 
-// The first one of its name stays.
-fn note<'a>(
+/// A name, where it is the first one of that name.
+pub(crate) fn note<'a>(
     names: &mut HashMap<Name, Exporter<'a>>,
     does: Does,
     path: &'a Path,

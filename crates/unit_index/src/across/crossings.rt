@@ -32,7 +32,12 @@ fn name_in(names: &[Export], nth: u64) -> Option<&Export>
     names.get(nth as usize)
 }
 
-fn push(out: &mut Vec<Crossing>, nth: u64, wrong: Wrong, text: Name) -> Result<(), AllocError>
+pub(super) fn push(
+    out: &mut Vec<Crossing>,
+    nth: u64,
+    wrong: Wrong,
+    text: Name,
+) -> Result<(), AllocError>
     ensures { OnOk result (out.new.items ≡ out.old.items ++ spec.crossing nth wrong text ∷ []) }
 {
     out.push(Crossing { nth, wrong, text })?;
@@ -57,7 +62,7 @@ fn add_differs(
     Ok(())
 }
 
-fn add_typed(
+pub(super) fn add_typed(
     alloc: Global,
     out: &mut Vec<Crossing>,
     first: Option<Exporter<'_>>,
@@ -95,7 +100,7 @@ fn add_twice(
     Ok(())
 }
 
-fn add_defined(
+pub(super) fn add_defined(
     alloc: Global,
     out: &mut Vec<Crossing>,
     first: Option<Exporter<'_>>,

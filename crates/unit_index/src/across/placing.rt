@@ -76,7 +76,7 @@ fn add_all_placed(
     Ok(())
 }
 
-fn crossings_in(crossings: &[Crossings], place: u64) -> Option<&[Crossing]>
+pub(super) fn crossings_in(crossings: &[Crossings], place: u64) -> Option<&[Crossing]>
     ensures { option_map (λ cs. cs.now) result ≡ slice_get crossings.now place }
 {
     match crossings.get(place as usize) {

@@ -5,8 +5,8 @@ ghost use Rattle.unit_index.specs.Crossing.{same_seen, sight};
 
 use scope_tables::{Export, Exports};
 
-// The same is seen of two names.
-fn is_seen_as(a: &Export, b: &Export) -> bool
+/// The same is seen of two names.
+pub(super) fn is_seen_as(a: &Export, b: &Export) -> bool
     ensures { result ≡ same_seen a.now b.now }
 {
     a.name == b.name && a.ty == b.ty && a.defined.is_some() == b.defined.is_some()
