@@ -1,5 +1,5 @@
 -- What becomes of a unit that was kept: it stays as it is where its grounds hold, and else it is worked out again.
-use Rattle.std.specs.Prelude.{◌≡◌, ◌&&◌, ℕ, Bool, true, false, List, [], ◌∷◌, bytes_eq, Option, Some, None, if◌then◌else◌}
+use Rattle.std.specs.Prelude.{◌≡◌, ◌&&◌, ℕ, Bool, true, false, List, [], ◌∷◌, ◌++◌, map, bytes_eq, Option, Some, None, if◌then◌else◌}
 use Rattle.std.specs.BTreeMap.{get}
 use Rattle.std.specs.Cmp.Lexicographic.{slice_cmp}
 use Rattle.std.specs.List.{list_any}
@@ -10,8 +10,12 @@ use Rattle.project_conf.specs.declared.conf.Conf.{Conf}
 use Rattle.plain_mean.specs.Renewed.{IsGrounds, are_gone}
 use Rattle.plain_mean.specs.declared.types.Grounds.{Grounds}
 use Rattle.unit_index.specs.Known.{Known}
-use Rattle.unit_index.specs.Crossing.{sight}
-use Rattle.c_session.specs.Units.{exported, known_unit}
+use Rattle.unit_index.specs.Crossing.{Sight, sight}
+use Rattle.unit_index.specs.News.{AreNews}
+use Rattle.unit_index.specs.declared.across.news.News.{News}
+use Rattle.c_session.specs.Units.{exported, known_unit, sights}
+use Rattle.c_session.specs.declared.held.Earlier.{Earlier}
+use Rattle.c_session.specs.declared.held.Earlier.TheVariants.{Same, Other, Nothing}
 use Rattle.c_session.specs.declared.held.HeldUnit.{HeldUnit}
 use Rattle.c_session.specs.declared.held.Waiting.{Waiting}
 
@@ -73,15 +77,27 @@ module _ (held : List ℕ → Option HeldUnit) (prior : Prior) (now : Texts) (co
   RestOn (p ∷ ps) [] = ⊥
   RestOn (p ∷ ps) (g ∷ gs) = RestsOn (held p) prior now conf p g × RestOn ps gs
 
--- ---- what the others see of it
+-- ---- what the others saw of it
 
--- they see of a unit what they saw
-abbrev pub IsSeenAs : Option HeldUnit → Known → Type 0
-IsSeenAs None u = ⊥
-IsSeenAs (Some held) u = sight (exported u) ≡ sight (exported held.unit)
+abbrev pub sight_of : Option HeldUnit → Option Sight
+sight_of None = None
+sight_of (Some held) = Some (sight (exported held.unit))
 
-abbrev pub AreSeenAs : (List ℕ → Option HeldUnit) → List (List ℕ) → List Known → Type 0
-AreSeenAs held [] [] = Unit {0}
-AreSeenAs held [] (u ∷ us) = ⊥
-AreSeenAs held (p ∷ ps) [] = ⊥
-AreSeenAs held (p ∷ ps) (u ∷ us) = IsSeenAs (held p) u × AreSeenAs held ps us
+-- the same of what is known of a unit besides what it is now
+abbrev pub seen_before : Earlier → Known → Option Sight
+seen_before Same u = Some (sight (exported u))
+seen_before (Other was) u = Some (sight (record { path = u.path; exports = was.meaning.exports }))
+seen_before Nothing u = None
+
+-- the news of a unit more, which was there before as all others
+pub record HasMore (has_new : Bool) (before : News) (saw : Option Sight) (sees : Sight) (now : News) : Type 0 where
+  pub old : has_new ≡ false
+  pub was : Sight
+  pub seen : saw ≡ Some was
+  pub more : (ss ts : List Sight) → AreNews ss ts before → AreNews (ss ++ was ∷ []) (ts ++ sees ∷ []) now
+
+-- all units were there before, and these are the news of them
+pub record HaveNews (held : List ℕ → Option HeldUnit) (paths : List (List ℕ)) (us : List Known) (news : News) : Type 0 where
+  pub saw : List Sight
+  pub seen : map (λ p. sight_of (held p)) paths ≡ map Some saw
+  pub are : AreNews saw (sights us) news

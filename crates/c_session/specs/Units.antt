@@ -1,5 +1,5 @@
 -- All units of the texts, as the questions see them, and the warnings across them.
-use Rattle.std.specs.Prelude.{ℕ, List, map, flat_map}
+use Rattle.std.specs.Prelude.{◌≡◌, ℕ, List, map, flat_map}
 use Rattle.doc_texts.specs.Texts.{Texts}
 use Rattle.project_conf.specs.declared.conf.Conf.{Conf}
 use Rattle.plain_mean.specs.Meanings.{meaning}
@@ -12,6 +12,8 @@ use Rattle.unit_index.specs.declared.crossing.Crossing.{Crossing}
 use Rattle.unit_index.specs.Exported.{Shown as Exported}
 use Rattle.unit_index.specs.Known.{Known}
 use Rattle.unit_index.specs.Matching.{matched}
+use Rattle.unit_index.specs.News.{AreNews}
+use Rattle.unit_index.specs.declared.across.news.News.{News}
 
 abbrev pub known_as : List ℕ → UnitMeaning → Known
 known_as path m = record { path = path; reads = m.reads; meaning = m.meaning }
@@ -47,3 +49,9 @@ sights us = map (λ u. sight (exported u)) us
 -- the warnings across these units, of each, without their tokens
 unfoldable pub crossed : List Known → List (List Crossing)
 crossed us = all_crossings matched (map sight (map exported us))
+
+-- they were those of what these units showed before, by the news of them
+pub record WereCrossed (kept : List (List Crossing)) (news : News) (us : List Known) : Type 0 where
+  pub saw : List Sight
+  pub are : AreNews saw (sights us) news
+  pub crossings : kept ≡ all_crossings matched saw

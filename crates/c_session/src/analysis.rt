@@ -1,5 +1,5 @@
 // What all units of the texts come to, and what is kept of them, so that a question works out nothing and a message only the units that it touches.
-ghost use Rattle.std.specs.Prelude.{◌≡◌, ◌+◌, ◌++◌, ◌&&◌, ℕ, List, None, Some, bytes_eq, length, IfOk, IfSome, OnOk, if◌then◌else◌};
+ghost use Rattle.std.specs.Prelude.{◌≡◌, ◌+◌, ◌++◌, ◌&&◌, not, ℕ, List, None, Some, bytes_eq, length, IfOk, IfSome, OnOk, if◌then◌else◌};
 ghost use Rattle.doc_texts.specs.Texts.{Texts, texts_under};
 ghost use Rattle.plain_mean.specs.Confs.{IsUsable};
 ghost use Rattle.plain_mean.specs.Given.{text_in};
@@ -12,10 +12,10 @@ ghost use Rattle.project_conf.specs.declared.conf.Conf.{Conf as Read};
 ghost use Rattle.c_session.specs.Kept.{HasLexed, IsAnalysis};
 ghost use Rattle.c_session.specs.Renewal.{held_at, held_of, stand_at};
 ghost use Rattle.c_session.specs.Ties.News.{IsPrior};
-ghost use Rattle.c_session.specs.Units.{all_reads, crossed, cross_faults, own_faults};
+ghost use Rattle.c_session.specs.Units.{WereCrossed, all_reads, crossed, cross_faults, own_faults};
 
 use crate::cross::crossings_now;
-use crate::held::{Standing, Waiting, both};
+use crate::held::{Standing, Waiting};
 use crate::news::prior_of;
 use crate::renewal::units_now;
 use crate::showing::shown_of;
@@ -125,11 +125,11 @@ fn stand_at(units: &[IndexedUnit], paths: &[Path]) -> bool
     others.is_empty()
 }
 
-// What is kept of the warnings, where the units are the same and are seen as before.
-fn across_where(same: bool, seen: bool, across: Vec<Crossings>) -> Option<Vec<Crossings>>
-    ensures { result ≡ (if same && seen then Some across else None) }
+// What is kept of the warnings, where the units are those of before.
+fn across_where(same: bool, has_new: bool, across: Vec<Crossings>) -> Option<Vec<Crossings>>
+    ensures { result ≡ (if same && not has_new then Some across else None) }
 {
-    if both(same, seen) { Some(across) } else { None }
+    if same && !has_new { Some(across) } else { None }
 }
 
 // What these units come to, which are all units of the texts.
@@ -139,8 +139,8 @@ fn standing_as(
     kept: Option<Vec<Crossings>>,
     lexings: Lexings<'_>,
 ) -> Result<Analysis, AllocError>
-    ensures across { IfOk result (λ a. IfSome kept (λ k. k.items ≡ crossed standing.units.items) → a.across.items ≡ crossed standing.units.items) }
-    ensures shown { IfOk result (λ a. IfSome kept (λ k. k.items ≡ crossed standing.units.items) → (path : List ℕ) → shown_in a.shown path ≡ shown_by lexings.entry (own_faults standing.units.items ++ cross_faults standing.units.items) (all_reads standing.units.items) path) }
+    ensures across { IfOk result (λ a. IfSome kept (λ k. WereCrossed k.items standing.news standing.units.items) → a.across.items ≡ crossed standing.units.items) }
+    ensures shown { IfOk result (λ a. IfSome kept (λ k. WereCrossed k.items standing.news standing.units.items) → (path : List ℕ) → shown_in a.shown path ≡ shown_by lexings.entry (own_faults standing.units.items ++ cross_faults standing.units.items) (all_reads standing.units.items) path) }
     ensures within { IfOk result (λ a. (path : List ℕ) → AreWithin (length (text_in lexings.entry path)) (shown_in a.shown path)) }
     ensures units { IfOk result (λ a. a.units.items ≡ standing.units.items) }
     ensures grounds { IfOk result (λ a. a.grounds.items ≡ standing.grounds.items) }
@@ -148,12 +148,13 @@ fn standing_as(
 {
     let mut lexings = lexings;
     let made = standing.units.as_slice();
-    let across = crossings_now(alloc, kept, made)?;
+    let across = crossings_now(alloc, kept, &standing.news, made)?;
     let shown = shown_of(alloc, &mut lexings, made, across.as_slice())?;
     let Standing {
         units,
         grounds,
-        seen_as_before: _,
+        news: _,
+        has_new: _,
     } = standing;
     Ok(Analysis {
         alloc,
@@ -208,7 +209,7 @@ pub(crate) fn renewed<L: Ledger>(
         all,
         steps,
     )?;
-    let stays = across_where(same, standing.seen_as_before, across);
+    let stays = across_where(same, standing.has_new, across);
     let analysis = standing_as(alloc, standing, stays, lexings)?;
     Ok(Renewal {
         analysis,

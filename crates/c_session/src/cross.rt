@@ -1,10 +1,12 @@
 // The warnings across units.
 ghost use Rattle.std.specs.Prelude.{◌≡◌, map, IfOk, IfSome};
-ghost use Rattle.c_session.specs.Units.{crossed, cross_faults, exported};
+ghost use Rattle.c_session.specs.Units.{WereCrossed, crossed, cross_faults, exported};
 
 use std::alloc::{AllocError, Global};
 use tok_data::ShownFault;
-use unit_index::{Crossings, Index, IndexedUnit, UnitExports, faults_placed};
+use unit_index::{
+    Crossings, Index, IndexedUnit, News, UnitExports, crossings_after, faults_placed,
+};
 
 // What each of the units shows to the others.
 fn exported(alloc: Global, units: &[IndexedUnit]) -> Result<Vec<UnitExports<'_>>, AllocError>
@@ -30,17 +32,40 @@ fn crossings_of(alloc: Global, units: &[IndexedUnit]) -> Result<Vec<Crossings>, 
     Ok(all)
 }
 
-/// The warnings across units, which stand in order of path, without their tokens: those that were kept, where these may stay. Else their cost is linear in
-/// the number of names that the units show to one another, and for each name of a later unit in the types that it leads to.
+// The same from what was kept of the units, by what they show otherwise than before.
+#[tactic(auto, unfolding(crate::specs::Units::crossed))]
+fn crossings_by(
+    alloc: Global,
+    kept: Vec<Crossings>,
+    news: &News,
+    units: &[IndexedUnit],
+) -> Result<Vec<Crossings>, AllocError>
+    ensures { IfOk result (λ v. WereCrossed kept.items news.now units.now → v.items ≡ crossed units.now) }
+{
+    if news.is_none() {
+        return Ok(kept);
+    }
+    let exports = exported(alloc, units)?;
+    let renewed = crossings_after(alloc, exports.as_slice(), kept.as_slice(), news)?;
+    Ok(renewed)
+}
+
+/// The warnings across units, which stand in order of path, without their tokens: where some were kept, these, anew on the names that the
+/// news are about. The cost is linear in the number of names that the units show to one another, but for units that show what they showed;
+/// and in the types that names lead to, those that the news are about, or without what was kept all names of later units.
 pub(crate) fn crossings_now(
     alloc: Global,
     kept: Option<Vec<Crossings>>,
+    news: &News,
     units: &[IndexedUnit],
 ) -> Result<Vec<Crossings>, AllocError>
-    ensures { IfOk result (λ v. IfSome kept (λ k. k.items ≡ crossed units.now) → v.items ≡ crossed units.now) }
+    ensures { IfOk result (λ v. IfSome kept (λ k. WereCrossed k.items news.now units.now) → v.items ≡ crossed units.now) }
 {
     match kept {
-        Some(kept) => Ok(kept),
+        Some(kept) => {
+            let renewed = crossings_by(alloc, kept, news, units)?;
+            Ok(renewed)
+        }
         None => {
             let anew = crossings_of(alloc, units)?;
             Ok(anew)

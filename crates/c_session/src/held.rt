@@ -1,11 +1,14 @@
 // Units that were kept, by path, until it is known which of them stay.
-ghost use Rattle.std.specs.Prelude.{◌≡◌, ◌++◌, ◌∷◌, ◌&&◌, [], true, false, ℕ, List, Some, None, bytes_eq, IfOk, OnOk, if◌then◌else◌};
-ghost use Rattle.c_session.specs.Renewal.{held_as, held_at, held_of};
+ghost use Rattle.std.specs.Prelude.{◌≡◌, ◌++◌, ◌∷◌, [], false, ℕ, List, Some, None, bytes_eq, IfOk, OnOk, if◌then◌else◌};
+ghost use Rattle.c_session.specs.Renewal.{HasMore, held_as, held_at, held_of, seen_before};
+ghost use Rattle.c_session.specs.Units.{exported};
+ghost use Rattle.unit_index.specs.Crossing.{sight};
+ghost use Rattle.unit_index.specs.News.{AreNews};
 
 use plain_mean::Grounds;
 use std::alloc::{AllocError, Global};
 use std::collections::BTreeMap;
-use unit_index::IndexedUnit;
+use unit_index::{IndexedUnit, News};
 use uri_paths::Path;
 
 /// What a unit means, with an index, and on what that rests.
@@ -15,11 +18,22 @@ pub(crate) struct HeldUnit {
     pub grounds: Grounds,
 }
 
-/// What a unit means now, and whether the other units see of it what they saw.
+/// What a unit was before.
+#[derive(Drop)]
+pub(crate) enum Earlier {
+    /// What it is now.
+    Same,
+    /// This, at the same path.
+    Other(IndexedUnit),
+    /// None, or one that isn't known.
+    Nothing,
+}
+
+/// What a unit means now, and what it was before.
 #[derive(Drop)]
 pub(crate) struct RenewedUnit {
     pub held: HeldUnit,
-    pub seen_as_before: bool,
+    pub earlier: Earlier,
 }
 
 /// Units that were kept and aren't taken yet, by path.
@@ -67,19 +81,14 @@ impl Waiting {
     }
 }
 
-pub(crate) fn both(a: bool, b: bool) -> bool
-    ensures { result ≡ (a && b) }
-{
-    a && b
-}
-
 /// Units, and on what each rests, one behind the other.
 #[derive(Drop)]
 pub(crate) struct Standing {
     pub units: Vec<IndexedUnit>,
     pub grounds: Vec<Grounds>,
-    /// The other units see of each what they saw.
-    pub seen_as_before: bool,
+    /// What these show otherwise than before, where each was there before.
+    pub news: News,
+    pub has_new: bool,
 }
 
 impl Standing {
@@ -87,28 +96,49 @@ impl Standing {
     pub fn new(alloc: Global) -> Standing
         ensures units { result.units.items ≡ [] }
         ensures grounds { result.grounds.items ≡ [] }
-        ensures seen { result.seen_as_before ≡ true }
+        ensures news { AreNews [] [] result.news }
     {
         Standing {
             units: Vec::new(alloc),
             grounds: Vec::new(alloc),
-            seen_as_before: true,
+            news: News::new(alloc),
+            has_new: false,
+        }
+    }
+
+    fn note(&mut self, earlier: &Earlier, unit: &IndexedUnit) -> Result<(), AllocError>
+        ensures units { OnOk result (self.new.units ≡ self.old.units) }
+        ensures grounds { OnOk result (self.new.grounds ≡ self.old.grounds) }
+        ensures seen { OnOk result (self.new.has_new ≡ false → HasMore self.old.has_new self.old.news (seen_before earlier.now unit.now) (sight (exported unit.now)) self.new.news) }
+    {
+        match earlier {
+            Earlier::Same => {
+                self.news.same()?;
+                Ok(())
+            }
+            Earlier::Other(was) => {
+                let before = was.meaning();
+                let now = unit.meaning();
+                self.news.changed(&before.exports, &now.exports)?;
+                Ok(())
+            }
+            Earlier::Nothing => {
+                self.has_new = true;
+                Ok(())
+            }
         }
     }
 
     pub fn push(&mut self, renewed: RenewedUnit) -> Result<(), AllocError>
         ensures units { OnOk result (self.new.units.items ≡ self.old.units.items ++ renewed.held.unit ∷ []) }
         ensures grounds { OnOk result (self.new.grounds.items ≡ self.old.grounds.items ++ renewed.held.grounds ∷ []) }
-        ensures seen { OnOk result (self.new.seen_as_before ≡ (self.old.seen_as_before && renewed.seen_as_before)) }
+        ensures seen { OnOk result (self.new.has_new ≡ false → HasMore self.old.has_new self.old.news (seen_before renewed.earlier renewed.held.unit) (sight (exported renewed.held.unit)) self.new.news) }
     {
-        let RenewedUnit {
-            held,
-            seen_as_before,
-        } = renewed;
+        let RenewedUnit { held, earlier } = renewed;
         let HeldUnit { unit, grounds } = held;
+        self.note(&earlier, &unit)?;
         self.units.push(unit)?;
         self.grounds.push(grounds)?;
-        self.seen_as_before = both(self.seen_as_before, seen_as_before);
         Ok(())
     }
 }

@@ -1,17 +1,17 @@
 // Which of the units that were kept stay, and which are worked out again.
-ghost use Rattle.std.specs.Prelude.{◌≡◌, ◌+◌, true, false, ℕ, List, length, map, bytes_eq, IfOk, OnOk, if◌then◌else◌};
+ghost use Rattle.std.specs.Prelude.{◌≡◌, ◌+◌, false, ℕ, List, Some, length, map, bytes_eq, IfOk, OnOk, if◌then◌else◌};
 ghost use Rattle.std.specs.List.{filter};
 ghost use Rattle.plain_mean.specs.Renewed.{IsGrounds};
-ghost use Rattle.c_session.specs.Renewal.{AreApart, AreSeenAs, IsSeenAs, RestOn, RestsOn, due_at, held_at, is_due, unit_at, unit_by};
+ghost use Rattle.c_session.specs.Renewal.{AreApart, HaveNews, RestOn, RestsOn, due_at, held_at, is_due, seen_before, sight_of, unit_at, unit_by};
 ghost use Rattle.c_session.specs.Units.{exported, known_as, known_unit};
-ghost use Rattle.unit_index.specs.Crossing.{sight};
+ghost use Rattle.unit_index.specs.Crossing.{Sight, sight};
 
-use crate::held::{HeldUnit, RenewedUnit, Standing, Waiting};
+use crate::held::{Earlier, HeldUnit, RenewedUnit, Standing, Waiting};
 use plain_mean::{Changes, Lexings, Meant, Reading, UnitMeaning, mean};
 use std::alloc::{AllocError, Global};
 use std::sync::ledger::Ledger;
 use steps::Steps;
-use unit_index::{IndexedUnit, same_sight};
+use unit_index::IndexedUnit;
 use uri_paths::Path;
 
 fn held_as(alloc: Global, path: &Path, meant: Meant) -> Result<HeldUnit, AllocError>
@@ -52,17 +52,15 @@ fn same_path(a: &IndexedUnit, b: &IndexedUnit) -> bool
     a.path().as_str() == b.path().as_str()
 }
 
-// The other units see of a unit what they saw of it.
-fn is_seen_as(before: &IndexedUnit, after: &IndexedUnit) -> bool
-    ensures { result ≡ true → sight (exported after.now) ≡ sight (exported before.now) }
+// What a unit was before, where it stands at the same path.
+fn earlier_as(before: IndexedUnit, now: &IndexedUnit) -> Earlier
+    ensures { (s : Sight) → seen_before result now.now ≡ Some s → s ≡ sight (exported before) }
 {
-    let at = same_path(after, before);
+    let at = same_path(now, &before);
     if at {
-        let later = after.meaning();
-        let earlier = before.meaning();
-        return same_sight(&later.exports, &earlier.exports);
+        return Earlier::Other(before);
     }
-    false
+    Earlier::Nothing
 }
 
 // A unit that was kept: it stays, or is worked out again where its grounds are gone.
@@ -78,7 +76,7 @@ fn kept_or_worked<L: Ledger>(
     requires { lexings.old ≡ changes.old.now }
     ensures unit { IfOk result (λ r. r.held.unit ≡ unit_by (Some held) changes.old.prior changes.old.now reading.now path.now) }
     ensures grounds { IfOk result (λ r. RestsOn (Some held) changes.old.prior changes.old.now reading.now path.now r.held.grounds) }
-    ensures seen { IfOk result (λ r. r.seen_as_before ≡ true → IsSeenAs (Some held) r.held.unit) }
+    ensures seen { IfOk result (λ r. (s : Sight) → seen_before r.earlier r.held.unit ≡ Some s → sight_of (Some held) ≡ Some s) }
     ensures changes { changes.new ≡ changes.old }
     ensures lexings { lexings.new ≡ lexings.old }
     ensures steps { OnOk result (steps.new ≡ steps.old + (if is_due (Some held) changes.old.prior changes.old.now reading.now path.now then 1 else 0)) }
@@ -86,15 +84,16 @@ fn kept_or_worked<L: Ledger>(
     let gone = changes.are_gone(lexings, reading, path, &held.grounds)?;
     if gone {
         let again = worked(alloc, lexings, reading, path, steps)?;
-        let seen_as_before = is_seen_as(&held.unit, &again.unit);
+        let HeldUnit { unit, grounds: _ } = held;
+        let earlier = earlier_as(unit, &again.unit);
         return Ok(RenewedUnit {
             held: again,
-            seen_as_before,
+            earlier,
         });
     }
     Ok(RenewedUnit {
         held,
-        seen_as_before: true,
+        earlier: Earlier::Same,
     })
 }
 
@@ -111,7 +110,7 @@ fn unit_now<L: Ledger>(
     requires { lexings.old ≡ changes.old.now }
     ensures unit { IfOk result (λ r. r.held.unit ≡ unit_by (held_at waiting.old path.now) changes.old.prior changes.old.now reading.now path.now) }
     ensures grounds { IfOk result (λ r. RestsOn (held_at waiting.old path.now) changes.old.prior changes.old.now reading.now path.now r.held.grounds) }
-    ensures seen { IfOk result (λ r. r.seen_as_before ≡ true → IsSeenAs (held_at waiting.old path.now) r.held.unit) }
+    ensures seen { IfOk result (λ r. (s : Sight) → seen_before r.earlier r.held.unit ≡ Some s → sight_of (held_at waiting.old path.now) ≡ Some s) }
     ensures others { (q : List ℕ) → bytes_eq q path.now ≡ false → held_at waiting.new q ≡ held_at waiting.old q }
     ensures changes { changes.new ≡ changes.old }
     ensures lexings { lexings.new ≡ lexings.old }
@@ -127,7 +126,7 @@ fn unit_now<L: Ledger>(
             let first = worked(alloc, lexings, reading, path, steps)?;
             Ok(RenewedUnit {
                 held: first,
-                seen_as_before: false,
+                earlier: Earlier::Nothing,
             })
         }
     }
@@ -148,7 +147,7 @@ pub(crate) fn units_now<L: Ledger>(
     requires apart { AreApart paths.now }
     ensures units { IfOk result (λ s. s.units.items ≡ map (unit_at (held_at waiting.old) changes.old.prior changes.old.now reading.now) paths.now) }
     ensures grounds { IfOk result (λ s. RestOn (held_at waiting.old) changes.old.prior changes.old.now reading.now paths.now s.grounds.items) }
-    ensures seen { IfOk result (λ s. s.seen_as_before ≡ true → AreSeenAs (held_at waiting.old) paths.now s.units.items) }
+    ensures seen { IfOk result (λ s. s.has_new ≡ false → HaveNews (held_at waiting.old) paths.now s.units.items s.news) }
     ensures lexings { lexings.new ≡ lexings.old }
     ensures steps { OnOk result (steps.new ≡ steps.old + length (filter (due_at (held_at waiting.old) changes.old.prior changes.old.now reading.now) paths.now)) }
 {

@@ -17,7 +17,6 @@ mod sights;
 pub use news::News;
 pub use placing::faults_placed;
 pub use renewing::crossings_after;
-pub use sights::same_sight;
 
 /// What a unit shows to the others, lent with its path.
 #[derive(Drop)]

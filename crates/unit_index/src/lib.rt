@@ -25,9 +25,7 @@ mod under;
 mod unit;
 mod walks;
 
-pub use across::{
-    CrossFault, Index, News, UnitExports, crossings_after, faults_placed, same_sight,
-};
+pub use across::{CrossFault, Index, News, UnitExports, crossings_after, faults_placed};
 pub use answers::{Speaker, definition, references, speaking};
 pub use crossing::{Crossing, Crossings, Wrong};
 pub use hover::hover_text;

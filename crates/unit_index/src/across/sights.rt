@@ -32,7 +32,7 @@ fn same_names(a: &[Export], b: &[Export]) -> bool
 
 /// True only where other units see the same of a unit, whichever of these it shows: its names in order, their types, whether it defines
 /// each, and its tags. On which tokens it declares and defines them makes no difference. It costs the names, their types and the tags.
-pub fn same_sight(a: &Exports, b: &Exports) -> bool
+pub(super) fn same_sight(a: &Exports, b: &Exports) -> bool
     ensures { result ≡ true → (path : List ℕ) → sight (record { path = path; exports = a.now }) ≡ sight (record { path = path; exports = b.now }) }
 {
     same_names(a.names.as_slice(), b.names.as_slice()) && a.tags.are_alike(&b.tags)

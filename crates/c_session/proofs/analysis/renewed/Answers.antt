@@ -1,13 +1,14 @@
-use Rattle.std.proofs.Common.{rules, ◌≡◌, ◌+◌, ◌&&◌, true, cond, ℕ, List, None, Some, IfSome, length, map, ap, subst, sym, ◌∙◌}
+use Rattle.std.proofs.Common.{rules, ◌≡◌, ◌+◌, ◌&&◌, false, cond, ℕ, List, None, Some, IfSome, length, map, ap, subst, sym, ◌∙◌}
 use Rattle.std.specs.List.{filter}
+use Rattle.std.specs.Prelude.{not}
 use Rattle.plain_mean.specs.Lexing.{WereLexed}
 use Rattle.plain_mean.specs.Renewed.{IsGrounds}
 use Rattle.plain_mean.specs.Shown.{units}
 use Rattle.plain_mean.specs.declared.lexings.KeptLexings.{KeptLexings}
 use Rattle.plain_mean.specs.declared.types.Grounds.{Grounds}
-use Rattle.c_session.specs.Units.{crossed}
-use Rattle.c_session.proofs.Seeing.{both, crossed_stays, paths_are, where_kept}
-use Rattle.c_session.specs.Renewal.{AreSeenAs, RestOn, due_at, held_at, held_of, stand_at, unit_at}
+use Rattle.c_session.specs.Units.{WereCrossed}
+use Rattle.c_session.proofs.Seeing.{both, is_not, paths_are, were_crossed, where_kept}
+use Rattle.c_session.specs.Renewal.{HaveNews, RestOn, due_at, held_at, held_of, stand_at, unit_at}
 use Rattle.c_session.proofs.Before.{text_before_is}
 use Rattle.c_session.proofs.Holding.{held_was, units_apart}
 use Rattle.c_session.proofs.Renewing.{due_are, grounds_are, stands, units_are}
@@ -38,14 +39,15 @@ returns-clause-analysis g c = λ t read is are.
     let over : c.units_now.new.lexings ≡ c.args.docs.now = search rules in
     let us = c.in_ok-standing.standing.units.items in
     let same : c.stand_at-same.result ≡ stand_at c.args.kept.units.items c.as_slice-all.result.now = search rules in
-    let seen : c.in_ok-standing.standing.seen_as_before ≡ true → AreSeenAs (held_at c.in_ok-shown.waiting) c.as_slice-all.result.now c.in_ok-standing.standing.units.items = search rules in
-    let keeps : c.across_where-stays.result ≡ cond (c.stand_at-same.result && c.in_ok-standing.standing.seen_as_before) (Some c.args.kept.across) None = search rules in
-    let stay : IfSome c.across_where-stays.result (λ k. k.items ≡ crossed c.in_ok-standing.standing.units.items) =
-    where_kept c.across_where-stays.result (c.stand_at-same.result && c.in_ok-standing.standing.seen_as_before) c.args.kept.across (λ k. k.items ≡ crossed us) keeps
+    let seen : c.in_ok-standing.standing.has_new ≡ false → HaveNews (held_at c.in_ok-shown.waiting) c.as_slice-all.result.now c.in_ok-standing.standing.units.items c.in_ok-standing.standing.news = search rules in
+    let keeps : c.across_where-stays.result ≡ cond (c.stand_at-same.result && not c.in_ok-standing.standing.has_new) (Some c.args.kept.across) None = search rules in
+    let stay : IfSome c.across_where-stays.result (λ k. WereCrossed k.items c.in_ok-standing.standing.news c.in_ok-standing.standing.units.items) =
+    where_kept c.across_where-stays.result (c.stand_at-same.result && not c.in_ok-standing.standing.has_new) c.args.kept.across (λ k. WereCrossed k.items c.in_ok-standing.standing.news us) keeps
     (λ on.
-    let parts = both c.stand_at-same.result c.in_ok-standing.standing.seen_as_before on in
+    let parts = both c.stand_at-same.result (not c.in_ok-standing.standing.has_new) on in
     let at = paths_are c.args.kept.units.items c.as_slice-all.result.now (sym same ∙ parts.0) in
-    are.across ∙ sym (crossed_stays t read held were c.as_slice-all.result.now c.args.kept.units.items us are.units at (seen parts.1))) in
+    were_crossed t read held were c.as_slice-all.result.now c.args.kept.units.items us c.in_ok-standing.standing.news c.args.kept.across.items are.units at
+    (seen (is_not c.in_ok-standing.standing.has_new parts.1)) are.across) in
     stands c.units_now.new.lexings docs conf c.in_ok-analysis.analysis c.in_ok-standing.standing.units.items c.in_ok-standing.standing.grounds.items over
     c.in_ok-analysis.ensures.units c.in_ok-analysis.ensures.grounds
     (made ∙ units_are t docs prior read conf stays rests holds held were c.as_slice-all.result.now paths)

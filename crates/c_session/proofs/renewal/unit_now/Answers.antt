@@ -1,5 +1,5 @@
-use Rattle.std.proofs.Common.{Option, sym, subst, true≢false, ◌∙◌}
-use Rattle.c_session.specs.Renewal.{IsSeenAs, RestsOn}
+use Rattle.std.proofs.Common.{◌≡◌, Option, Some, sym, subst, ◌∙◌}
+use Rattle.c_session.specs.Renewal.{RestsOn, sight_of}
 use Rattle.c_session.specs.declared.held.HeldUnit.{HeldUnit}
 use Rattle.c_session.proofs.renewal.unit_now.Goals as goal
 
@@ -9,8 +9,8 @@ returns-in_ok-stays-in-Some-clause-grounds g c =
     (sym c.in-Some.is ∙ c.take-kept.ensures.taken) c.in_ok-stays-in-Some.ensures.grounds
 
 pub returns-in_ok-stays-in-Some-clause-seen : goal.returns-in_ok-stays-in-Some-clause-seen
-returns-in_ok-stays-in-Some-clause-seen g c = λ yes.
-    subst (λ (h : Option HeldUnit). IsSeenAs h c.in_ok-stays-in-Some.stays.held.unit) (sym c.in-Some.is ∙ c.take-kept.ensures.taken) (c.in_ok-stays-in-Some.ensures.seen yes)
+returns-in_ok-stays-in-Some-clause-seen g c = λ s saw.
+    subst (λ (h : Option HeldUnit). sight_of h ≡ Some s) (sym c.in-Some.is ∙ c.take-kept.ensures.taken) (c.in_ok-stays-in-Some.ensures.seen s saw)
 
 pub returns-in_ok-first-in-None-clause-seen : goal.returns-in_ok-first-in-None-clause-seen
-returns-in_ok-first-in-None-clause-seen g c = λ yes. absurd (true≢false (sym yes))
+returns-in_ok-first-in-None-clause-seen g c = λ s saw. absurd (cc saw)

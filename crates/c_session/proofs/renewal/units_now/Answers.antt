@@ -10,7 +10,7 @@ paths-init g c = record {
   passes = passes_begins _ _ _ _ _ _ _ _ c.new-standing.ensures.units c.new-standing.ensures.grounds c.requires.apart;
   changes = refl;
   lexings = refl;
-  seen = seen_begins _ _ _ _ c.new-standing.ensures.units;
+  seen = seen_begins _ _ _ _ _ c.new-standing.ensures.units c.new-standing.ensures.news;
 }
 
 pub paths-preserved : goal.paths-preserved
@@ -25,7 +25,7 @@ paths-preserved g c =
           (subst (λ (ch : Changing). c.unit_now.new.steps ≡ c.paths.steps + cond (is_due (held_at c.paths.waiting path) ch.prior ch.now c.args.reading.now path) 1 0) kept c.in_ok-renewed.ensures.steps);
       changes = c.in_ok-renewed.ensures.changes ∙ kept;
       lexings = c.in_ok-renewed.ensures.lexings ∙ c.paths.invariant.lexings;
-      seen = seen_turns _ _ (held_at c.paths.waiting) _ _ path _ _ _ _ _ c.in_ok-renewed.renewed.held.unit c.paths.invariant.seen c.in-Some.ensures.cases.0
+      seen = seen_turns _ _ (held_at c.paths.waiting) _ _ path _ _ _ _ _ _ c.in_ok-renewed.renewed.earlier c.in_ok-renewed.renewed.held.unit c.paths.invariant.seen c.in-Some.ensures.cases.0
           (passes_here _ _ _ _ _ _ (held_at c.paths.waiting) _ _ path _ _ _ c.paths.invariant.passes c.in-Some.ensures.cases.0) c.in_ok-renewed.ensures.seen c.in_ok-push.ensures.units c.in_ok-push.ensures.seen;
     }
 
@@ -42,4 +42,4 @@ pub returns-clause-steps : goal.returns-clause-steps
 returns-clause-steps g c = all_counted _ _ _ _ _ _ _ _ _ _ _ c.paths.invariant.passes (none_left _ c.in_default.ensures.cases)
 
 pub returns-clause-seen : goal.returns-clause-seen
-returns-clause-seen g c = λ yes. seen_ends _ _ _ _ _ c.paths.invariant.seen (none_left _ c.in_default.ensures.cases) yes
+returns-clause-seen g c = λ old. seen_ends _ _ _ _ _ _ c.paths.invariant.seen (none_left _ c.in_default.ensures.cases) old

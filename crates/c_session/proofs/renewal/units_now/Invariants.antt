@@ -9,7 +9,7 @@ invariant-paths g l = record {
   passes : Passes (held_at l.fn.waiting) l.fn.changes.prior l.fn.changes.now l.fn.reading l.fn.paths l.fn.steps (held_at l.waiting) l.rest l.standing.units.items l.standing.grounds.items l.steps;
   changes : l.changes ≡ l.fn.changes;
   lexings : l.lexings ≡ l.fn.lexings;
-  seen : SeenSoFar (held_at l.fn.waiting) l.fn.paths l.rest l.standing.units.items l.standing.seen_as_before;
+  seen : SeenSoFar (held_at l.fn.waiting) l.fn.paths l.rest l.standing.units.items l.standing.has_new l.standing.news;
 }
 
 abbrev pub decreases-paths : goal.decreases-paths
