@@ -88,6 +88,7 @@ pub(crate) struct Standing {
     pub grounds: Vec<Grounds>,
     /// What these show otherwise than before, where each was there before.
     pub news: News,
+    /// One of these wasn't there before, or isn't known from before.
     pub has_new: bool,
 }
 

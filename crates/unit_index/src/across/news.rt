@@ -25,7 +25,8 @@ pub(crate) struct Shift {
 /// What some units show otherwise than before, told of one unit after the other, in their order.
 #[derive(Drop)]
 pub struct News {
-    // The names of which an export changed, came or went, in some unit.
+    // The names of which an export changed, came or went, in some unit, and those between the first and the last such one of
+    // a unit.
     names: HashSet<Name>,
     shifts: Vec<Shift>,
     seen_as_before: bool,
