@@ -40,19 +40,18 @@ module _ {K X : Type 0} {eq : K → K → Bool} (laws : IsEquivalence eq) (k q :
 pub wanted_decides : (a b : Wanted) → Decides (same_wanted a b) (a ≡ b)
 wanted_decides a b = search rules
 
-nothing_of : (b : Bool) → (e : Entity) → (other others : Option (Option Entity))
-    → or_nothing (option_or (cond b (Some (Some e)) other) others) ≡ cond b (Some e) (or_nothing (option_or other others))
-nothing_of true e other others = refl
-nothing_of false e other others = refl
+answer_of : (b : Bool) → (a : Option Entity) → (other others : Option (Option Entity))
+    → option_or (cond b (Some a) other) others ≡ cond b (Some a) (option_or other others)
+answer_of true a other others = refl
+answer_of false a other others = refl
 
-pub said_then : (w q : Wanted) → (e : Entity) → (old new : Told)
-    → new.entries ≡ insert_entry same_wanted old.entries w (Some e) → new.others ≡ old.others → said new q ≡ (if same_wanted w q then Some e else said old q)
-unfolding said
-said_then w q e old new entries others =
-    ap (λ xs. or_nothing (option_or (lookup (same_wanted q) xs) new.others)) entries
-    ∙ ap (λ o. or_nothing (option_or (lookup (same_wanted q) (insert_entry same_wanted old.entries w (Some e))) o)) others
-    ∙ ap (λ r. or_nothing (option_or r old.others)) (looked (decided same_wanted wanted_decides) w q (Some e) old.entries)
-    ∙ nothing_of (same_wanted w q) e (lookup (same_wanted q) old.entries) old.others
+pub answered_then : (w q : Wanted) → (e : Entity) → (old new : Told)
+    → new.entries ≡ insert_entry same_wanted old.entries w (Some e) → new.others ≡ old.others → answered new q ≡ (if same_wanted w q then Some (Some e) else answered old q)
+answered_then w q e old new entries others =
+    ap (λ xs. option_or (lookup (same_wanted q) xs) new.others) entries
+    ∙ ap (λ o. option_or (lookup (same_wanted q) (insert_entry same_wanted old.entries w (Some e))) o) others
+    ∙ ap (λ r. option_or r old.others) (looked (decided same_wanted wanted_decides) w q (Some e) old.entries)
+    ∙ answer_of (same_wanted w q) (Some e) (lookup (same_wanted q) old.entries) old.others
 
 or_others : (r others : Option (Option Entity)) → others ≡ Some None → option_or r others ≡ Some (or_nothing (option_or r others))
 or_others (Some a) others e = refl

@@ -2,6 +2,10 @@
 #![tactic(auto)]
 
 mod adding;
+mod differences;
 mod earlier;
+mod tags;
 
+pub use differences::{Changed, note_names};
 pub use earlier::Earlier;
+pub use tags::{same_tags, tags_of};

@@ -1,15 +1,15 @@
-// What units mean, line by line: each line of standard input is the text of a unit without directives; behind it stands each fault, with the
-// number of its token, and how many occurrences and entities the unit has. What a line's first items mean is taken over from the line before where they are the same.
+// What a unit means as its texts change, line by line: each line of standard input is its text without directives, with that of its header in front of an `@`; behind it
+// stands each fault, with the number of its token, and how many occurrences and entities the unit has. What items mean is taken over from the lines before where they stayed.
 #![tactic(auto)]
 
 mod reading;
 
-use reading::tokens_of;
+use reading::{own_text, tokens_of};
 use scope_tables::UnitMeaning;
 use std::io;
 use std::io::Read;
-use stmt_checks::{LastUnit, fold_items};
-use tok_data::ShownFault;
+use stmt_checks::{KeptItems, fold_items};
+use tok_data::{FileId, ShownFault};
 
 /// A unit has so many tokens at most.
 const MOST_TOKENS: usize = 2_000_000;
@@ -30,24 +30,25 @@ fn show_meaning(rt: &HostRuntime, meaning: &UnitMeaning) -> io::Result<()> {
     println!(rt; "{occs} {entities}")
 }
 
-fn show(rt: &HostRuntime, last: LastUnit, line: &str) -> io::Result<LastUnit> {
+fn show(rt: &HostRuntime, kept: KeptItems, own: &FileId, line: &str) -> io::Result<KeptItems> {
     println!(rt; "> {line}")?;
     let tokens = tokens_of(rt.alloc(), line)?;
     if MOST_TOKENS < tokens.len() {
         println!(rt; "too many tokens")?;
-        return Ok(last);
+        return Ok(kept);
     }
-    let (meaning, last) = fold_items(rt.alloc(), last, tokens, &[])?;
+    let (meaning, kept) = fold_items(rt.alloc(), kept, own, tokens, &[])?;
     show_meaning(rt, &meaning)?;
-    Ok(last)
+    Ok(kept)
 }
 
 fn main(rt: HostRuntime) -> io::Result<()> {
     let mut text = String::new(rt.alloc());
     rt.stdin().read_to_string(&mut text)?;
-    let mut last = LastUnit::none(rt.alloc());
+    let own = own_text(rt.alloc())?;
+    let mut kept = KeptItems::none(rt.alloc());
     for line in text.as_str().lines() {
-        last = show(&rt, last, line)?;
+        kept = show(&rt, kept, &own, line)?;
     }
     Ok(())
 }

@@ -87,3 +87,7 @@ less_by false any old new is = ap (cond any None) is
 pub less_more : (q path : List ℕ) (rest : List (List ℕ)) (old new all : Option LexedText) → new ≡ cond (bytes_eq q path) None old →
     cond (list_any (bytes_eq q) (path ∷ rest)) None old ≡ all → cond (list_any (bytes_eq q) rest) None new ≡ all
 less_more q path rest old new all put is = less_by (bytes_eq q path) (list_any (bytes_eq q) rest) old new put ∙ is
+
+-- what is kept beside the texts is of no matter
+pub lexed_stays : (now : Texts) (old new : KeptLexings) → new.kept ≡ old.kept → HasLexed now old → HasLexed now new
+lexed_stays now old new same has path l found = has path l (ap (λ m. tree.get (slice_cmp nat_cmp) m path) (sym same) ∙ found)

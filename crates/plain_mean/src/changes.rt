@@ -142,6 +142,7 @@ impl<'a> Changes<'a> {
         let paths = changed_paths(alloc, docs, prior)?;
         let changed = marked(alloc, paths.as_slice())?;
         let before = kept.give_all(prior, docs, paths.as_slice())?;
+        kept.forget_gone(docs, paths.as_slice())?;
         let lexings = Lexings::over(docs, kept);
         let others = none_compared(alloc);
         let changes = Changes {

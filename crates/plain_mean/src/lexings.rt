@@ -10,11 +10,13 @@ ghost use Rattle.plain_mean.specs.Lexing.{IsLexed, HasLexed, WereLexed, lexing_a
 use c_tokens::lex;
 use doc_texts::{Docs, PriorTexts};
 use include_units::{PpTokens, TextPlaces};
+use shared_text::Name;
 use std::alloc::{AllocError, Global};
 use std::collections::BTreeMap;
 use std::marker::Model;
 use std::mem;
-use stmt_checks::LastUnit;
+use stmt_checks::KeptItems;
+use tok_data::FileId;
 use uri_paths::Path;
 
 /// The tokens of a text, and their places. A copy shares them.
@@ -65,12 +67,20 @@ fn text_before<'a>(prior: &'a PriorTexts, docs: &'a Docs, path: &Path) -> &'a st
     }
 }
 
-/// What lexing gave of some texts, by path, without the texts, and the unit that was worked out last.
+/// A unit's own text.
+pub(crate) fn text_of(alloc: Global, unit: &Path) -> Result<FileId, AllocError>
+    ensures { IfOk result (λ text. text ≡ unit.now) }
+{
+    let name = Name::from_str(alloc, unit.as_str())?;
+    Ok(FileId::from_name(name))
+}
+
+/// What lexing gave of some texts, by path, without the texts, and what is kept of the units that were worked out.
 #[derive(Drop)]
 pub struct KeptLexings {
     alloc: Global,
     kept: BTreeMap<Path, LexedText>,
-    last: LastUnit,
+    items: KeptItems,
 }
 
 impl KeptLexings {
@@ -81,7 +91,7 @@ impl KeptLexings {
         KeptLexings {
             alloc,
             kept: BTreeMap::new(alloc),
-            last: LastUnit::none(alloc),
+            items: KeptItems::none(alloc),
         }
     }
 
@@ -124,7 +134,7 @@ impl KeptLexings {
         KeptLexings {
             alloc,
             kept: BTreeMap::new(alloc),
-            last: LastUnit::none(alloc),
+            items: KeptItems::none(alloc),
         }
     }
 
@@ -140,6 +150,30 @@ impl KeptLexings {
             }
             None => Ok(()),
         }
+    }
+
+    // What is kept of the unit at a path is forgotten where the path has no text any more.
+    fn forget(&mut self, docs: &Docs, path: &Path) -> Result<(), AllocError>
+        ensures { self.new.kept ≡ self.old.kept }
+    {
+        if docs.text(path).is_some() {
+            return Ok(());
+        }
+        let text = text_of(self.alloc, path)?;
+        self.items.forget(&text);
+        Ok(())
+    }
+
+    /// What is kept of the units at these paths is forgotten where they have no text any more.
+    pub(crate) fn forget_gone(&mut self, docs: &Docs, paths: &[Path]) -> Result<(), AllocError>
+        ensures { self.new.kept ≡ self.old.kept }
+    {
+        let mut rest = paths;
+        'paths: while let Some((path, behind)) = rest.split_first() {
+            rest = behind;
+            self.forget(docs, path)?;
+        }
+        Ok(())
     }
 
     /// Moves what is kept of these paths to others, where it is kept.
@@ -163,13 +197,13 @@ impl KeptLexings {
     }
 }
 
-/// The texts of a session, each lexed when it is first wanted, and the unit that was worked out last. Contracts see the texts.
+/// The texts of a session, each lexed when it is first wanted, and what is kept of the units that were worked out. Contracts see the texts.
 #[derive(Drop)]
 pub struct Lexings<'a> {
     alloc: Global,
     docs: &'a Docs,
     kept: BTreeMap<Path, LexedText>,
-    last: LastUnit,
+    items: KeptItems,
 }
 
 impl<'a> Model for Lexings<'a> {
@@ -194,7 +228,7 @@ impl<'a> Lexings<'a> {
             alloc,
             docs,
             kept: BTreeMap::new(alloc),
-            last: LastUnit::none(alloc),
+            items: KeptItems::none(alloc),
         }
     }
 
@@ -207,7 +241,7 @@ impl<'a> Lexings<'a> {
             alloc: kept.alloc,
             docs,
             kept: kept.kept,
-            last: kept.last,
+            items: kept.items,
         }
     }
 
@@ -233,18 +267,18 @@ impl<'a> Lexings<'a> {
         Ok(copy)
     }
 
-    /// The unit that was worked out last. None is left here.
-    pub(crate) fn take_last(&mut self) -> LastUnit
+    /// What is kept of the units that were worked out. None is left here.
+    pub(crate) fn take_items(&mut self) -> KeptItems
         ensures same { self.new ≡ self.old }
     {
-        mem::replace(&mut self.last, LastUnit::none(self.alloc))
+        mem::replace(&mut self.items, KeptItems::none(self.alloc))
     }
 
-    /// This unit is the one that was worked out last.
-    pub(crate) fn put_last(&mut self, last: LastUnit)
+    /// This is kept of the units that were worked out.
+    pub(crate) fn put_items(&mut self, items: KeptItems)
         ensures same { self.new ≡ self.old }
     {
-        self.last = last;
+        self.items = items;
     }
 
     /// What was lexed, without the texts.
@@ -254,7 +288,7 @@ impl<'a> Lexings<'a> {
         KeptLexings {
             alloc: self.alloc,
             kept: self.kept,
-            last: self.last,
+            items: self.items,
         }
     }
 }

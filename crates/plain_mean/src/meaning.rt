@@ -4,7 +4,7 @@ ghost use Rattle.plain_mean.specs.Meanings as spec;
 ghost use Rattle.plain_mean.specs.Meanings.{meaning};
 ghost use Rattle.plain_mean.specs.Renewed.{IsGrounds};
 
-use crate::lexings::Lexings;
+use crate::lexings::{Lexings, text_of};
 use crate::messages::message;
 use crate::reading::Reading;
 use crate::spelled::spelled_marks;
@@ -18,7 +18,7 @@ use std::alloc::{AllocError, Global};
 use std::mem;
 use std::sync::ledger::Ledger;
 use steps::Steps;
-use stmt_checks::{LastUnit, fold_items};
+use stmt_checks::{KeptItems, fold_items};
 use tok_data::{FileId, OutToken, OutTokens, PpFault, ShownFault, TokId};
 use unit_meaning::{all_reached, moved};
 use uri_paths::Path;
@@ -99,15 +99,16 @@ fn item_tokens(tokens: OutTokens) -> Vec<OutToken>
 #[tactic(auto, unfolding(crate::specs::Meanings::item_meaning))]
 fn item_meaning(
     alloc: Global,
-    last: LastUnit,
+    kept: KeptItems,
+    text: &FileId,
     tokens: OutTokens,
     entered: &[(FileId, TokId)],
-) -> Result<(scope_tables::UnitMeaning, LastUnit), AllocError>
+) -> Result<(scope_tables::UnitMeaning, KeptItems), AllocError>
     ensures { IfOk result (λ m. m.0 ≡ spec.item_meaning tokens entered.now) }
 {
     readings_exist();
     let items = item_tokens(tokens);
-    match fold_items(alloc, last, items, entered) {
+    match fold_items(alloc, kept, text, items, entered) {
         Ok(meaning) => Ok(meaning),
         Err(error) => Err(error),
     }
@@ -138,17 +139,18 @@ fn put_in_front(
 
 fn whole(
     alloc: Global,
-    last: LastUnit,
+    kept: KeptItems,
+    text: &FileId,
     faults: &[PpFault],
     tokens: OutTokens,
     entered: &[(FileId, TokId)],
-) -> Result<(scope_tables::UnitMeaning, LastUnit), AllocError>
+) -> Result<(scope_tables::UnitMeaning, KeptItems), AllocError>
     ensures { IfOk result (λ m. m.0 ≡ spec.behind (spec.shown_faults entered.now faults.now) (spec.item_meaning tokens entered.now)) }
 {
-    let (mut meaning, last) = item_meaning(alloc, last, tokens, entered)?;
+    let (mut meaning, kept) = item_meaning(alloc, kept, text, tokens, entered)?;
     let faults = shown_faults(alloc, entered, faults)?;
     put_in_front(alloc, &mut meaning, faults)?;
-    Ok((meaning, last))
+    Ok((meaning, kept))
 }
 
 fn followed(occs: Listing<Occ>, marks: Vec<Occ>) -> Result<Listing<Occ>, AllocError>
@@ -176,10 +178,11 @@ fn put_behind(
 
 fn meant_by(
     alloc: Global,
-    last: LastUnit,
+    kept: KeptItems,
+    text: &FileId,
     marks: Vec<Occ>,
     tokens: UnitTokens,
-) -> Result<(UnitMeaning, LastUnit), AllocError>
+) -> Result<(UnitMeaning, KeptItems), AllocError>
     ensures { IfOk result (λ m. m.0 ≡ spec.meant_by marks.items tokens) }
 {
     let UnitTokens {
@@ -191,13 +194,13 @@ fn meant_by(
         macros: _,
     } = tokens;
     let entered = entries(alloc, entered.as_slice())?;
-    let (mut meaning, last) = whole(alloc, last, faults.as_slice(), tokens, &entered)?;
+    let (mut meaning, kept) = whole(alloc, kept, text, faults.as_slice(), tokens, &entered)?;
     put_behind(alloc, &mut meaning, marks)?;
-    Ok((UnitMeaning { meaning, reads }, last))
+    Ok((UnitMeaning { meaning, reads }, kept))
 }
 
-/// What a unit means over the texts of a session, worked out anew but for what was lexed and for the items at its front that the unit worked out before has too,
-/// which is one step, and what that rests on. A path without a text
+/// What a unit means over the texts of a session, worked out anew but for what was lexed, for the items at its front that the unit worked out before has too, and for
+/// its own items that are as they were when it was worked out before, which is one step, and what that rests on. A path without a text
 /// counts as one that isn't there, and the unit's own path without a text as an empty text. It fails for want of memory, and after 2^64-1 rounds of
 /// questions, whose answers no memory holds.
 pub fn mean<L: Ledger>(
@@ -216,8 +219,9 @@ pub fn mean<L: Ledger>(
     let conf = reading.unit_conf(alloc, unit)?;
     let (tokens, asked) = tokens_over(alloc, lexings, &conf)?;
     let marks = spelled_marks(alloc, lexings, &conf, &asked, &tokens)?;
-    let (meaning, last) = meant_by(alloc, lexings.take_last(), marks, tokens)?;
-    lexings.put_last(last);
+    let text = text_of(alloc, unit)?;
+    let (meaning, kept) = meant_by(alloc, lexings.take_items(), &text, marks, tokens)?;
+    lexings.put_items(kept);
     Ok(Meant {
         meaning,
         grounds: Grounds { conf, asked },

@@ -41,7 +41,7 @@ some_lack_by look (q ∷ qs) next h =
 -- ---- and where all have one
 
 pub behind_is : {E : Type 0} (look : LookUp wants) (c : Context) (head : HeadMeaning) (result : Result (Elab BodyMeaning) E) → unanswered wants look (questions c) ≡ [] →
-    IfOk result (λ elab. MeansBehind look c head elab) → IfOk result (λ elab. MeansBody look c head elab)
+    IfOk result (λ elab. MeansBehind look look c head elab) → IfOk result (λ elab. MeansBody look c head elab)
 behind_is look c head (Ok elab) e h =
     λ r is. subst (λ run. Means run elab) (sym (told_stand look (questions c) (λ m. body_from r c head m) (begun File []) e)) (h r is)
 behind_is look c head (Err x) e h = tt

@@ -3,7 +3,7 @@ use Rattle.std.proofs.Common.{◌≡◌, refl, sym, ap, ◌∙◌, subst, ℕ, �
 use Rattle.item_cut.specs.Items.{body_at, body_from, opens_body}
 use Rattle.asking.specs.Asking.{Asking, Gives, Asks}
 use Rattle.asking.specs.LookUps.{Given, LookUp, Looked, Ends, Needs, both, by_found, found_all, given_all, result_of, run_by, unanswered}
-use Rattle.earlier_items.specs.Before.{AreBefore, before, said}
+use Rattle.earlier_items.specs.Before.{AreBefore, Tells, before, said}
 use Rattle.elab_state.specs.Wants.{Told, answered, wants}
 use Rattle.elab_state.specs.declared.wants.Elab.{Elab}
 use Rattle.elab_state.specs.declared.wants.Elab.TheVariants.{Done, Need}
@@ -40,15 +40,16 @@ end_or x (Ends y) = y
 end_or x (Needs ws) = x
 
 -- what earlier items declare is what the heads in front say
-as_before : (hs : List HeadMeaning) (told : Told) → AreBefore hs told → (λ q. said told q) ≡ before hs
-as_before hs told same = λ i q. same q i
+as_before : (hs : List HeadMeaning) (tells : Tells) → AreBefore hs tells → (λ q. said tells.known q) ≡ before hs
+as_before hs tells same = λ i q. same.said q i
 
-pub meant : {A : Type 0} (known told : Told) (asking : Asking wants A) (elab : Elab A) (x : A) → known ≡ told → ((q : Wanted) → answered known q ≡ Some (said told q)) →
-    Means (run_by (answered known) asking) elab → elab ≡ Done x → (hs : List HeadMeaning) → AreBefore hs told → x ≡ result_of (before hs) asking
-meant known told asking elab x e whole means is hs same =
+pub meant : {A : Type 0} (known : Told) (tells : Tells) (asking : Asking wants A) (elab : Elab A) (x : A) → known ≡ tells.known →
+    ((q : Wanted) → answered known q ≡ Some (said tells.known q)) → Means (run_by (answered known) asking) elab → elab ≡ Done x → (hs : List HeadMeaning) →
+    AreBefore hs tells → x ≡ result_of (before hs) asking
+meant known tells asking elab x e whole means is hs same =
     let ran : run_by (answered known) asking ≡ Ends x = subst (λ l. Means (run_by (answered known) asking) l) is means in
-    ap (λ r. end_or x r) (sym ran ∙ whole_run (answered known) (λ q. said told q) whole asking)
-    ∙ ap (λ given. result_of given asking) (as_before hs told same)
+    ap (λ r. end_or x r) (sym ran ∙ whole_run (answered known) (λ q. said tells.known q) whole asking)
+    ∙ ap (λ given. result_of given asking) (as_before hs tells same)
 
 -- and nothing is needed
 abbrev IsNeed : {A : Type 0} → Looked wants A → Type 0
@@ -88,6 +89,20 @@ pub goes_ends : {tokens : List OutToken} {a : Folded} {items : List Item} {f : F
     folded_of f ≡ all_items r tokens a items
 goes_ends {tokens} {a} {items} {f} {rest} was e r is = ap (λ xs. all_items r tokens (folded_of f) xs) (sym e) ∙ was.goes r is
 
+-- none is left
+pub goes_left : {tokens : List OutToken} {a : Folded} {items : List Item} {f : Folding} {rest : List Item} → Goes tokens a items f rest → rest ≡ [] → Goes tokens a items f []
+goes_left {tokens} {a} {items} {f} {rest} was e = subst (λ xs. Goes tokens a items f xs) e was
+
+-- the rest behind what was added
+pub goes_on : {tokens : List OutToken} {a : Folded} {items : List Item} {f g : Folding} {rest : List Item} → Goes tokens a items f rest → Goes tokens (folded_of f) rest g [] →
+    Goes tokens a items g []
+goes_on was more = record { known = more.known; goes = λ r is. more.goes r is ∙ was.goes r is }
+
+-- two lists of items, one behind the other
+pub all_both : (r : Reader) (tokens : List OutToken) (a : Folded) (is js : List Item) → all_items r tokens a (is ++ js) ≡ all_items r tokens (all_items r tokens a is) js
+all_both r tokens a [] js = refl
+all_both r tokens a (i ∷ is) js = all_both r tokens (with_item r tokens i a) is js
+
 -- ---- where a body begins
 
 either_within : (b : Bool) (x y n : ℕ) → x ≤ n → y ≤ n → (if b then x else y) ≤ n
@@ -114,12 +129,12 @@ added r ts old new h want e a b =
 
 -- ---- and what they mean together
 
-pub all_meant : (r : Reader) (tokens : List OutToken) (entered : List Entry) (items items' : List Item) (hs : List HeadMeaning) (bs : List BodyMeaning) (f : Folding) (m : UnitMeaning) →
-    m ≡ meaning (record { tokens = tokens; items = items' }) entered hs bs → items' ≡ items → hs ≡ f.heads.items → bs ≡ f.bodies.items → items ≡ items_of tokens →
-    folded_of f ≡ all_items r tokens nothing items → m ≡ unit_meaning r tokens entered
-all_meant r tokens entered items items' hs bs f m a i j k b d =
+pub all_meant : (r : Reader) (tokens : List OutToken) (entered : List Entry) (items items' : List Item) (hs : List HeadMeaning) (bs : List BodyMeaning) (g : Folded) (m : UnitMeaning) →
+    m ≡ meaning (record { tokens = tokens; items = items' }) entered hs bs → items' ≡ items → hs ≡ g.heads → bs ≡ g.bodies → items ≡ items_of tokens → g ≡ all_items r tokens nothing items →
+    m ≡ unit_meaning r tokens entered
+all_meant r tokens entered items items' hs bs g m a i j k b d =
     a ∙ ap (λ xs. meaning (record { tokens = tokens; items = xs }) entered hs bs) i
     ∙ ap (λ xs. meaning (record { tokens = tokens; items = items }) entered xs bs) j
-    ∙ ap (λ xs. meaning (record { tokens = tokens; items = items }) entered f.heads.items xs) k
+    ∙ ap (λ xs. meaning (record { tokens = tokens; items = items }) entered g.heads xs) k
     ∙ ap (λ x. meaning (record { tokens = tokens; items = items }) entered x.heads x.bodies) d
     ∙ ap (λ xs. meaning (record { tokens = tokens; items = xs }) entered (all_items r tokens nothing xs).heads (all_items r tokens nothing xs).bodies) b

@@ -1,10 +1,9 @@
 -- What a unit takes over from the unit that was worked out last.
-use Rattle.std.proofs.Common.{◌≡◌, ◌≤◌, refl, sym, ap, ◌∙◌, subst, Bool, true, false, ◌&&◌, List, [], ◌∷◌, ◌++◌, append_assoc, append-nil, length, if◌then◌else◌, Option, Some, None, is_some, Result, Ok, Err, IfOk, rules}
-use Rattle.std.proofs.lemmas.Slice.Eq.{bytes_eq-Decides}
+use Rattle.std.proofs.Common.{ℕ, ◌≡◌, ◌≤◌, refl, sym, ap, ◌∙◌, subst, Bool, true, false, List, [], ◌∷◌, ◌++◌, append_assoc, append-nil, length, take, if◌then◌else◌, Option, Some, None, is_some, Result, Ok, Err, IfOk, rules}
+use Rattle.std.proofs.Math.Seq.{take-append_seam}
 use Rattle.std.specs.Bool.{Decides}
 use Rattle.earlier_items.specs.Before.{AreBefore}
 use Rattle.item_readings.specs.Readings.{IsReader, Reader}
-use Rattle.elab_state.specs.Tokens.{bare, bare_tokens}
 use Rattle.scope_tables.specs.declared.meanings.BodyMeaning.{BodyMeaning}
 use Rattle.scope_tables.specs.declared.meanings.HeadMeaning.{HeadMeaning}
 use Rattle.tok_data.specs.declared.tokens.OutToken.{OutToken}
@@ -42,6 +41,25 @@ can_be_taken tokens items f few e = record {
   };
   few = few;
 }
+
+-- the items in front can be too, where others were worked out behind them
+pub front_stays : (tokens : List OutToken) (first own : List Item) (f : Folding) (g : Folded) (m n : ℕ) → length tokens ≤ 2000000 → m ≡ length f.heads.items → n ≡ length f.bodies.items →
+    ((r : Reader) → IsReader r → folded_of f ≡ all_items r tokens nothing first) → ((r : Reader) → IsReader r → g ≡ all_items r tokens (folded_of f) own) →
+    IsLast tokens first (take m g.heads) (take n g.bodies)
+front_stays tokens first own f g m n few d e front all =
+    let last : IsLast tokens first f.heads.items f.bodies.items = can_be_taken tokens first f few front in record {
+      meant = record {
+        heads = λ r is.
+            ap (λ k. take k g.heads) d ∙ ap (λ a. take (length f.heads.items) a.heads) (all r is)
+            ∙ ap (take (length f.heads.items)) (heads_first r tokens (folded_of f) own)
+            ∙ take-append_seam f.heads.items (more_heads r tokens f.heads.items own) ∙ last.meant.heads r is;
+        bodies = λ r is.
+            ap (λ k. take k g.bodies) e ∙ ap (λ a. take (length f.bodies.items) a.bodies) (all r is)
+            ∙ ap (take (length f.bodies.items)) (bodies_first r tokens (folded_of f) own)
+            ∙ take-append_seam f.bodies.items (more_bodies r tokens f.heads.items own) ∙ last.meant.bodies r is;
+      };
+      few = few;
+    }
 
 -- ---- the next item
 

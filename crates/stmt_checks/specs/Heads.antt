@@ -88,6 +88,6 @@ head_meaning r c = asks_all (questions c) (λ answers. head_from r c (with_answe
 abbrev pub MeansHead : LookUp wants → Context → Elab HeadMeaning → Type 0
 MeansHead look c elab = (r : Reader) → IsReader r → Means (run_by look (head_meaning r c)) elab
 
--- once all identifiers have their answers
-abbrev pub MeansBehind : LookUp wants → Context → Elab HeadMeaning → Type 0
-MeansBehind look c elab = (r : Reader) → IsReader r → Means (run_by look (head_from r c (answers_in look c))) elab
+-- once all identifiers have these answers
+abbrev pub MeansBehind : LookUp wants → LookUp wants → Context → Elab HeadMeaning → Type 0
+MeansBehind names look c elab = (r : Reader) → IsReader r → Means (run_by look (head_from r c (answers_in names c))) elab

@@ -1,5 +1,6 @@
 pub mod Acting
 pub mod Begun
+pub mod Firm
 pub mod Folding
 pub mod Folds
 pub mod Halts
@@ -8,6 +9,9 @@ pub mod Labels
 pub mod Last
 pub mod Meanings
 pub mod Moves
+pub mod Owning
 pub mod Standings
+pub mod Taking
 pub mod Then
 pub mod TypeNames
+pub mod Units

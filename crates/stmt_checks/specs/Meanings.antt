@@ -121,12 +121,12 @@ Means run (Done meaning) = run ≡ Ends meaning
 abbrev pub MeansBody : LookUp wants → Context → HeadMeaning → Elab BodyMeaning → Type 0
 MeansBody look c head elab = (r : Reader) → IsReader r → Means (run_by look (body_meaning r c head)) elab
 
--- once all identifiers have their answers
+-- once all identifiers have these answers
 abbrev pub answers_in : LookUp wants → Context → Made
 answers_in look c = with_answered look (questions c) (begun File [])
 
-abbrev pub MeansBehind : LookUp wants → Context → HeadMeaning → Elab BodyMeaning → Type 0
-MeansBehind look c head elab = (r : Reader) → IsReader r → Means (run_by look (body_from r c head (answers_in look c))) elab
+abbrev pub MeansBehind : LookUp wants → LookUp wants → Context → HeadMeaning → Elab BodyMeaning → Type 0
+MeansBehind names look c head elab = (r : Reader) → IsReader r → Means (run_by look (body_from r c head (answers_in names c))) elab
 
 abbrev pub is_none : List Wanted → Bool
 is_none [] = true

@@ -123,13 +123,14 @@ fn by_reading(
 fn begin(
     alloc: Global,
     around: &Around<'_>,
+    names: &Known,
     head: &HeadMeaning,
     standing: &mut Standing,
 ) -> Result<(), AllocError>
     requires { standing.old ≡ empty }
-    ensures { OnOk result (standing.new ≡ spec.standing (context_of around.now) head.now (spec.answers_in (answers_of (told_of around.now)) (context_of around.now))) }
+    ensures { OnOk result (standing.new ≡ spec.standing (context_of around.now) head.now (spec.answers_in (answers_of names.now) (context_of around.now))) }
 {
-    note_answers(alloc, around.known, &mut standing.made, around.tokens)?;
+    note_answers(alloc, names, &mut standing.made, around.tokens)?;
     open(alloc, around, head, standing)
 }
 
@@ -166,16 +167,17 @@ fn read_and_judge(
     }
 }
 
-// All identifiers have their answers.
+// The identifiers have these answers; all else is asked of what is round the body.
 fn answered(
     alloc: Global,
     around: &Around<'_>,
+    names: &Known,
     head: &HeadMeaning,
 ) -> Result<Elab<BodyMeaning>, AllocError>
-    ensures { IfOk result (λ elab. spec.MeansBehind (answers_of (told_of around.now)) (context_of around.now) head.now elab) }
+    ensures { IfOk result (λ elab. spec.MeansBehind (answers_of names.now) (answers_of (told_of around.now)) (context_of around.now) head.now elab) }
 {
     let mut standing = nothing(alloc)?;
-    let Ok(()) = begin(alloc, around, head, &mut standing) else {
+    let Ok(()) = begin(alloc, around, names, head, &mut standing) else {
         drop(standing);
         return Err(AllocError);
     };
@@ -200,7 +202,7 @@ fn check_around(
 {
     let asked = unanswered(alloc, around.known, around.tokens)?;
     if is_none(&asked) {
-        return answered(alloc, around, head);
+        return answered(alloc, around, around.known, head);
     }
     Ok(Elab::Need(asked))
 }
@@ -234,6 +236,34 @@ pub fn check_body(
         known,
     };
     match check_around(alloc, &around, head) {
+        Ok(elab) => Ok(elab),
+        Err(error) => Err(error),
+    }
+}
+
+/// What the body of a function means, as far as `names` answer for its identifiers, where one has no answer as if nothing were declared, and `tags` for all else that
+/// it asks: the members, size and completeness of tags.
+pub(crate) fn firm_body(
+    alloc: Global,
+    tokens: &[OutToken],
+    base: u32,
+    head: &HeadMeaning,
+    names: &Known,
+    tags: &Known,
+) -> Result<Elab<BodyMeaning>, AllocError>
+    ensures { IfOk result (λ elab. spec.MeansBehind (answers_of names.now) (answers_of tags.now) (spec.context head.now.item (bare_tokens tokens.now) base) head.now elab) }
+{
+    let file = item_file(alloc, &head.item)?;
+    let outer = Scopes::new(alloc);
+    let around = Around {
+        item: &head.item,
+        file: &file,
+        tokens,
+        base,
+        outer: &outer,
+        known: tags,
+    };
+    match answered(alloc, &around, names, head) {
         Ok(elab) => Ok(elab),
         Err(error) => Err(error),
     }

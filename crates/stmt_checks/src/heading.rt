@@ -193,9 +193,13 @@ fn is_empty(tokens: &[OutToken]) -> bool
     }
 }
 
-// All identifiers have their answers.
-fn answered(alloc: Global, around: &Around<'_>) -> Result<Elab<HeadMeaning>, AllocError>
-    ensures { IfOk result (λ elab. spec.MeansBehind (answers_of (told_of around.now)) (context_of around.now) elab) }
+// The identifiers have these answers; all else is asked of what is round the head.
+fn answered(
+    alloc: Global,
+    around: &Around<'_>,
+    names: &Known,
+) -> Result<Elab<HeadMeaning>, AllocError>
+    ensures { IfOk result (λ elab. spec.MeansBehind (answers_of names.now) (answers_of (told_of around.now)) (context_of around.now) elab) }
 {
     if is_empty(around.tokens) {
         match refuse(alloc, around, 302, 0) {
@@ -204,7 +208,7 @@ fn answered(alloc: Global, around: &Around<'_>) -> Result<Elab<HeadMeaning>, All
         }
     }
     let mut made = Made::begin(alloc, ScopeKind::File, Tags::new(alloc))?;
-    let Ok(()) = note_answers(alloc, around.known, &mut made, around.tokens) else {
+    let Ok(()) = note_answers(alloc, names, &mut made, around.tokens) else {
         drop(made);
         return Err(AllocError);
     };
@@ -225,7 +229,7 @@ fn elab_around(alloc: Global, around: &Around<'_>) -> Result<Elab<HeadMeaning>, 
 {
     let asked = unanswered(alloc, around.known, around.tokens)?;
     if is_none(&asked) {
-        return answered(alloc, around);
+        return answered(alloc, around, around.known);
     }
     Ok(Elab::Need(asked))
 }
@@ -258,6 +262,33 @@ pub fn elab_head(
         known,
     };
     match elab_around(alloc, &around) {
+        Ok(elab) => Ok(elab),
+        Err(error) => Err(error),
+    }
+}
+
+/// What the head of an item means, as far as `names` answer for its identifiers, where one has no answer as if nothing were declared, and `tags` for all else that it
+/// asks: its members, size and completeness of tags.
+pub(crate) fn firm_head(
+    alloc: Global,
+    item: &ItemName,
+    tokens: &[OutToken],
+    names: &Known,
+    tags: &Known,
+) -> Result<Elab<HeadMeaning>, AllocError>
+    ensures { IfOk result (λ elab. spec.MeansBehind (answers_of names.now) (answers_of tags.now) (means.context item.now (bare_tokens tokens.now) 0) elab) }
+{
+    let file = item_file(alloc, item)?;
+    let outer = Scopes::new(alloc);
+    let around = Around {
+        item,
+        file: &file,
+        tokens,
+        base: 0,
+        outer: &outer,
+        known: tags,
+    };
+    match answered(alloc, &around, names) {
         Ok(elab) => Ok(elab),
         Err(error) => Err(error),
     }

@@ -8,8 +8,10 @@ mod checking;
 mod folding;
 mod halted;
 mod heading;
+mod kept;
 mod labels;
 mod meaning;
+mod parts;
 mod standing;
 mod steps;
 mod type_names;
@@ -17,4 +19,4 @@ mod units;
 
 pub use checking::check_body;
 pub use heading::elab_head;
-pub use units::{LastUnit, fold_items};
+pub use units::{KeptItems, fold_items};

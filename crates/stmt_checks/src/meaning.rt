@@ -17,10 +17,14 @@ pub(crate) fn none<T>(alloc: Global) -> Listing<T>
     Listing::from_vec(Vec::new(alloc))
 }
 
+// (What items mean is kept for long: no list keeps more room than it has values.)
 pub(crate) fn taken<T: Drop>(alloc: Global, list: &mut Grown<T>) -> Listing<T>
     ensures { result ≡ list.old }
 {
-    mem::replace(list, Grown::new(alloc)).into_listing()
+    let grown = mem::replace(list, Grown::new(alloc));
+    let mut items = grown.into_listing().into_vec();
+    items.shrink_to_fit();
+    Listing::from_vec(items)
 }
 
 fn renumbered(around: &Around<'_>, fault: Fault) -> Result<Fault, AllocError>

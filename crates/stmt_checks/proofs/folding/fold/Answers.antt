@@ -1,6 +1,6 @@
 use Rattle.std.proofs.Common.{◌≡◌, ap, ◌∙◌, ◌+◌, [], ◌∷◌, drop, rules, arith}
 use Rattle.std.proofs.lemmas.List.{drop_all, drop_more}
-use Rattle.stmt_checks.proofs.Folds.{goes_turns, goes_ends}
+use Rattle.stmt_checks.proofs.Folds.{goes_left, goes_turns}
 use Rattle.stmt_checks.proofs.folding.fold.Goals as goal
 use Rattle.stmt_checks.specs.Folding.{folded_of}
 use Rattle.stmt_checks.specs.Folds.{head, with_head}
@@ -15,4 +15,4 @@ items-preserved c =
 pub returns : goal.returns
 returns c =
     let e : drop c.items.item-index c.args.items.now ≡ [] = drop_all c.items.item-index c.args.items.now (search (rules, arith)) in
-    goes_ends c.items.invariant e
+    goes_left c.items.invariant e

@@ -7,7 +7,7 @@ use Rattle.stmt_checks.specs.Meanings.{context}
 
 pub unreachable-requires : goal.unreachable-requires
 unreachable-requires c =
-    never_needed c.known.result.now c.args.earlier.now (head_meaning the_reader (context c.args.name.now (bare_tokens c.args.tokens.now) 0)) c.in_ok-elab.elab c.in-Need.field-0 c.known.ensures.whole
+    never_needed c.known.result.now c.args.earlier.now.known (head_meaning the_reader (context c.args.name.now (bare_tokens c.args.tokens.now) 0)) c.in_ok-elab.elab c.in-Need.field-0 c.known.ensures.whole
     (c.in_ok-elab.ensures the_reader c.readings_exist.ensures) c.in-Need.is
 
 pub returns : goal.returns

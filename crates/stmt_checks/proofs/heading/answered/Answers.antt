@@ -11,6 +11,7 @@ use Rattle.stmt_checks.specs.Meanings.{questions}
 pub returns-in-Ok-read_and_judge : goal.returns-in-Ok-read_and_judge
 returns-in-Ok-read_and_judge c =
     let look = answered (told_of c.args.around.now) in
+    let names = answered c.args.names.now in
     let around = context_of c.args.around.now in
-    from_tokens look around c.note_answers.new.made c.in-Ok-read_and_judge.elab (sym c.is_empty.ensures ∙ c.if-is_empty.false)
-    (c.in-Ok-note_answers.ensures ∙ ap (λ m. with_answered look (questions around) m) (c.in_ok-made.ensures ∙ ap (λ tags. begun File tags) c.new.ensures)) c.in-Ok-read_and_judge.ensures
+    from_tokens names look around c.note_answers.new.made c.in-Ok-read_and_judge.elab (sym c.is_empty.ensures ∙ c.if-is_empty.false)
+    (c.in-Ok-note_answers.ensures ∙ ap (λ m. with_answered names (questions around) m) (c.in_ok-made.ensures ∙ ap (λ tags. begun File tags) c.new.ensures)) c.in-Ok-read_and_judge.ensures
