@@ -19,17 +19,17 @@ use Rattle.c_session.specs.Renamable.{of_token, renamable, shown, spelling_in}
 
 -- ---- occurrences that are lent
 
-pub lends_turn : (rest behind : List Known) (unit : Known) (old new : List (Bor (List Occ))) (one : Bor (List Occ)) (all : List (List Occ)) → rest ≡ unit ∷ behind → new ≡ old ++ one ∷ [] →
-    one.now ≡ occs_of unit → map (λ o. o.now) old ++ map occs_of rest ≡ all → map (λ o. o.now) new ++ map occs_of behind ≡ all
-lends_turn rest behind unit old new one all first more lent is =
-    ap (λ os. map (λ o. o.now) os ++ map occs_of behind) more
-    ∙ ap (λ os. os ++ map occs_of behind) (map-append (λ o. o.now) old (one ∷ []))
-    ∙ append_assoc (map (λ o. o.now) old) (one.now ∷ []) (map occs_of behind)
-    ∙ ap (λ o. map (λ o. o.now) old ++ o ∷ map occs_of behind) lent
-    ∙ ap (λ us. map (λ o. o.now) old ++ map occs_of us) (sym first) ∙ is
+pub lends_turn : (rest behind : List (List Occ)) (list : List Occ) (old new : List (Bor (List Occ))) (one : Bor (List Occ)) (all : List (List Occ)) → rest ≡ list ∷ behind → new ≡ old ++ one ∷ [] →
+    one.now ≡ list → map (λ o. o.now) old ++ rest ≡ all → map (λ o. o.now) new ++ behind ≡ all
+lends_turn rest behind list old new one all first more lent is =
+    ap (λ os. map (λ o. o.now) os ++ behind) more
+    ∙ ap (λ os. os ++ behind) (map-append (λ o. o.now) old (one ∷ []))
+    ∙ append_assoc (map (λ o. o.now) old) (one.now ∷ []) behind
+    ∙ ap (λ o. map (λ o. o.now) old ++ o ∷ behind) lent
+    ∙ ap (λ ls. map (λ o. o.now) old ++ ls) (sym first) ∙ is
 
-pub lends_end : (rest : List Known) (now : List (Bor (List Occ))) (all : List (List Occ)) → rest ≡ [] → map (λ o. o.now) now ++ map occs_of rest ≡ all → map (λ o. o.now) now ≡ all
-lends_end rest now all none is = sym (append-nil (map (λ o. o.now) now)) ∙ ap (λ us. map (λ o. o.now) now ++ map occs_of us) (sym none) ∙ is
+pub lends_end : (rest : List (List Occ)) (now : List (Bor (List Occ))) (all : List (List Occ)) → rest ≡ [] → map (λ o. o.now) now ++ rest ≡ all → map (λ o. o.now) now ≡ all
+lends_end rest now all none is = sym (append-nil (map (λ o. o.now) now)) ∙ ap (λ ls. map (λ o. o.now) now ++ ls) (sym none) ∙ is
 
 -- ---- whether a name may be renamed
 

@@ -5,7 +5,7 @@ use Rattle.std.specs.List.{list_any}
 use Rattle.std.specs.Prelude.{not}
 use Rattle.std.proofs.lemmas.Slice.Eq.{bytes_eq-Decides}
 use Rattle.doc_texts.specs.Texts.{Texts}
-use Rattle.scope_tables.specs.declared.units.UnitMeaning.{UnitMeaning}
+use Rattle.scope_tables.specs.declared.units.Exports.{Exports}
 use Rattle.project_conf.specs.declared.conf.Conf.{Conf}
 use Rattle.plain_mean.specs.Shown.{units}
 use Rattle.unit_index.specs.Crossing.{Sight, all_crossings, sight}
@@ -52,17 +52,17 @@ module _ (earlier : Earlier) (has_new : Bool) (news news' : News) (u : Known) (o
     more = λ ss ts are. grows ss ts (sight (exported u)) are;
   }
 
-  pub more_other : (was : Known) (before now : UnitMeaning) → earlier ≡ Other was → before ≡ was.meaning → now ≡ u.meaning →
+  pub more_other : (was : Known) (before now : Exports) → earlier ≡ Other was → before ≡ was.meaning.exports → now ≡ u.meaning.exports →
       ((ss ts : List Sight) (path : List ℕ) → AreNews ss ts news →
-      AreNews (ss ++ sight (record { path = path; exports = before.exports }) ∷ []) (ts ++ sight (record { path = path; exports = now.exports }) ∷ []) news') →
+      AreNews (ss ++ sight (record { path = path; exports = before }) ∷ []) (ts ++ sight (record { path = path; exports = now }) ∷ []) news') →
       HasMore has_new news (seen_before earlier u) (sight (exported u)) news'
   more_other was before now is one other grows = record {
     old = old;
     was = sight (record { path = u.path; exports = was.meaning.exports });
     seen = ap (λ e. seen_before e u) is;
     more = λ ss ts are.
-        subst (λ (m : UnitMeaning). AreNews (ss ++ sight (record { path = u.path; exports = was.meaning.exports }) ∷ []) (ts ++ sight (record { path = u.path; exports = m.exports }) ∷ []) news') other
-        (subst (λ (m : UnitMeaning). AreNews (ss ++ sight (record { path = u.path; exports = m.exports }) ∷ []) (ts ++ sight (record { path = u.path; exports = now.exports }) ∷ []) news') one
+        subst (λ (x : Exports). AreNews (ss ++ sight (record { path = u.path; exports = was.meaning.exports }) ∷ []) (ts ++ sight (record { path = u.path; exports = x }) ∷ []) news') other
+        (subst (λ (x : Exports). AreNews (ss ++ sight (record { path = u.path; exports = x }) ∷ []) (ts ++ sight (record { path = u.path; exports = now }) ∷ []) news') one
         (grows ss ts u.path are));
   }
 

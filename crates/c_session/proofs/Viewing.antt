@@ -1,5 +1,5 @@
 -- Units as they are, and with edits made: those that were worked out anew, and the others as they are.
-use Rattle.std.proofs.Common.{◌≡◌, ℕ, Bool, true, false, cond, List, [], ◌∷◌, ◌++◌, map, Option, Some, None, append_assoc, append-nil, refl, sym, ap, ◌∙◌}
+use Rattle.std.proofs.Common.{◌≡◌, ℕ, Bool, true, false, cond, List, [], ◌∷◌, ◌++◌, map, Option, Some, None, unwrap_or, append_assoc, append-nil, refl, sym, ap, ◌∙◌}
 use Rattle.doc_texts.specs.Texts.{Texts}
 use Rattle.plain_mean.specs.Meanings.{meaning}
 use Rattle.plain_mean.specs.Ranges.{paths_in}
@@ -13,9 +13,24 @@ use Rattle.rename_core.specs.declared.class.Plan.{Plan}
 use Rattle.rename_core.specs.declared.views.FileKinds.{FileKinds}
 use Rattle.scope_tables.specs.declared.entities.Occ.{Occ}
 use Rattle.unit_index.specs.Known.{Known}
+use Rattle.unit_index.specs.Occurrences.{occs_of}
 use Rattle.c_session.specs.Outcomes.{after, confirmed_over, kinds_at, occs_in, view}
 use Rattle.c_session.specs.Ties.Renamings.{anew_of, occs_by, view_by, views_by}
 use Rattle.c_session.specs.Units.{known, known_unit}
+
+-- ---- what units keep
+
+-- the occurrences of the next unit
+pub own_one : (rest behind : List Known) (u : Known) (left more : List (List Occ)) (own : List Occ) → rest ≡ u ∷ behind → left ≡ own ∷ more → left ≡ map occs_of rest → (own ≡ occs_of u) × (more ≡ map occs_of behind)
+own_one rest behind u left more own first other are = let both = sym other ∙ are ∙ ap (map occs_of) first in (cc both, cc both)
+
+-- as long as there is a next one, it has some
+pub own_left : (rest behind : List Known) (u : Known) (left : List (List Occ)) → rest ≡ u ∷ behind → left ≡ [] → left ≡ map occs_of rest → ⊥
+own_left rest behind u left first none are = let both = sym none ∙ are ∙ ap (map occs_of) first in (let bad : ⊥ = cc both in bad)
+
+pub chosen : (u : Known) (o : Option (List Occ)) → unwrap_or o (occs_of u) ≡ occs_by u o
+chosen u None = refl
+chosen u (Some occs) = refl
 
 -- ---- one behind the other
 

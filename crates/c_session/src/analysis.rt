@@ -27,7 +27,7 @@ use project_conf::Conf;
 use std::alloc::{AllocError, Global};
 use std::sync::ledger::Ledger;
 use steps::Steps;
-use unit_index::{Crossings, IndexedUnit};
+use unit_index::{Crossings, IndexedUnit, Pool};
 use uri_paths::Path;
 
 /// What all units of some texts come to: what each file shows, what each unit means, with an index, and on what that rests, what lexing gave of the
@@ -42,6 +42,8 @@ pub struct Analysis {
     pub(crate) lexings: KeptLexings,
     /// The warnings across units, those of each unit without their tokens.
     pub(crate) across: Vec<Crossings>,
+    // What the units have in common.
+    pool: Pool,
 }
 
 impl Analysis {
@@ -57,6 +59,7 @@ impl Analysis {
             grounds: Vec::new(alloc),
             lexings: KeptLexings::new(alloc),
             across: Vec::new(alloc),
+            pool: Pool::new(alloc),
         }
     }
 }
@@ -90,8 +93,9 @@ fn part(kept: Analysis) -> Result<Parted, AllocError>
         grounds,
         lexings,
         across,
+        pool,
     } = kept;
-    let waiting = Waiting::of(alloc, units, grounds)?;
+    let waiting = Waiting::of(alloc, units, grounds, pool)?;
     Ok(Parted {
         shown,
         waiting,
@@ -136,6 +140,7 @@ fn across_where(same: bool, has_new: bool, across: Vec<Crossings>) -> Option<Vec
 fn standing_as(
     alloc: Global,
     standing: Standing,
+    pool: Pool,
     kept: Option<Vec<Crossings>>,
     lexings: Lexings<'_>,
 ) -> Result<Analysis, AllocError>
@@ -163,6 +168,7 @@ fn standing_as(
         grounds,
         lexings: lexings.into_kept(),
         across,
+        pool,
     })
 }
 
@@ -210,7 +216,8 @@ pub(crate) fn renewed<L: Ledger>(
         steps,
     )?;
     let stays = across_where(same, standing.has_new, across);
-    let analysis = standing_as(alloc, standing, stays, lexings)?;
+    let pool = waiting.into_pool();
+    let analysis = standing_as(alloc, standing, pool, stays, lexings)?;
     Ok(Renewal {
         analysis,
         before: shown,

@@ -1,6 +1,5 @@
 // The answers to questions about a file.
 ghost use Rattle.std.specs.Prelude.{◌≡◌, Some, IfOk};
-ghost use Rattle.lsp_answers.specs.Located.{location_data, listed};
 ghost use Rattle.serde_json.specs.Data.{null};
 ghost use Rattle.serde_json.specs.Written.{compact_text};
 ghost use Rattle.c_session.specs.Definition as defining;
@@ -40,7 +39,7 @@ fn said_by(
 ) -> Result<JsonText, AllocError>
     ensures { IfOk result (λ t. t ≡ compact_text (hovering.of_speech (start, end) (Some (speech_of speaker.entry)))) }
 {
-    let text = hover_text(alloc, speaker.entity, &speaker.unit.meaning().exports.tags)?;
+    let text = hover_text(alloc, speaker.entity, &speaker.unit.exports().tags)?;
     let value = hover(alloc, text.as_str(), start, end)?;
     JsonText::of(alloc, &value)
 }

@@ -16,7 +16,7 @@ fn exported(alloc: Global, units: &[IndexedUnit]) -> Result<Vec<UnitExports<'_>>
     'units: for unit in units {
         out.push(UnitExports {
             path: unit.path(),
-            exports: &unit.meaning().exports,
+            exports: unit.exports(),
         })?;
     }
     Ok(out)

@@ -8,7 +8,7 @@ ghost use Rattle.unit_index.specs.News.{AreNews};
 use plain_mean::Grounds;
 use std::alloc::{AllocError, Global};
 use std::collections::BTreeMap;
-use unit_index::{IndexedUnit, News};
+use unit_index::{IndexedUnit, News, Pool};
 use uri_paths::Path;
 
 /// What a unit means, with an index, and on what that rests.
@@ -40,6 +40,8 @@ pub(crate) struct RenewedUnit {
 #[derive(Drop)]
 pub(crate) struct Waiting {
     units: BTreeMap<Path, HeldUnit>,
+    /// What they share, and units that are worked out with them.
+    pub pool: Pool,
 }
 
 impl Waiting {
@@ -48,11 +50,13 @@ impl Waiting {
         alloc: Global,
         units: Vec<IndexedUnit>,
         grounds: Vec<Grounds>,
+        pool: Pool,
     ) -> Result<Waiting, AllocError>
         ensures { IfOk result (λ w. (q : List ℕ) → held_at w q ≡ held_of units.items grounds.items q None) }
     {
         let mut waiting = Waiting {
             units: BTreeMap::new(alloc),
+            pool,
         };
         let mut grounds = grounds.into_iter();
         'units: for unit in units {
@@ -78,6 +82,11 @@ impl Waiting {
         ensures others { (q : List ℕ) → bytes_eq q path.now ≡ false → held_at self.new q ≡ held_at self.old q }
     {
         self.units.remove(path)
+    }
+
+    /// What they share, where the units that still wait are let go.
+    pub fn into_pool(self) -> Pool {
+        self.pool
     }
 }
 
@@ -118,9 +127,9 @@ impl Standing {
                 Ok(())
             }
             Earlier::Other(was) => {
-                let before = was.meaning();
-                let now = unit.meaning();
-                self.news.changed(&before.exports, &now.exports)?;
+                let before = was.exports();
+                let now = unit.exports();
+                self.news.changed(before, now)?;
                 Ok(())
             }
             Earlier::Nothing => {

@@ -20,6 +20,7 @@ use doc_texts::Docs;
 use lsp_answers::{JsonText, renamable};
 use rename_core::Class;
 use scope_tables::Occ;
+use shared_list::Listing;
 use shared_text::Name;
 use std::alloc::{AllocError, Global};
 use text_lines::{Encoding, Pos};
@@ -27,18 +28,29 @@ use tok_data::{PpToken, TokId};
 use unit_index::IndexedUnit;
 use uri_paths::Path;
 
-/// The occurrences of each of some units, lent.
-pub(crate) fn occs_of<'a>(
-    alloc: Global,
-    units: &'a [IndexedUnit],
-) -> Result<Vec<&'a [Occ]>, AllocError>
-    ensures { IfOk result (λ all. map (λ occs. occs.now) all.items ≡ map occs_of units.now) }
+/// The occurrences of each of some units, copied, since units keep them in pieces.
+pub(crate) fn occs_of(alloc: Global, units: &[IndexedUnit]) -> Result<Vec<Listing<Occ>>, AllocError>
+    ensures { IfOk result (λ all. all.items ≡ map occs_of units.now) }
 {
     let mut all = Vec::new(alloc);
     let mut rest = units;
     'turn: while let Some((unit, behind)) = rest.split_first() {
         rest = behind;
-        all.push(unit.meaning().occs.as_slice())?;
+        let occs = unit.occs(alloc)?;
+        all.push(Listing::from_vec(occs))?;
+    }
+    Ok(all)
+}
+
+// Lists, each lent.
+fn lent<'a>(alloc: Global, lists: &'a [Listing<Occ>]) -> Result<Vec<&'a [Occ]>, AllocError>
+    ensures { IfOk result (λ all. map (λ occs. occs.now) all.items ≡ lists.now) }
+{
+    let mut all = Vec::new(alloc);
+    let mut rest = lists;
+    'turn: while let Some((list, behind)) = rest.split_first() {
+        rest = behind;
+        all.push(list.as_slice())?;
     }
     Ok(all)
 }
@@ -47,7 +59,8 @@ pub(crate) fn occs_of<'a>(
 pub(crate) fn class_kept(kept: &Analysis, tok: &TokId) -> Result<Class, AllocError>
     ensures { IfOk result (λ class. class ≡ class_in (map occs_of (units_in kept.now)) tok.now) }
 {
-    let units = occs_of(kept.alloc, kept.units.as_slice())?;
+    let occs = occs_of(kept.alloc, kept.units.as_slice())?;
+    let units = lent(kept.alloc, occs.as_slice())?;
     let class = class_in(kept.alloc, units.as_slice(), tok)?;
     Ok(class)
 }

@@ -1,5 +1,5 @@
 // What a rename comes to: what units mean with its edits made, where an answer that they asked for is another one then. What is kept stays as it is.
-ghost use Rattle.std.specs.Prelude.{◌≡◌, ◌≢◌, ◌+◌, ◌≤◌, Err, None, Some, length, map, IfOk, OnOk, if◌then◌else◌};
+ghost use Rattle.std.specs.Prelude.{◌≡◌, ◌≢◌, ◌+◌, ◌≤◌, Err, None, Some, length, map, unwrap_or, IfOk, OnOk, if◌then◌else◌};
 ghost use Rattle.plain_mean.specs.Confs.{IsUsable};
 ghost use Rattle.plain_mean.specs.Meanings.{meaning};
 ghost use Rattle.plain_mean.specs.Renewed.{are_gone, renewed};
@@ -11,12 +11,12 @@ ghost use Rattle.rename_core.specs.Clashes.{confirmed};
 ghost use Rattle.c_session.specs.Outcomes.{after, confirmed_over, kinds_at, rename, work_of};
 ghost use Rattle.rename_core.specs.declared.error.RenameError.TheVariants.{NoMemory};
 ghost use Rattle.c_session.specs.Kept.{IsAnalysis, units_in};
-ghost use Rattle.c_session.specs.Ties.Renamings as ties;
+ghost use Rattle.unit_index.specs.Occurrences.{occs_of};
 ghost use Rattle.c_session.specs.Ties.Renamings.{anew_of, views_by, view_by};
 
 use crate::analysis::Analysis;
 use crate::news::prior_of;
-use crate::renamable::class_kept;
+use crate::renamable::{class_kept, occs_of};
 use crate::rename_laws::names_are_short;
 use crate::text_kinds::file_kinds;
 use doc_texts::Docs;
@@ -114,50 +114,64 @@ fn over_edited<L: Ledger>(
     Ok(all)
 }
 
-// The units as they are.
+// The units as they are, with their occurrences.
 fn views_before<'a>(
     alloc: Global,
     units: &'a [IndexedUnit],
+    occs: &'a [Listing<Occ>],
     kinds: &'a [FileKinds],
 ) -> Result<Vec<UnitView<'a>>, AllocError>
+    requires { occs.now ≡ map occs_of units.now }
     ensures { IfOk result (λ views. views.items ≡ map (λ u. view_by kinds.now u None) units.now) }
 {
     let mut views = Vec::new(alloc);
     let mut rest = units;
+    let mut left = occs;
     'turn: while let Some((unit, behind)) = rest.split_first() {
         rest = behind;
+        let Some((own, more)) = left.split_first() else {
+            unreachable!()
+        };
+        left = more;
         views.push(UnitView {
             unit: unit.path(),
             kinds,
-            occs: unit.meaning().occs.as_slice(),
+            occs: own.as_slice(),
         })?;
     }
     Ok(views)
 }
 
-fn occs_by<'a>(unit: &'a IndexedUnit, anew: &'a Option<Listing<Occ>>) -> &'a [Occ]
-    ensures { result.now ≡ ties.occs_by unit.now anew.now }
+fn occs_by<'a>(own: &'a Listing<Occ>, anew: &'a Option<Listing<Occ>>) -> &'a [Occ]
+    ensures { result.now ≡ unwrap_or anew.now own.now }
 {
     match anew {
         Some(occs) => occs.as_slice(),
-        None => unit.meaning().occs.as_slice(),
+        None => own.as_slice(),
     }
 }
 
-// The units with the edits made: those that were worked out anew, and the others as they are.
+// The units with the edits made: those that were worked out anew, and the others as they are, with their occurrences.
 fn views_after<'a>(
     alloc: Global,
     units: &'a [IndexedUnit],
+    occs: &'a [Listing<Occ>],
     anew: &'a [Option<Listing<Occ>>],
     kinds: &'a [FileKinds],
 ) -> Result<Vec<UnitView<'a>>, AllocError>
+    requires { occs.now ≡ map occs_of units.now }
     ensures { IfOk result (λ views. views.items ≡ views_by kinds.now units.now anew.now) }
 {
     let mut views = Vec::new(alloc);
     let mut rest = units;
+    let mut left = occs;
     let mut others = anew;
     'turn: while let Some((unit, behind)) = rest.split_first() {
         rest = behind;
+        let Some((own, kept)) = left.split_first() else {
+            unreachable!()
+        };
+        left = kept;
         let Some((one, more)) = others.split_first() else {
             return Ok(views);
         };
@@ -165,7 +179,7 @@ fn views_after<'a>(
         views.push(UnitView {
             unit: unit.path(),
             kinds,
-            occs: occs_by(unit, one),
+            occs: occs_by(own, one),
         })?;
     }
     Ok(views)
@@ -218,7 +232,14 @@ fn compared(
 ) -> Result<Edits, RenameError>
     ensures { result ≢ Err NoMemory → result ≡ confirmed plan (map (λ u. view_by effect.now.kinds.items u None) units.now) (views_by effect.now.kinds_after.items units.now effect.now.anew.items) }
 {
-    let before = match views_before(alloc, units, effect.kinds.as_slice()) {
+    let occs = match occs_of(alloc, units) {
+        Ok(occs) => occs,
+        Err(_) => {
+            drop(plan);
+            return Err(RenameError::NoMemory);
+        }
+    };
+    let before = match views_before(alloc, units, occs.as_slice(), effect.kinds.as_slice()) {
         Ok(before) => before,
         Err(_) => {
             drop(plan);
@@ -228,6 +249,7 @@ fn compared(
     let after = match views_after(
         alloc,
         units,
+        occs.as_slice(),
         effect.anew.as_slice(),
         effect.kinds_after.as_slice(),
     ) {

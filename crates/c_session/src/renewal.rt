@@ -11,10 +11,15 @@ use plain_mean::{Changes, Lexings, Meant, Reading, UnitMeaning, mean};
 use std::alloc::{AllocError, Global};
 use std::sync::ledger::Ledger;
 use steps::Steps;
-use unit_index::IndexedUnit;
+use unit_index::{IndexedUnit, Pool};
 use uri_paths::Path;
 
-fn held_as(alloc: Global, path: &Path, meant: Meant) -> Result<HeldUnit, AllocError>
+fn held_as(
+    alloc: Global,
+    path: &Path,
+    meant: Meant,
+    pool: &mut Pool,
+) -> Result<HeldUnit, AllocError>
     ensures unit { IfOk result (λ h. h.unit ≡ known_as path.now meant.meaning) }
     ensures grounds { IfOk result (λ h. h.grounds ≡ meant.grounds) }
 {
@@ -24,13 +29,14 @@ fn held_as(alloc: Global, path: &Path, meant: Meant) -> Result<HeldUnit, AllocEr
     };
     let Meant { meaning, grounds } = meant;
     let UnitMeaning { meaning, reads } = meaning;
-    let unit = IndexedUnit::of(alloc, path, reads, meaning)?;
+    let unit = IndexedUnit::of(alloc, path, reads, meaning, pool)?;
     Ok(HeldUnit { unit, grounds })
 }
 
 // Works a unit out.
 fn worked<L: Ledger>(
     alloc: Global,
+    pool: &mut Pool,
     lexings: &mut Lexings<'_>,
     reading: &Reading<'_>,
     path: &Path,
@@ -42,7 +48,7 @@ fn worked<L: Ledger>(
     ensures steps { steps.new ≡ steps.old + 1 }
 {
     let meant = mean(alloc, lexings, reading, path, steps)?;
-    let held = held_as(alloc, path, meant)?;
+    let held = held_as(alloc, path, meant, pool)?;
     Ok(held)
 }
 
@@ -67,6 +73,7 @@ fn earlier_as(before: IndexedUnit, now: &IndexedUnit) -> Earlier
 fn kept_or_worked<L: Ledger>(
     alloc: Global,
     held: HeldUnit,
+    pool: &mut Pool,
     changes: &mut Changes<'_>,
     lexings: &mut Lexings<'_>,
     reading: &Reading<'_>,
@@ -83,7 +90,7 @@ fn kept_or_worked<L: Ledger>(
 {
     let gone = changes.are_gone(lexings, reading, path, &held.grounds)?;
     if gone {
-        let again = worked(alloc, lexings, reading, path, steps)?;
+        let again = worked(alloc, pool, lexings, reading, path, steps)?;
         let HeldUnit { unit, grounds: _ } = held;
         let earlier = earlier_as(unit, &again.unit);
         return Ok(RenewedUnit {
@@ -119,11 +126,13 @@ fn unit_now<L: Ledger>(
     let kept = waiting.take(path);
     match kept {
         Some(held) => {
-            let stays = kept_or_worked(alloc, held, changes, lexings, reading, path, steps)?;
+            let pool = &mut waiting.pool;
+            let stays = kept_or_worked(alloc, held, pool, changes, lexings, reading, path, steps)?;
             Ok(stays)
         }
         None => {
-            let first = worked(alloc, lexings, reading, path, steps)?;
+            let pool = &mut waiting.pool;
+            let first = worked(alloc, pool, lexings, reading, path, steps)?;
             Ok(RenewedUnit {
                 held: first,
                 earlier: Earlier::Nothing,

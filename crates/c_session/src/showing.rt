@@ -16,7 +16,7 @@ use unit_index::{Crossings, IndexedUnit};
 fn add_unit(gathered: &mut Gathered, unit: &IndexedUnit) -> Result<(), AllocError>
     ensures { OnOk result ((fs : List Fault) (rs : List (List ℕ)) → AreGathered fs rs gathered.old → AreGathered (fs ++ unit.now.meaning.faults) (rs ++ unit.now.reads) gathered.new) }
 {
-    gathered.add_faults(unit.meaning().faults.as_slice())?;
+    gathered.add_faults(unit.faults())?;
     gathered.add_reads(unit.reads())?;
     Ok(())
 }

@@ -11,7 +11,7 @@ use shared_text::Name;
 use std::alloc::{AllocError, Global};
 use std::mem;
 use type_data::{CType, Node, TagKind, Tags, Value};
-use unit_index::IndexedUnit;
+use unit_index::{IndexedUnit, Pool};
 use uri_paths::Path;
 
 /// What was told of a unit so far.
@@ -23,6 +23,8 @@ pub struct Draft {
     symbols: Vec<Symbol>,
     tags: Vec<DraftTag>,
     exports: Vec<Export>,
+    // What the units that were told before have, which those behind them share.
+    pool: Pool,
 }
 
 fn kind_named(alloc: Global, word: &str, name: &str) -> Result<EntityKind, AllocError> {
@@ -106,6 +108,7 @@ impl Draft {
             symbols: Vec::new(alloc),
             tags: Vec::new(alloc),
             exports: Vec::new(alloc),
+            pool: Pool::new(alloc),
         }
     }
 
@@ -224,7 +227,13 @@ impl Draft {
         settle_tags(alloc, &mut tags, drafts)?;
         let reads = mem::replace(&mut self.reads, Vec::new(alloc));
         let meaning = self.meaning(alloc, tags);
-        match IndexedUnit::of(alloc, path, Listing::from_vec(reads), meaning) {
+        match IndexedUnit::of(
+            alloc,
+            path,
+            Listing::from_vec(reads),
+            meaning,
+            &mut self.pool,
+        ) {
             Ok(unit) => Ok(Some(unit)),
             Err(refused) => Err(refused),
         }

@@ -89,7 +89,7 @@ fn shown(alloc: Global, units: &[IndexedUnit]) -> Result<Vec<UnitExports<'_>>, A
     for unit in units {
         out.push(UnitExports {
             path: unit.path(),
-            exports: &unit.meaning().exports,
+            exports: unit.exports(),
         })?;
     }
     Ok(out)
@@ -149,7 +149,7 @@ impl Play {
         let Some(speaker) = speaking(self.units.as_slice(), &tok) else {
             return out.push_str(" null");
         };
-        let text = hover_text(alloc, speaker.entity, &speaker.unit.meaning().exports.tags)?;
+        let text = hover_text(alloc, speaker.entity, &speaker.unit.exports().tags)?;
         let path = speaker.unit.path().as_str();
         let text = text.as_str();
         let shown = format!(in alloc; " {text} ({path})")?;

@@ -11,6 +11,7 @@ pub mod MemberLemmas
 pub mod NeedLemmas
 pub mod NewsLemmas
 pub mod OrderLemmas
+pub mod PieceLemmas
 pub mod PlaceLemmas
 pub mod PlacingLemmas
 pub mod RenewLemmas

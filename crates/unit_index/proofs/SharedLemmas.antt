@@ -51,7 +51,7 @@ any_same f g h [] = refl
 any_same f g h (x ∷ xs) = (λ i. h x i || list_any f xs) ∙ ap (λ b. g x || b) (any_same f g h xs)
 
 -- all units joined
-any_joined : {A B : Type 0} (f : B → Bool) (g : A → List B) (xs : List A) → list_any f (flat_map g xs) ≡ list_any (λ x. list_any f (g x)) xs
+pub any_joined : {A B : Type 0} (f : B → Bool) (g : A → List B) (xs : List A) → list_any f (flat_map g xs) ≡ list_any (λ x. list_any f (g x)) xs
 any_joined f g [] = refl
 any_joined f g (x ∷ xs) = any_append f (g x) (flat_map g xs) ∙ ap (λ b. list_any f (g x) || b) (any_joined f g xs)
 

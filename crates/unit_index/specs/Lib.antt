@@ -20,6 +20,7 @@ pub mod Needs
 pub mod News
 pub mod Occurrences
 pub mod Pairs
+pub mod Pieces
 pub mod Places
 pub mod References
 pub mod Renewed

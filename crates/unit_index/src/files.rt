@@ -23,8 +23,9 @@ pub(crate) fn introduces(role: Role) -> bool
     }
 }
 
+/// No texts.
 #[tactic(auto, unfolding(crate::specs::Files::has_file))]
-fn no_files(alloc: Global) -> IndexSet<FileId>
+pub(crate) fn no_files(alloc: Global) -> IndexSet<FileId>
     ensures { (f : List ℕ) → spec.has_file result f ≡ false }
 {
     IndexSet::new(alloc)
@@ -46,6 +47,18 @@ fn note(files: &mut IndexSet<FileId>, occ: &Occ) -> Result<(), AllocError>
         return Ok(());
     }
     add_file(files, &occ.tok.file)
+}
+
+/// Texts more.
+pub(crate) fn add_files(files: &mut IndexSet<FileId>, more: &[FileId]) -> Result<(), AllocError>
+    ensures { OnOk result ((f : List ℕ) → spec.has_file files.new f ≡ spec.has_file files.old f || list_any (same_file f) more.now) }
+{
+    let mut rest = more;
+    'files: while let Some((file, behind)) = rest.split_first() {
+        rest = behind;
+        add_file(files, file)?;
+    }
+    Ok(())
 }
 
 /// The texts of the occurrences that define or declare, each once.

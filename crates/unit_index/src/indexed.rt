@@ -1,24 +1,27 @@
 // What is known of a unit, with an index.
+use crate::piece::Piece;
 use crate::places::Places;
 use indexmap::IndexSet;
 use scope_tables::UnitMeaning;
 use shared_list::Listing;
 use std::marker::Model;
+use std::rc::Rc;
 use tok_data::FileId;
 use uri_paths::Path;
 
 mod looks;
 
-/// What is known of a unit, of which each question on a token or an anchor is answered at a constant cost. Contracts see what is
-/// known.
+/// What is known of a unit, of which each question on a token or an anchor is answered at a cost that is linear in the number of its pieces. Contracts
+/// see what is known.
 #[derive(Drop)]
 pub(crate) struct Indexed {
     path: Path,
     reads: Listing<Path>,
-    meaning: UnitMeaning,
-    // The places of occurrences by their tokens and by their anchors, and those of entities by theirs.
-    tokens: Places,
-    anchors: Places,
+    // Without its occurrences.
+    rest: UnitMeaning,
+    // Its occurrences, which other units share.
+    pieces: Vec<Rc<Piece>>,
+    // The places of entities by their anchors.
     entities: Places,
     // The texts in which it defines or declares something.
     files: IndexSet<FileId>,
@@ -26,6 +29,7 @@ pub(crate) struct Indexed {
 
 impl Model for Indexed {
     ghost use Rattle.std.specs.Coded.{codes};
+    ghost use Rattle.std.specs.List.{flat_map};
     ghost use Rattle.type_data.specs.contracts.types.CType as types;
     ghost use Rattle.unit_index.specs.Known.{Known};
 
@@ -35,8 +39,9 @@ impl Model for Indexed {
 
     ghost use Rattle.unit_index.specs.Files.{has_file};
     ghost use Rattle.unit_index.specs.Kept.{IsKept};
+    ghost use Rattle.unit_index.specs.Pieces.{with_occs};
 
-    ghost view = { λ u. record { path = u.path; reads = u.reads; meaning = u.meaning } };
+    ghost view = { λ u. record { path = u.path; reads = u.reads; meaning = with_occs (flat_map (λ p. p.value) u.pieces.items) u.rest } };
 
-    ghost invariant = { λ u. IsKept u.meaning u.tokens u.anchors u.entities (has_file u.files) };
+    ghost invariant = { λ u. IsKept (with_occs (flat_map (λ p. p.value) u.pieces.items) u.rest) u.entities (has_file u.files) };
 }

@@ -11,19 +11,34 @@ ghost use Rattle.unit_index.specs.Tokens.{is_outside};
 
 use crate::files::introduces;
 use crate::groups::{Groups, group_of, grouped};
+use crate::piece::Piece;
 use crate::sets::{add_token, has_token, is_outside, no_tokens};
 use crate::unit::IndexedUnit;
 use std::alloc::{AllocError, Global};
 use std::collections::BTreeSet;
 use tok_data::{FileId, TokId};
 
-// Whether the token defines or declares something in the unit.
+// Whether the token defines or declares something.
+fn introduces_in(piece: &Piece, tok: &TokId) -> bool
+    ensures { result ≡ list_any (is_introduced tok.now) piece.now }
+{
+    let mut walk = piece.at(tok);
+    'occs: while let Some(occ) = walk.step() {
+        if introduces(occ.role) {
+            return true;
+        }
+    }
+    false
+}
+
+// Whether it does in the unit.
 fn introduces_here(unit: &IndexedUnit, tok: &TokId) -> bool
     ensures { result ≡ list_any (is_introduced tok.now) (occs_of unit.now) }
 {
-    let mut walk = unit.at(tok);
-    'occs: while let Some(occ) = walk.step() {
-        if introduces(occ.role) {
+    let mut rest = unit.pieces();
+    'pieces: while let Some((piece, behind)) = rest.split_first() {
+        rest = behind;
+        if introduces_in(piece, tok) {
             return true;
         }
     }

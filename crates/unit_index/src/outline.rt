@@ -205,7 +205,7 @@ pub fn symbols(alloc: Global, units: &[IndexedUnit], path: &Path) -> Result<Vec<
     ensures { IfOk result (λ out. out.items ≡ spec.symbols units.now path.now) }
 {
     match reader(units, path) {
-        Some(unit) => of_file(alloc, unit.meaning().symbols.as_slice(), path),
+        Some(unit) => of_file(alloc, unit.symbols(), path),
         None => Ok(Vec::new(alloc)),
     }
 }

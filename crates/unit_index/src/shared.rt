@@ -9,6 +9,7 @@ ghost use Rattle.unit_index.specs.Sets as sets;
 ghost use Rattle.unit_index.specs.Shared as found;
 ghost use Rattle.unit_index.specs.Tokens.{in_order};
 
+use crate::piece::Piece;
 use crate::sets::{add_anchor, add_token, no_anchors, no_tokens};
 use crate::unit::IndexedUnit;
 use crate::walks::Walk;
@@ -48,6 +49,20 @@ fn is_asked(asked: Asked, role: Role) -> bool
     }
 }
 
+fn add_anchors_in(
+    anchors: &mut IndexSet<Anchor>,
+    piece: &Piece,
+    tok: &TokId,
+) -> Result<(), AllocError>
+    ensures { OnOk result ((q : AnyAnchor) → sets.has_anchor anchors.new q ≡ sets.has_anchor anchors.old q || list_any (found.is_under q) (filter (is_at tok.now) piece.now)) }
+{
+    let mut walk = piece.at(tok);
+    'occs: while let Some(occ) = walk.step() {
+        add_anchor(anchors, &occ.anchor)?;
+    }
+    Ok(())
+}
+
 fn add_anchors(
     anchors: &mut IndexSet<Anchor>,
     unit: &IndexedUnit,
@@ -55,9 +70,10 @@ fn add_anchors(
 ) -> Result<(), AllocError>
     ensures { OnOk result ((q : AnyAnchor) → sets.has_anchor anchors.new q ≡ sets.has_anchor anchors.old q || list_any (found.is_under q) (filter (is_at tok.now) (spec.occs_of unit.now))) }
 {
-    let mut walk = unit.at(tok);
-    'occs: while let Some(occ) = walk.step() {
-        add_anchor(anchors, &occ.anchor)?;
+    let mut rest = unit.pieces();
+    'pieces: while let Some((piece, behind)) = rest.split_first() {
+        rest = behind;
+        add_anchors_in(anchors, piece, tok)?;
     }
     Ok(())
 }
@@ -88,6 +104,21 @@ fn add_asked(tokens: &mut BTreeSet<TokId>, asked: Asked, occ: &Occ) -> Result<()
     add_token(tokens, &occ.tok)
 }
 
+fn add_mentions_in(
+    tokens: &mut BTreeSet<TokId>,
+    asked: Asked,
+    piece: &Piece,
+    anchor: &Anchor,
+) -> Result<(), AllocError>
+    ensures { OnOk result ((q : Token) → sets.has_tok tokens.new q ≡ sets.has_tok tokens.old q || list_any (found.gives asked q) (filter (spec.is_of anchor.now) piece.now)) }
+{
+    let mut walk = piece.of_anchor(anchor);
+    'occs: while let Some(occ) = walk.step() {
+        add_asked(tokens, asked, occ)?;
+    }
+    Ok(())
+}
+
 fn add_mentions(
     tokens: &mut BTreeSet<TokId>,
     asked: Asked,
@@ -96,9 +127,10 @@ fn add_mentions(
 ) -> Result<(), AllocError>
     ensures { OnOk result ((q : Token) → sets.has_tok tokens.new q ≡ sets.has_tok tokens.old q || list_any (found.gives asked q) (filter (spec.is_of anchor.now) (spec.occs_of unit.now))) }
 {
-    let mut walk = unit.of_anchor(anchor);
-    'occs: while let Some(occ) = walk.step() {
-        add_asked(tokens, asked, occ)?;
+    let mut rest = unit.pieces();
+    'pieces: while let Some((piece, behind)) = rest.split_first() {
+        rest = behind;
+        add_mentions_in(tokens, asked, piece, anchor)?;
     }
     Ok(())
 }

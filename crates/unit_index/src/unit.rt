@@ -1,23 +1,24 @@
 // A unit with its index.
 ghost use Rattle.std.specs.Prelude.{◌≡◌, ℕ, List, option_map, IfOk};
-ghost use Rattle.std.specs.List.{filter, find, list_any};
+ghost use Rattle.std.specs.List.{find, flat_map, list_any};
 ghost use Rattle.unit_index.specs.Files.{introduces_in};
 ghost use Rattle.unit_index.specs.Groups.{same_file};
 ghost use Rattle.scope_tables.specs.Occurrences.{is_at};
-ghost use Rattle.unit_index.specs.Occurrences as spec;
 ghost use Rattle.unit_index.specs.Speaking.{is_named};
 
 use crate::indexed::Indexed;
-use crate::walks::Walk;
-use scope_tables::{Anchor, Occ, UnitEntity, UnitMeaning};
+use crate::piece::Piece;
+use crate::pool::{Pool, all_copied};
+use scope_tables::{Anchor, Exports, Occ, Symbol, UnitEntity, UnitMeaning};
 use shared_list::Listing;
 use std::alloc::{AllocError, Global};
 use std::marker::Model;
-use tok_data::{FileId, TokId};
+use std::rc::Rc;
+use tok_data::{FileId, ShownFault, TokId};
 use uri_paths::Path;
 
-/// What is known of a unit, of which each question on a token or an anchor is answered at a constant cost. Contracts see what is
-/// known.
+/// What is known of a unit, of which each question on a token or an anchor is answered at a cost that is linear in the number of its pieces. Contracts see
+/// what is known.
 #[derive(Drop)]
 pub struct IndexedUnit {
     // In a box: it is large, and what holds a unit lets it go at each of its ends.
@@ -37,17 +38,18 @@ impl Model for IndexedUnit {
 }
 
 impl IndexedUnit {
-    /// A unit at a path, which reads the texts at these paths and has this meaning. Its cost is linear in the number of
-    /// occurrences and entities. It fails for want of memory alone.
+    /// A unit at a path, which reads the texts at these paths and has this meaning, whose occurrences it shares with the units that were indexed with the same
+    /// pool. Its cost is linear in the number of occurrences and entities. It fails for want of memory alone.
     pub fn of(
         alloc: Global,
         path: Path,
         reads: Listing<Path>,
         meaning: UnitMeaning,
+        pool: &mut Pool,
     ) -> Result<IndexedUnit, AllocError>
         ensures { IfOk result (λ u. u ≡ record { path = path; reads = reads; meaning = meaning }) }
     {
-        let indexed = Indexed::of(alloc, path, reads, meaning)?;
+        let indexed = Indexed::of(alloc, path, reads, meaning, pool)?;
         let inside = Box::new(alloc, indexed)?;
         Ok(IndexedUnit { inside })
     }
@@ -66,32 +68,53 @@ impl IndexedUnit {
         self.inside.reads()
     }
 
-    /// What it means.
-    pub fn meaning(&self) -> &UnitMeaning
-        ensures { result.now ≡ self.now.meaning }
+    /// The faults of its items and its end.
+    pub fn faults(&self) -> &[ShownFault]
+        ensures { result.now ≡ self.now.meaning.faults }
     {
-        self.inside.meaning()
+        self.inside.faults()
     }
 
-    /// The occurrences of a token that denote an entity, in order.
-    pub(crate) fn at(&self, tok: &TokId) -> Walk<'_>
-        ensures { result ≡ filter (is_at tok.now) self.now.meaning.occs }
+    /// What it shows to other units.
+    pub fn exports(&self) -> &Exports
+        ensures { result.now ≡ self.now.meaning.exports }
     {
-        self.inside.at(tok)
+        self.inside.exports()
     }
 
-    /// The occurrences of the entity with this anchor, in order.
-    pub(crate) fn of_anchor(&self, anchor: &Anchor) -> Walk<'_>
-        ensures { result ≡ filter (spec.is_of anchor.now) self.now.meaning.occs }
+    /// Its symbols.
+    pub(crate) fn symbols(&self) -> &[Symbol]
+        ensures { result.now ≡ self.now.meaning.symbols }
     {
-        self.inside.of_anchor(anchor)
+        self.inside.symbols()
+    }
+
+    /// Its occurrences, each copied: they are kept in pieces that units share. Its cost is linear in their number. It fails for want of memory alone.
+    pub fn occs(&self, alloc: Global) -> Result<Vec<Occ>, AllocError>
+        ensures { IfOk result (λ occs. occs.items ≡ self.now.meaning.occs) }
+    {
+        all_copied(alloc, self.pieces())
+    }
+
+    /// Its occurrences, in pieces.
+    pub(crate) fn pieces(&self) -> &[Rc<Piece>]
+        ensures { flat_map (λ p. p.value) result.now ≡ self.now.meaning.occs }
+    {
+        self.inside.pieces()
     }
 
     /// The first occurrence of a token that denotes an entity.
     pub(crate) fn first(&self, tok: &TokId) -> Option<&Occ>
         ensures { option_map (λ o. o.now) result ≡ find (is_at tok.now) self.now.meaning.occs }
     {
-        self.inside.first(tok)
+        let mut rest = self.pieces();
+        'pieces: while let Some((piece, behind)) = rest.split_first() {
+            rest = behind;
+            if let Some(occ) = piece.first(tok) {
+                return Some(occ);
+            }
+        }
+        None
     }
 
     /// The texts in which it defines or declares something, each once.

@@ -1,40 +1,27 @@
-// What a unit is made of, and what it says of a token or an anchor.
-ghost use Rattle.std.specs.Prelude.{◌≡◌, ℕ, List, map, option_map, IfOk};
-ghost use Rattle.std.specs.List.{filter, find, list_any};
+// What a unit is made of, and what it says of an anchor.
+ghost use Rattle.std.specs.Prelude.{◌≡◌, ℕ, List, [], map, option_map, IfOk, OnOk};
+ghost use Rattle.std.specs.List.{find, flat_map, list_any};
 ghost use Rattle.unit_index.specs.Codes as coded;
-ghost use Rattle.unit_index.specs.Files.{introduces_in};
+ghost use Rattle.unit_index.specs.Files.{has_file, introduces_in};
 ghost use Rattle.unit_index.specs.Groups.{same_file};
-ghost use Rattle.scope_tables.specs.Occurrences.{is_at};
-ghost use Rattle.unit_index.specs.Occurrences as spec;
+ghost use Rattle.unit_index.specs.Pieces.{with_occs};
 ghost use Rattle.unit_index.specs.Speaking.{is_named};
 
 use super::Indexed;
-use crate::chains::{By, entity_at, first_named, first_of_anchor, first_of_token, occ_at};
-use crate::codes::{anchor_codes, entity_codes, token_codes};
-use crate::files::files_of;
+use crate::chains::{entity_at, first_named};
+use crate::codes::entity_codes;
+use crate::files::{add_files, no_files};
+use crate::piece::Piece;
 use crate::places::Places;
-use crate::walks::Walk;
-use scope_tables::{Anchor, Occ, UnitEntity, UnitMeaning};
+use crate::pool::Pool;
+use indexmap::IndexSet;
+use scope_tables::{Anchor, Exports, Symbol, UnitEntity, UnitMeaning};
 use shared_list::Listing;
 use std::alloc::{AllocError, Global};
-use tok_data::{FileId, TokId};
+use std::mem;
+use std::rc::Rc;
+use tok_data::{FileId, ShownFault};
 use uri_paths::Path;
-
-fn token_places(alloc: Global, occs: &[Occ]) -> Result<Places, AllocError>
-    ensures { IfOk result (λ p. p ≡ map coded.by_token occs.now) }
-{
-    let codes = token_codes(alloc, occs)?;
-    let places = Places::of(alloc, codes)?;
-    Ok(places)
-}
-
-fn anchor_places(alloc: Global, occs: &[Occ]) -> Result<Places, AllocError>
-    ensures { IfOk result (λ p. p ≡ map coded.by_anchor occs.now) }
-{
-    let codes = anchor_codes(alloc, occs)?;
-    let places = Places::of(alloc, codes)?;
-    Ok(places)
-}
 
 fn entity_places(alloc: Global, entities: &[UnitEntity]) -> Result<Places, AllocError>
     ensures { IfOk result (λ p. p ≡ map coded.by_name entities.now) }
@@ -44,39 +31,62 @@ fn entity_places(alloc: Global, entities: &[UnitEntity]) -> Result<Places, Alloc
     Ok(places)
 }
 
+// Takes the occurrences of a meaning.
+fn pieces_of(
+    alloc: Global,
+    meaning: &mut UnitMeaning,
+    pool: &mut Pool,
+) -> Result<Vec<Rc<Piece>>, AllocError>
+    ensures pieces { IfOk result (λ pieces. flat_map (λ p. p.value) pieces.items ≡ meaning.old.occs) }
+    ensures rest { OnOk result (meaning.new ≡ with_occs [] meaning.old) }
+{
+    let occs = mem::replace(&mut meaning.occs, Listing::from_vec(Vec::new(alloc)));
+    let pieces = pool.pieces_of(alloc, occs.as_slice())?;
+    Ok(pieces)
+}
+
+fn files_in(alloc: Global, pieces: &[Rc<Piece>]) -> Result<IndexSet<FileId>, AllocError>
+    ensures { IfOk result (λ files. (f : List ℕ) → has_file files f ≡ list_any (introduces_in f) (flat_map (λ p. p.value) pieces.now)) }
+{
+    let mut files = no_files(alloc);
+    let mut rest = pieces;
+    'pieces: while let Some((piece, behind)) = rest.split_first() {
+        rest = behind;
+        add_files(&mut files, piece.files())?;
+    }
+    Ok(files)
+}
+
 impl Indexed {
-    /// A unit at a path, which reads the texts at these paths and has this meaning. Its cost is linear in the number of
-    /// occurrences and entities. It fails for want of memory alone.
+    /// A unit at a path, which reads the texts at these paths and has this meaning, whose occurrences go into a pool. Its cost is linear in the number
+    /// of occurrences and entities. It fails for want of memory alone.
     pub(crate) fn of(
         alloc: Global,
         path: Path,
         reads: Listing<Path>,
         meaning: UnitMeaning,
+        pool: &mut Pool,
     ) -> Result<Indexed, AllocError>
         ensures { IfOk result (λ u. u ≡ record { path = path; reads = reads; meaning = meaning }) }
     {
-        let Ok(tokens) = token_places(alloc, meaning.occs.as_slice()) else {
-            drop(meaning);
+        let mut rest = meaning;
+        let Ok(pieces) = pieces_of(alloc, &mut rest, pool) else {
+            drop(rest);
             return Err(AllocError);
         };
-        let Ok(anchors) = anchor_places(alloc, meaning.occs.as_slice()) else {
-            drop(meaning);
+        let Ok(files) = files_in(alloc, &pieces) else {
+            drop(rest);
             return Err(AllocError);
         };
-        let Ok(entities) = entity_places(alloc, meaning.entities.as_slice()) else {
-            drop(meaning);
-            return Err(AllocError);
-        };
-        let Ok(files) = files_of(alloc, meaning.occs.as_slice()) else {
-            drop(meaning);
+        let Ok(entities) = entity_places(alloc, rest.entities.as_slice()) else {
+            drop(rest);
             return Err(AllocError);
         };
         Ok(Indexed {
             path,
             reads,
-            meaning,
-            tokens,
-            anchors,
+            rest,
+            pieces,
             entities,
             files,
         })
@@ -96,48 +106,32 @@ impl Indexed {
         self.reads.as_slice()
     }
 
-    /// What it means.
-    pub(crate) fn meaning(&self) -> &UnitMeaning
-        ensures { result.now ≡ self.now.meaning }
+    /// The faults of its items and its end.
+    pub(crate) fn faults(&self) -> &[ShownFault]
+        ensures { result.now ≡ self.now.meaning.faults }
     {
-        &self.meaning
+        self.rest.faults.as_slice()
     }
 
-    /// The occurrences of a token that denote an entity, in order.
-    pub(crate) fn at(&self, tok: &TokId) -> Walk<'_>
-        ensures { result ≡ filter (is_at tok.now) self.now.meaning.occs }
+    /// What it shows to other units.
+    pub(crate) fn exports(&self) -> &Exports
+        ensures { result.now ≡ self.now.meaning.exports }
     {
-        let occs = self.meaning.occs.as_slice();
-        Walk::new(
-            By::Token,
-            occs,
-            &self.tokens,
-            first_of_token(&self.tokens, occs, tok),
-        )
+        &self.rest.exports
     }
 
-    /// The occurrences of the entity with this anchor, in order.
-    pub(crate) fn of_anchor(&self, anchor: &Anchor) -> Walk<'_>
-        ensures { result ≡ filter (spec.is_of anchor.now) self.now.meaning.occs }
+    /// Its symbols.
+    pub(crate) fn symbols(&self) -> &[Symbol]
+        ensures { result.now ≡ self.now.meaning.symbols }
     {
-        let occs = self.meaning.occs.as_slice();
-        Walk::new(
-            By::Anchor,
-            occs,
-            &self.anchors,
-            first_of_anchor(&self.anchors, occs, anchor),
-        )
+        self.rest.symbols.as_slice()
     }
 
-    /// The first occurrence of a token that denotes an entity.
-    pub(crate) fn first(&self, tok: &TokId) -> Option<&Occ>
-        ensures { option_map (λ o. o.now) result ≡ find (is_at tok.now) self.now.meaning.occs }
+    /// Its occurrences.
+    pub(crate) fn pieces(&self) -> &[Rc<Piece>]
+        ensures { flat_map (λ p. p.value) result.now ≡ self.now.meaning.occs }
     {
-        let occs = self.meaning.occs.as_slice();
-        match first_of_token(&self.tokens, occs, tok) {
-            Some(place) => occ_at(occs, place),
-            None => None,
-        }
+        &self.pieces
     }
 
     /// The texts in which it defines or declares something, each once.
@@ -151,7 +145,7 @@ impl Indexed {
     pub(crate) fn entity(&self, anchor: &Anchor) -> Option<&UnitEntity>
         ensures { option_map (λ e. e.now) result ≡ find (is_named anchor.now) self.now.meaning.entities }
     {
-        let entities = self.meaning.entities.as_slice();
+        let entities = self.rest.entities.as_slice();
         match first_named(&self.entities, entities, anchor) {
             Some(place) => entity_at(entities, place),
             None => None,

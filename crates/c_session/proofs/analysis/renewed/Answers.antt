@@ -8,6 +8,7 @@ use Rattle.plain_mean.specs.declared.lexings.KeptLexings.{KeptLexings}
 use Rattle.plain_mean.specs.declared.types.Grounds.{Grounds}
 use Rattle.c_session.specs.Units.{WereCrossed}
 use Rattle.c_session.proofs.Seeing.{both, is_not, paths_are, were_crossed, where_kept}
+use Rattle.c_session.specs.declared.held.Waiting.{Waiting}
 use Rattle.c_session.specs.Renewal.{HaveNews, RestOn, due_at, held_at, held_of, stand_at, unit_at}
 use Rattle.c_session.proofs.Before.{text_before_is}
 use Rattle.c_session.proofs.Holding.{held_was, units_apart}
@@ -29,7 +30,7 @@ returns-clause-analysis g c = λ t read is are.
     let prior = c.args.prior.now in
     let held = held_at c.in_ok-shown.waiting in
     let paths : c.as_slice-all.result.now ≡ units c.args.docs.now c.args.conf.now = c.as_slice-all.ensures.value ∙ c.in_ok-paths.ensures.units ∙ ap (units c.args.docs.now) c.in_ok-reading.ensures in
-    let waits : (q : List ℕ) → held_at c.in_ok-shown.waiting q ≡ held_of c.args.kept.units.items c.args.kept.grounds.items q None = search rules in
+    let waits : (q : List ℕ) → held_at c.in_ok-shown.waiting q ≡ held_of c.args.kept.units.items c.args.kept.grounds.items q None = λ q. ap (λ (w : Waiting). held_at w q) (sym c.in_ok-shown.waiting-is) ∙ c.in_ok-shown.ensures.waiting q in
     let stays = c.units_stay.ensures.meaning t docs read conf in
     let rests = c.units_stay.ensures.grounds t docs read conf in
     let holds = λ (unit : List ℕ) (grounds : Grounds) (rest : IsGrounds t read unit grounds). c.grounds_hold.ensures prior t docs read conf unit grounds (text_before_is t docs prior is) rest in
@@ -61,7 +62,7 @@ returns-clause-steps g c = λ t read is are.
     let prior = c.args.prior.now in
     let held = held_at c.in_ok-shown.waiting in
     let paths : c.as_slice-all.result.now ≡ units c.args.docs.now c.args.conf.now = c.as_slice-all.ensures.value ∙ c.in_ok-paths.ensures.units ∙ ap (units c.args.docs.now) c.in_ok-reading.ensures in
-    let waits : (q : List ℕ) → held_at c.in_ok-shown.waiting q ≡ held_of c.args.kept.units.items c.args.kept.grounds.items q None = search rules in
+    let waits : (q : List ℕ) → held_at c.in_ok-shown.waiting q ≡ held_of c.args.kept.units.items c.args.kept.grounds.items q None = λ q. ap (λ (w : Waiting). held_at w q) (sym c.in_ok-shown.waiting-is) ∙ c.in_ok-shown.ensures.waiting q in
     let stays = c.units_stay.ensures.meaning t docs read conf in
     let rests = c.units_stay.ensures.grounds t docs read conf in
     let holds = λ (unit : List ℕ) (grounds : Grounds) (rest : IsGrounds t read unit grounds). c.grounds_hold.ensures prior t docs read conf unit grounds (text_before_is t docs prior is) rest in

@@ -7,7 +7,7 @@ returns-in_ok-same-in-Same-clause-seen c = λ old. more_same c.args.earlier.now 
 
 pub returns-in_ok-changed-in-Other-clause-seen : goal.returns-in_ok-changed-in-Other-clause-seen
 returns-in_ok-changed-in-Other-clause-seen c = λ old.
-    more_other c.args.earlier.now c.args.self.now.has_new c.args.self.now.news _ c.args.unit.now old c.in-Other.was _ _ c.in-Other.is c.meaning-before.ensures c.meaning-now.ensures
+    more_other c.args.earlier.now c.args.self.now.has_new c.args.self.now.news _ c.args.unit.now old c.in-Other.was _ _ c.in-Other.is c.exports-before.ensures c.exports-now.ensures
     c.in_ok-changed-in-Other.ensures
 
 pub returns-in-Nothing-clause-seen : goal.returns-in-Nothing-clause-seen
