@@ -1,5 +1,5 @@
 // The kinds of the tokens of a unit.
-ghost use Rattle.std.specs.Prelude.{◌≡◌, ℕ, List, IfOk, OnOk, None, Some, map, bytes_eq, option_map, is_none, not, ◌||◌, if◌then◌else◌};
+ghost use Rattle.std.specs.Prelude.{◌≡◌, ℕ, List, [], ◌∷◌, IfOk, OnOk, None, Some, map, bytes_eq, option_map, is_none, not, ◌||◌, if◌then◌else◌};
 ghost use Rattle.std.specs.List.{find};
 ghost use Rattle.c_parser.specs.Noted as noted;
 ghost use Rattle.c_parser.specs.Tokens as spec;
@@ -13,59 +13,6 @@ use std::collections::HashMap;
 use tok_data::{OutToken, PpKind, is_keyword};
 
 // What is written most stands first, since a look-up goes from the front on.
-static MARKS: [(&str, Kind); 50] = [
-    ("(", Kind::OpenParen),
-    (")", Kind::CloseParen),
-    (";", Kind::Semicolon),
-    (",", Kind::Comma),
-    ("=", Kind::Equals),
-    ("{", Kind::OpenBrace),
-    ("}", Kind::CloseBrace),
-    ("*", Kind::Star),
-    ("->", Kind::Member),
-    (".", Kind::Dot),
-    ("[", Kind::OpenBracket),
-    ("]", Kind::CloseBracket),
-    ("&", Kind::Ampersand),
-    ("+", Kind::Sign),
-    ("-", Kind::Sign),
-    ("<", Kind::Relation),
-    ("==", Kind::Equality),
-    ("++", Kind::Step),
-    ("!=", Kind::Equality),
-    ("&&", Kind::And),
-    (">", Kind::Relation),
-    ("||", Kind::Or),
-    ("!", Kind::Complement),
-    ("?", Kind::Question),
-    (":", Kind::Colon),
-    ("<<", Kind::Shift),
-    ("|", Kind::Bar),
-    ("+=", Kind::Assignment),
-    (">=", Kind::Relation),
-    ("<=", Kind::Relation),
-    ("/", Kind::Quotient),
-    ("%", Kind::Quotient),
-    ("--", Kind::Step),
-    (">>", Kind::Shift),
-    ("|=", Kind::Assignment),
-    ("-=", Kind::Assignment),
-    ("~", Kind::Complement),
-    ("^", Kind::Caret),
-    ("...", Kind::Ellipsis),
-    ("&=", Kind::Assignment),
-    ("<<=", Kind::Assignment),
-    ("*=", Kind::Assignment),
-    (">>=", Kind::Assignment),
-    ("/=", Kind::Assignment),
-    ("^=", Kind::Assignment),
-    ("%=", Kind::Assignment),
-    ("<:", Kind::OpenBracket),
-    (":>", Kind::CloseBracket),
-    ("<%", Kind::OpenBrace),
-    ("%>", Kind::CloseBrace),
-];
-
 static WORDS: [(&str, Kind); 45] = [
     ("int", Kind::TypeWord),
     ("return", Kind::Return),
@@ -120,12 +67,77 @@ fn look_up(text: &str, table: &[(&str, Kind)]) -> Option<Kind>
     table.iter().find(|e| e.0 == text).map(|e| e.1)
 }
 
+#[tactic(auto, unfolding(crate::specs::Tokens::mark_of, crate::specs::Tokens::marks))]
+fn short_mark(byte: u8) -> Kind
+    ensures { result ≡ spec.mark_of (byte ∷ []) }
+{
+    match byte {
+        b'(' => Kind::OpenParen,
+        b')' => Kind::CloseParen,
+        b';' => Kind::Semicolon,
+        b',' => Kind::Comma,
+        b'=' => Kind::Equals,
+        b'{' => Kind::OpenBrace,
+        b'}' => Kind::CloseBrace,
+        b'*' => Kind::Star,
+        b'.' => Kind::Dot,
+        b'[' => Kind::OpenBracket,
+        b']' => Kind::CloseBracket,
+        b'&' => Kind::Ampersand,
+        b'+' | b'-' => Kind::Sign,
+        b'<' | b'>' => Kind::Relation,
+        b'!' | b'~' => Kind::Complement,
+        b'?' => Kind::Question,
+        b':' => Kind::Colon,
+        b'|' => Kind::Bar,
+        b'/' | b'%' => Kind::Quotient,
+        b'^' => Kind::Caret,
+        _ => Kind::Other,
+    }
+}
+
+#[tactic(auto, unfolding(crate::specs::Tokens::mark_of, crate::specs::Tokens::marks))]
+fn double_mark(first: u8, second: u8) -> Kind
+    ensures { result ≡ spec.mark_of (first ∷ second ∷ []) }
+{
+    match (first, second) {
+        (b'-', b'>') => Kind::Member,
+        (b'=', b'=') | (b'!', b'=') => Kind::Equality,
+        (b'+', b'+') | (b'-', b'-') => Kind::Step,
+        (b'&', b'&') => Kind::And,
+        (b'|', b'|') => Kind::Or,
+        (b'<', b'<') | (b'>', b'>') => Kind::Shift,
+        (b'<', b'=') | (b'>', b'=') => Kind::Relation,
+        (b'<', b':') => Kind::OpenBracket,
+        (b':', b'>') => Kind::CloseBracket,
+        (b'<', b'%') => Kind::OpenBrace,
+        (b'%', b'>') => Kind::CloseBrace,
+        (b'+' | b'-' | b'*' | b'/' | b'%' | b'&' | b'|' | b'^', b'=') => Kind::Assignment,
+        _ => Kind::Other,
+    }
+}
+
+#[tactic(auto, unfolding(crate::specs::Tokens::mark_of, crate::specs::Tokens::marks))]
+fn triple_mark(first: u8, second: u8, third: u8) -> Kind
+    ensures { result ≡ spec.mark_of (first ∷ second ∷ third ∷ []) }
+{
+    match (first, second, third) {
+        (b'.', b'.', b'.') => Kind::Ellipsis,
+        (b'<', b'<', b'=') | (b'>', b'>', b'=') => Kind::Assignment,
+        _ => Kind::Other,
+    }
+}
+
+// It looks at three bytes at most, and at none of a longer text.
+#[tactic(auto, unfolding(crate::specs::Tokens::mark_of, crate::specs::Tokens::marks))]
 fn mark_of(text: &str) -> Kind
     ensures { result ≡ spec.mark_of text.now }
 {
-    match look_up(text, MARKS.as_slice()) {
-        Some(kind) => kind,
-        None => Kind::Other,
+    match text.as_bytes() {
+        [byte] => short_mark(*byte),
+        [first, second] => double_mark(*first, *second),
+        [first, second, third] => triple_mark(*first, *second, *third),
+        _ => Kind::Other,
     }
 }
 
