@@ -1,4 +1,4 @@
-use Rattle.query_tests.proofs.tests.a_root_stays.Given as goal
+use Rattle.graph_tests.proofs.tests.a_root_stays.Given as goal
 
 abbrev pub ghosts-sweep_between : goal.ghosts-sweep_between
 ghosts-sweep_between g a = record { name = a.blank.name; parts = a.blank.parts }
